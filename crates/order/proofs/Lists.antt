@@ -1,0 +1,323 @@
+-- Small laws of lists: statements and tests of each element, members, permutations, distinct lists, columns, sums.
+use mathlib.Core.Path.{_≡_, refl, sym, ap, _∙_, subst⁻¹}
+use mathlib.Core.Logic.{_⊎_, ⊎-elim, _↔_}
+use mathlib.Core.Bool.{Bool, true, false}
+use mathlib.Core.List.{List, [], _∷_, _++_, map, List·Memᴰ, List·Memᴰ·head, List·Memᴰ·tail, List·Memᴰ·not-nil, List·Memᴰ·cases-cons, List·Memᴰ·append-cases, Memᴰ·append-left, Memᴰ·append-right, Memᴰ·cast}
+use mathlib.Core.List.{List·Permᴰ, List·Permᴰ·nil, List·Permᴰ·cons, List·Permᴰ·swap, List·Permᴰ·trans, Permᴰ·symm}
+use Prim.Native.Nat.{ℕ, zero, suc, _+_, _-_, _≤_, _<_}
+use native.Mathlib.Omega.{arith}
+use lib.ListN.{length, take, drop, getD, length-append, length-drop, take-append-drop, List·getD-append}
+use lib.Seq.{take-append-seam, drop-append-seam, getD-append-add, getD-drop}
+use Rattle.order.specs.Lists.{all, keep, All, Distinct, overwritten, sum}
+use Rattle.order.proofs.Order.{byTest, never-both}
+
+-- ---- a statement of each element
+
+module _ {A : Type 0} (P : A → Type 0) where
+  -- Of each element, so of a member.
+  pub all-mem : {x : A} {l : List A} → All P l → List·Memᴰ x l → P x
+  unfolding All
+  all-mem h (List·Memᴰ·head e) = subst⁻¹ P e (h .0)
+  all-mem h (List·Memᴰ·tail m) = all-mem (h .1) m
+
+  -- Of each member, so of each element.
+  pub mem-all : (l : List A) → ((x : A) → List·Memᴰ x l → P x) → All P l
+  unfolding All
+  mem-all [] h = tt
+  mem-all (a ∷ l) h = (h a (List·Memᴰ·head refl), mem-all l (λ x m. h x (List·Memᴰ·tail m)))
+
+  pub all-nil : All P []
+  unfolding All
+  all-nil = tt
+
+  pub all-cons : (a : A) (l : List A) → P a → All P l → All P (a ∷ l)
+  unfolding All
+  all-cons a l p h = (p, h)
+
+  pub all-head : (a : A) (l : List A) → All P (a ∷ l) → P a
+  unfolding All
+  all-head a l h = h .0
+
+  pub all-tail : (a : A) (l : List A) → All P (a ∷ l) → All P l
+  unfolding All
+  all-tail a l h = h .1
+
+  pub all-append : (l m : List A) → All P l → All P m → All P (l ++ m)
+  unfolding All
+  all-append [] m h g = g
+  all-append (a ∷ l) m h g = (h .0, all-append l m (h .1) g)
+
+  pub all-append-left : (l m : List A) → All P (l ++ m) → All P l
+  unfolding All
+  all-append-left [] m h = tt
+  all-append-left (a ∷ l) m h = (h .0, all-append-left l m (h .1))
+
+  pub all-append-right : (l m : List A) → All P (l ++ m) → All P m
+  unfolding All
+  all-append-right [] m h = h
+  all-append-right (a ∷ l) m h = all-append-right l m (h .1)
+
+  pub all-take : (k : ℕ) (l : List A) → All P l → All P (take k l)
+  all-take k l h = all-append-left (take k l) (drop k l) (rw take-append-drop h)
+
+  pub all-drop : (k : ℕ) (l : List A) → All P l → All P (drop k l)
+  all-drop k l h = all-append-right (take k l) (drop k l) (rw take-append-drop h)
+
+  pub all-at : (l : List A) (i : ℕ) (d : A) → i < length l → All P l → P (getD l i d)
+  unfolding All
+  all-at [] i d lt h = absurd (omega arith)
+  all-at (a ∷ l) zero d lt h = h .0
+  all-at (a ∷ l) (suc i) d lt h = all-at l i d (omega arith) (h .1)
+
+pub all-weaken : {A : Type 0} (P Q : A → Type 0) → ((a : A) → P a → Q a) → (l : List A) → All P l → All Q l
+unfolding All
+all-weaken P Q f [] h = tt
+all-weaken P Q f (a ∷ l) h = (f a (h .0), all-weaken P Q f l (h .1))
+
+pub all-map : {A B : Type 0} (P : B → Type 0) (f : A → B) (l : List A) → All (λ a. P (f a)) l → All P (map f l)
+unfolding All
+all-map P f [] h = tt
+all-map P f (a ∷ l) h = (h .0, all-map P f l (h .1))
+
+pub map-all : {A B : Type 0} (P : B → Type 0) (f : A → B) (l : List A) → All P (map f l) → All (λ a. P (f a)) l
+unfolding All
+map-all P f [] h = tt
+map-all P f (a ∷ l) h = (h .0, map-all P f l (h .1))
+
+-- ---- a test of each element
+
+module _ {A : Type 0} (test : A → Bool) where
+  pub all-holds : (l : List A) → all test l ≡ true → All (λ a. test a ≡ true) l
+  unfolding all All
+  all-holds [] h = tt
+  all-holds (a ∷ l) h =
+      byTest (test a) (λ t. (t, all-holds l (rw t at h))) (λ f. let g : false ≡ true = rw f at h in never-both g refl)
+
+  pub holds-all : (l : List A) → All (λ a. test a ≡ true) l → all test l ≡ true
+  unfolding all All
+  holds-all [] h = refl
+  holds-all (a ∷ l) h = rw (h .0) (holds-all l (h .1))
+
+  pub all-iff : (l : List A) → (all test l ≡ true) ↔ All (λ a. test a ≡ true) l
+  all-iff l = (all-holds l, holds-all l)
+
+  pub keep-yes : (a : A) (l : List A) → test a ≡ true → keep test (a ∷ l) ≡ a ∷ keep test l
+  unfolding keep
+  keep-yes a l p = rw p
+
+  pub keep-no : (a : A) (l : List A) → test a ≡ false → keep test (a ∷ l) ≡ keep test l
+  unfolding keep
+  keep-no a l p = rw p
+
+  pub keep-nil : keep test [] ≡ []
+  unfolding keep
+  keep-nil = refl
+
+  pub keep-append : (l m : List A) → keep test (l ++ m) ≡ keep test l ++ keep test m
+  keep-append [] m = rw keep-nil
+  keep-append (a ∷ l) m =
+      byTest (test a)
+      (λ p. rw (keep-yes a l p, keep-yes a (l ++ m) p) (ap (λ (r : List A). a ∷ r) (keep-append l m)))
+      (λ p. rw (keep-no a l p, keep-no a (l ++ m) p) (keep-append l m))
+
+  -- A kept element is one of the list, of which the test holds.
+  pub keep-mem : {x : A} (l : List A) → List·Memᴰ x (keep test l) → List·Memᴰ x l × (test x ≡ true)
+  keep-mem {x} [] m = absurd (List·Memᴰ·not-nil (rw keep-nil at m))
+  keep-mem {x} (a ∷ l) m =
+      byTest (test a)
+      (λ p.
+      let n : List·Memᴰ x (a ∷ keep test l) = rw (keep-yes a l p) at m in
+      ⊎-elim (λ (e : x ≡ a). (List·Memᴰ·head e, rw e p))
+      (λ (r : List·Memᴰ x (keep test l)). let w = keep-mem l r in (List·Memᴰ·tail (w .0), w .1))
+      (List·Memᴰ·cases-cons n))
+      (λ p.
+      let n : List·Memᴰ x (keep test l) = rw (keep-no a l p) at m in
+      let w = keep-mem l n in
+      (List·Memᴰ·tail (w .0), w .1))
+
+  -- An element of which the test holds is kept.
+  pub mem-keep : {x : A} (l : List A) → List·Memᴰ x l → test x ≡ true → List·Memᴰ x (keep test l)
+  mem-keep [] m h = absurd (List·Memᴰ·not-nil m)
+  mem-keep {x} (a ∷ l) m h =
+      byTest (test a)
+      (λ p. rw (keep-yes a l p)
+      (⊎-elim (λ (e : x ≡ a). List·Memᴰ·head e) (λ (r : List·Memᴰ x l). List·Memᴰ·tail (mem-keep l r h)) (List·Memᴰ·cases-cons m)))
+      (λ p. rw (keep-no a l p)
+      (⊎-elim (λ (e : x ≡ a). never-both h (rw e p)) (λ (r : List·Memᴰ x l). mem-keep l r h) (List·Memᴰ·cases-cons m)))
+
+  pub keep-whole : (l : List A) → All (λ a. test a ≡ true) l → keep test l ≡ l
+  unfolding All
+  keep-whole [] h = keep-nil
+  keep-whole (a ∷ l) h = rw (keep-yes a l (h .0)) (ap (λ (r : List A). a ∷ r) (keep-whole l (h .1)))
+
+  pub keep-none : (l : List A) → All (λ a. test a ≡ false) l → keep test l ≡ []
+  unfolding All
+  keep-none [] h = keep-nil
+  keep-none (a ∷ l) h = rw (keep-no a l (h .0)) (keep-none l (h .1))
+
+  pub all-keep : (P : A → Type 0) (l : List A) → All P l → All P (keep test l)
+  all-keep P l h = mem-all P (keep test l) (λ x m. all-mem P h (keep-mem l m .0))
+
+  pub length-keep : (l : List A) → length (keep test l) ≤ length l
+  length-keep [] = rw keep-nil (omega arith)
+  length-keep (a ∷ l) =
+      byTest (test a)
+      (λ p. rw (keep-yes a l p) (omega (arith, length-keep l)))
+      (λ p. rw (keep-no a l p) (omega (arith, length-keep l)))
+
+pub keep-map : {A B : Type 0} (test : B → Bool) (f : A → B) (l : List A) → keep test (map f l) ≡ map f (keep (λ a. test (f a)) l)
+keep-map test f [] = simp keep-nil
+keep-map {A} {B} test f (a ∷ l) =
+    byTest (test (f a))
+    (λ p. rw (keep-yes test (f a) (map f l) p, keep-yes (λ (x : A). test (f x)) a l p) (ap (λ (r : List B). f a ∷ r) (keep-map test f l)))
+    (λ p. rw (keep-no test (f a) (map f l) p, keep-no (λ (x : A). test (f x)) a l p) (keep-map test f l))
+
+-- ---- permutations
+
+module _ {A : Type 0} where
+  pub perm-mem : {x : A} {l m : List A} → List·Permᴰ l m → List·Memᴰ x l → List·Memᴰ x m
+  perm-mem List·Permᴰ·nil h = h
+  perm-mem {x} (List·Permᴰ·cons {a = a} {l₁ = l} e p) h =
+      ⊎-elim (λ (f : x ≡ a). List·Memᴰ·head (f ∙ e)) (λ (r : List·Memᴰ x l). List·Memᴰ·tail (perm-mem p r)) (List·Memᴰ·cases-cons h)
+  perm-mem {x} (List·Permᴰ·swap {a = a} {b = b} {l = l} e f) h =
+      ⊎-elim (λ (g : x ≡ a). List·Memᴰ·tail (List·Memᴰ·head (g ∙ e)))
+      (λ (r : List·Memᴰ x (b ∷ l)).
+      ⊎-elim (λ (g : x ≡ b). List·Memᴰ·head (g ∙ f)) (λ (q : List·Memᴰ x l). List·Memᴰ·tail (List·Memᴰ·tail q)) (List·Memᴰ·cases-cons r))
+      (List·Memᴰ·cases-cons h)
+  perm-mem (List·Permᴰ·trans p q) h = perm-mem q (perm-mem p h)
+
+  pub perm-all : (P : A → Type 0) {l m : List A} → List·Permᴰ l m → All P l → All P m
+  perm-all P {l} {m} p h = mem-all P m (λ x r. all-mem P h (perm-mem (Permᴰ·symm p) r))
+
+  pub perm-length : {l m : List A} → List·Permᴰ l m → length l ≡ length m
+  perm-length List·Permᴰ·nil = refl
+  perm-length (List·Permᴰ·cons e p) = ap suc (perm-length p)
+  perm-length (List·Permᴰ·swap e f) = refl
+  perm-length (List·Permᴰ·trans p q) = perm-length p ∙ perm-length q
+
+  -- ---- distinct lists
+
+  pub perm-distinct : {l m : List A} → List·Permᴰ l m → Distinct l → Distinct m
+  unfolding Distinct All
+  perm-distinct List·Permᴰ·nil d = d
+  perm-distinct (List·Permᴰ·cons {a = a} {b = b} {l₁ = l} {l₂ = m} e p) d =
+      (perm-all (λ y. b ≡ y → ⊥) p (rw e at (d .0)), perm-distinct p (d .1))
+  perm-distinct (List·Permᴰ·swap {a = a} {b = b} {a′ = c} {b′ = g} {l = l} e f) d =
+      ((λ h. d .0 .0 (e ∙ sym h ∙ sym f), rw f at (d .1 .0)), (rw e at (d .0 .1), d .1 .1))
+  perm-distinct (List·Permᴰ·trans p q) d = perm-distinct q (perm-distinct p d)
+
+  pub distinct-left : (l m : List A) → Distinct (l ++ m) → Distinct l
+  unfolding Distinct
+  distinct-left [] m d = tt
+  distinct-left (a ∷ l) m d = (all-append-left (λ b. a ≡ b → ⊥) l m (d .0), distinct-left l m (d .1))
+
+  pub distinct-right : (l m : List A) → Distinct (l ++ m) → Distinct m
+  unfolding Distinct
+  distinct-right [] m d = d
+  distinct-right (a ∷ l) m d = distinct-right l m (d .1)
+
+  -- Nothing stands in both parts of a distinct list.
+  pub distinct-apart : {x : A} (l m : List A) → Distinct (l ++ m) → List·Memᴰ x l → List·Memᴰ x m → ⊥
+  unfolding Distinct
+  distinct-apart [] m d p q = List·Memᴰ·not-nil p
+  distinct-apart {x} (a ∷ l) m d p q =
+      ⊎-elim (λ (e : x ≡ a). all-mem (λ b. a ≡ b → ⊥) (all-append-right (λ b. a ≡ b → ⊥) l m (d .0)) q (sym e))
+      (λ (r : List·Memᴰ x l). distinct-apart l m (d .1) r q)
+      (List·Memᴰ·cases-cons p)
+
+  pub distinct-append : (l m : List A) → Distinct l → Distinct m → ((x : A) → List·Memᴰ x l → List·Memᴰ x m → ⊥) → Distinct (l ++ m)
+  unfolding Distinct
+  distinct-append [] m d g h = g
+  distinct-append (a ∷ l) m d g h = (
+    all-append (λ b. a ≡ b → ⊥) l m (d .0) (mem-all (λ b. a ≡ b → ⊥) m (λ x r e. h a (List·Memᴰ·head refl) (Memᴰ·cast e r))),
+    distinct-append l m (d .1) g (λ x r. h x (List·Memᴰ·tail r)),
+  )
+
+  pub distinct-take : (k : ℕ) (l : List A) → Distinct l → Distinct (take k l)
+  distinct-take k l d = distinct-left (take k l) (drop k l) (rw take-append-drop d)
+
+  pub distinct-drop : (k : ℕ) (l : List A) → Distinct l → Distinct (drop k l)
+  distinct-drop k l d = distinct-right (take k l) (drop k l) (rw take-append-drop d)
+
+  pub distinct-keep : (test : A → Bool) (l : List A) → Distinct l → Distinct (keep test l)
+  unfolding Distinct
+  distinct-keep test [] d = rw (keep-nil test) tt
+  distinct-keep test (a ∷ l) d =
+      byTest (test a)
+      (λ p. rw (keep-yes test a l p) (all-keep test (λ b. a ≡ b → ⊥) l (d .0), distinct-keep test l (d .1)))
+      (λ p. rw (keep-no test a l p) (distinct-keep test l (d .1)))
+
+  -- ---- parts
+
+  pub mem-take : {x : A} (k : ℕ) (l : List A) → List·Memᴰ x (take k l) → List·Memᴰ x l
+  mem-take {x} k l m = rw take-append-drop at (Memᴰ·append-left (drop k l) m)
+
+  pub mem-drop : {x : A} (k : ℕ) (l : List A) → List·Memᴰ x (drop k l) → List·Memᴰ x l
+  mem-drop {x} k l m = rw take-append-drop at (Memᴰ·append-right (take k l) m)
+
+  -- A member is among the first `k` or past them.
+  pub mem-parts : {x : A} (k : ℕ) (l : List A) → List·Memᴰ x l → List·Memᴰ x (take k l) ⊎ List·Memᴰ x (drop k l)
+  mem-parts {x} k l m = List·Memᴰ·append-cases (take k l) (rw take-append-drop m)
+
+  -- A list with a member is not empty.
+  pub mem-length : {x : A} {l : List A} → List·Memᴰ x l → 0 < length l
+  mem-length (List·Memᴰ·head e) = omega arith
+  mem-length (List·Memᴰ·tail m) = omega arith
+
+  pub mem-at : (l : List A) (i : ℕ) (d : A) → i < length l → List·Memᴰ (getD l i d) l
+  mem-at [] i d lt = absurd (omega arith)
+  mem-at (a ∷ l) zero d lt = List·Memᴰ·head refl
+  mem-at (a ∷ l) (suc i) d lt = List·Memᴰ·tail (mem-at l i d (omega arith))
+
+  -- ---- a column that holds some values from its start on
+
+  pub length-overwritten : (values column : List A) → length values ≤ length column → length (overwritten values column) ≡ length column
+  unfolding overwritten
+  length-overwritten v c h = rw (length-append, length-drop) (omega arith)
+
+  pub take-overwritten : (values column : List A) → take (length values) (overwritten values column) ≡ values
+  unfolding overwritten
+  take-overwritten v c = take-append-seam v (drop (length v) c)
+
+  pub drop-overwritten : (values column : List A) → drop (length values) (overwritten values column) ≡ drop (length values) column
+  unfolding overwritten
+  drop-overwritten v c = drop-append-seam v (drop (length v) c)
+
+  pub getD-overwritten : (values column : List A) (i : ℕ) (d : A) → i < length values → getD (overwritten values column) i d ≡ getD values i d
+  unfolding overwritten
+  getD-overwritten v c i d h = List·getD-append v (drop (length v) c) d i h
+
+  pub getD-overwritten-past : (values column : List A) (i : ℕ) (d : A) → length values ≤ i → getD (overwritten values column) i d ≡ getD column i d
+  unfolding overwritten
+  getD-overwritten-past v c i d h =
+      let e : length v + (i - length v) ≡ i = omega arith in
+      rw e at (getD-append-add v (drop (length v) c) (i - length v) d ∙ getD-drop (length v) c (i - length v) d)
+
+pub perm-map : {A B : Type 0} (f : A → B) {l m : List A} → List·Permᴰ l m → List·Permᴰ (map f l) (map f m)
+perm-map f List·Permᴰ·nil = List·Permᴰ·nil
+perm-map f (List·Permᴰ·cons e p) = List·Permᴰ·cons (ap f e) (perm-map f p)
+perm-map f (List·Permᴰ·swap e g) = List·Permᴰ·swap (ap f e) (ap f g)
+perm-map f (List·Permᴰ·trans p q) = List·Permᴰ·trans (perm-map f p) (perm-map f q)
+
+-- What is distinct stays so under a map that keeps apart.
+pub distinct-map : {A B : Type 0} (f : A → B) → ((a b : A) → f a ≡ f b → a ≡ b) → (l : List A) → Distinct l → Distinct (map f l)
+unfolding Distinct
+distinct-map f inj [] d = tt
+distinct-map f inj (a ∷ l) d = (
+  all-map (λ b. f a ≡ b → ⊥) f l (all-weaken (λ b. a ≡ b → ⊥) (λ b. f a ≡ f b → ⊥) (λ b n e. n (inj a b e)) l (d .0)),
+  distinct-map f inj l (d .1),
+)
+
+-- ---- sums
+
+pub sum-append : (l m : List ℕ) → sum (l ++ m) ≡ sum l + sum m
+unfolding sum
+sum-append [] m = omega arith
+sum-append (a ∷ l) m = omega (arith, sum-append l m)
+
+pub sum-perm : {l m : List ℕ} → List·Permᴰ l m → sum l ≡ sum m
+unfolding sum
+sum-perm List·Permᴰ·nil = refl
+sum-perm (List·Permᴰ·cons e p) = omega (arith, sum-perm p)
+sum-perm (List·Permᴰ·swap e f) = omega arith
+sum-perm (List·Permᴰ·trans p q) = sum-perm p ∙ sum-perm q

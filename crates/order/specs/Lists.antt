@@ -1,0 +1,34 @@
+-- Small definitions on lists, for any element.
+use mathlib.Core.Path.{_≡_}
+use mathlib.Core.Bool.{Bool, true, false, cond, _&&_}
+use mathlib.Core.List.{List, [], _∷_, _++_}
+use Prim.Native.Nat.{ℕ, _+_}
+use lib.ListN.{length, drop}
+
+-- The test holds of each element.
+unfoldable pub all : {A : Type 0} → (A → Bool) → List A → Bool
+all test [] = true
+all test (a ∷ l) = test a && all test l
+
+-- The elements of which the test holds, in their order.
+unfoldable pub keep : {A : Type 0} → (A → Bool) → List A → List A
+keep test [] = []
+keep test (a ∷ l) = cond (test a) (a ∷ keep test l) (keep test l)
+
+-- The statement holds of each element.
+unfoldable pub All : {A : Type 0} → (A → Type 0) → List A → Type 0
+All P [] = Unit {0}
+All P (a ∷ l) = P a × All P l
+
+-- No element stands twice.
+unfoldable pub Distinct : {A : Type 0} → List A → Type 0
+Distinct [] = Unit {0}
+Distinct (a ∷ l) = All (λ b. a ≡ b → ⊥) l × Distinct l
+
+-- A lent column that holds `values` from its start on; what stands past them is as before.
+unfoldable pub overwritten : {A : Type 0} → List A → List A → List A
+overwritten values column = values ++ drop (length values) column
+
+unfoldable pub sum : List ℕ → ℕ
+sum [] = 0
+sum (n ∷ l) = n + sum l
