@@ -1,0 +1,38 @@
+-- The sites of three columns of one length.
+use mathlib.Core.Path.{_≡_, refl, sym, ap, _∙_}
+use mathlib.Core.List.{List, [], _∷_}
+use Prim.Native.Nat.{ℕ, zero, suc, _≤_, _<_}
+use native.Mathlib.Nat.{le-of-suc-le-suc, not-suc-le-zero}
+use native.Mathlib.Omega.{arith}
+use lib.IntN.{ℤ, pos}
+use lib.ListN.{length, getD}
+use Rattle.site.specs.declared.Site.{Site}
+use Rattle.site.specs.SiteList.{Columns, Level, site, zipSites, sites, siteAt}
+
+zip-length : (xs ys : List ℤ) (ns : List ℕ) → length ys ≡ length xs → length ns ≡ length xs → length (zipSites xs ys ns) ≡ length xs
+unfolding zipSites
+zip-length [] ys ns p q = refl
+zip-length (x ∷ xs) [] ns p q = absurd (omega arith)
+zip-length (x ∷ xs) (y ∷ ys) [] p q = absurd (omega arith)
+zip-length (x ∷ xs) (y ∷ ys) (n ∷ ns) p q = ap suc (zip-length xs ys ns (omega arith) (omega arith))
+
+zip-at : (xs ys : List ℤ) (ns : List ℕ) (i : ℕ) (d : Site) → length ys ≡ length xs → length ns ≡ length xs → i < length xs → getD (zipSites xs ys ns) i d ≡ site (getD xs i (pos 0)) (getD ys i (pos 0)) (getD ns i 0)
+unfolding zipSites
+zip-at [] ys ns i d p q h = absurd (not-suc-le-zero h)
+zip-at (x ∷ xs) [] ns i d p q h = absurd (omega arith)
+zip-at (x ∷ xs) (y ∷ ys) [] i d p q h = absurd (omega arith)
+zip-at (x ∷ xs) (y ∷ ys) (n ∷ ns) zero d p q h = refl
+zip-at (x ∷ xs) (y ∷ ys) (n ∷ ns) (suc i) d p q h = zip-at xs ys ns i d (omega arith) (omega arith) (le-of-suc-le-suc h)
+
+-- The site that stands where none is read.
+pub nowhere : Site
+nowhere = site (pos 0) (pos 0) 0
+
+module _ (c : Columns) (level : Level c) where
+  pub sites-length : length (sites c) ≡ length (c .x)
+  unfolding sites
+  sites-length = zip-length (c .x) (c .y) (c .number) (level .y) (level .number)
+
+  pub sites-at : (i : ℕ) (d : Site) → i < length (c .x) → getD (sites c) i d ≡ siteAt c i
+  unfolding sites
+  sites-at i d h = zip-at (c .x) (c .y) (c .number) i d (level .y) (level .number) h

@@ -1,0 +1,47 @@
+-- The place of a site, and whether it is there, for loops that count.
+use mathlib.Core.Path.{_≡_, refl, sym, ap, _∙_}
+use mathlib.Core.Bool.{Bool, true, false, not, cond, _||_}
+use mathlib.Core.List.{List, [], _∷_}
+use Prim.Native.Nat.{ℕ, zero, suc, _+_, _≤_, _<_}
+use native.Mathlib.Nat.{zero-add}
+use native.Mathlib.Numerals.{add-one}
+use native.Mathlib.Omega.{arith}
+use lib.Dec.{eqb}
+use lib.ListN.{length, drop, getD, drop-of-length-le}
+use lib.Seq.{drop-cons}
+use Rattle.order.specs.Lists.{all, keep}
+use Rattle.site.specs.declared.Site.{Site}
+use Rattle.site.specs.Site.{siteBefore}
+use Rattle.site.specs.Add.{placeOf, present}
+use Rattle.order.proofs.Order.{byTest}
+use Rattle.site.proofs.Misses.{misses, all-misses}
+
+pub kept-le : {n : ℕ} (b : Bool) → n ≡ cond b 1 0 → n ≤ 1
+kept-le true e = omega arith
+kept-le false e = omega arith
+
+module _ (s : Site) where
+  -- The place by the first site.
+  pub place-cons : (t : Site) (l : List Site) → placeOf s (t ∷ l) ≡ cond (siteBefore t s) 1 0 + placeOf s l
+  unfolding placeOf keep
+  place-cons t l = byTest (siteBefore t s) (λ h. rw h (omega arith)) (λ h. rw h (omega arith))
+
+  pub place-step : (l : List Site) (i : ℕ) (d : Site) → i < length l → placeOf s (drop i l) ≡ cond (siteBefore (getD l i d) s) 1 0 + placeOf s (drop (i + 1) l)
+  place-step l i d h = rw (add-one, drop-cons l i d) (place-cons (getD l i d) (drop (suc i) l))
+
+  pub place-end : (l : List Site) (i : ℕ) → length l ≤ i → placeOf s (drop i l) ≡ 0
+  unfolding placeOf keep
+  place-end l i h = rw (drop-of-length-le l h)
+
+  pub place-le : (l : List Site) → placeOf s l ≤ length l
+  unfolding placeOf keep
+  place-le [] = omega arith
+  place-le (t ∷ l) = byTest (siteBefore t s) (λ h. rw h (omega (arith, place-le l))) (λ h. rw h (omega (arith, place-le l)))
+
+-- The site comes neither before nor after.
+unfoldable pub apart : Site → Site → Bool
+apart s t = siteBefore t s || siteBefore s t
+
+pub present-misses : (s : Site) (l : List Site) → present s l ≡ not (eqb (misses (apart s) l) 0)
+unfolding present apart
+present-misses s l = ap not (all-misses (apart s) l)

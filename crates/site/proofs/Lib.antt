@@ -1,0 +1,19 @@
+-- The laws of sites and site lists.
+pub mod Cases
+pub mod Integers
+pub mod Distance
+pub mod Machine
+pub mod Limits
+pub mod Examples
+pub mod Misses
+pub mod Place
+pub mod Breaks
+pub mod Columns
+pub mod Answers
+pub mod Lawful
+pub mod Shift
+pub mod Kept
+pub mod Adding
+pub mod SiteOrder
+pub mod Accepted
+pub mod Grown

@@ -1,0 +1,30 @@
+-- The order of sites, by its steps.
+use mathlib.Core.Path.{_≡_, refl, sym, ap, _∙_}
+use mathlib.Core.Bool.{Bool, true, false, cond}
+use Prim.Native.Nat.{ℕ}
+use lib.Dec.{ltb}
+use lib.Signed.{ltZ}
+use Rattle.order.specs.Order.{lex}
+use Rattle.site.specs.declared.Site.{Site}
+use Rattle.site.specs.Site.{siteBefore}
+
+module _ (s t : Site) where
+  pub before-is : siteBefore s t ≡ cond (ltZ (s .x) (t .x)) true (cond (ltZ (t .x) (s .x)) false (cond (ltZ (s .y) (t .y)) true (cond (ltZ (t .y) (s .y)) false (ltb (s .number) (t .number)))))
+  unfolding siteBefore lex
+  before-is = refl
+
+  -- What each step of the comparison answers.
+  pub first-below : ltZ (s .x) (t .x) ≡ true → true ≡ siteBefore s t
+  first-below p = simp (before-is, p)
+
+  pub first-above : ltZ (s .x) (t .x) ≡ false → ltZ (t .x) (s .x) ≡ true → false ≡ siteBefore s t
+  first-above p q = simp (before-is, p, q)
+
+  pub second-below : ltZ (s .x) (t .x) ≡ false → ltZ (t .x) (s .x) ≡ false → ltZ (s .y) (t .y) ≡ true → true ≡ siteBefore s t
+  second-below p q r = simp (before-is, p, q, r)
+
+  pub second-above : ltZ (s .x) (t .x) ≡ false → ltZ (t .x) (s .x) ≡ false → ltZ (s .y) (t .y) ≡ false → ltZ (t .y) (s .y) ≡ true → false ≡ siteBefore s t
+  second-above p q r u = simp (before-is, p, q, r, u)
+
+  pub number-decides : ltZ (s .x) (t .x) ≡ false → ltZ (t .x) (s .x) ≡ false → ltZ (s .y) (t .y) ≡ false → ltZ (t .y) (s .y) ≡ false → ltb (s .number) (t .number) ≡ siteBefore s t
+  number-decides p q r u = simp (before-is, p, q, r, u)

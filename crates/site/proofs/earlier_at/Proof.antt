@@ -1,0 +1,67 @@
+-- `site::earlier_at` meets its contract.
+use mathlib.Core.Path.{_≡_, sym, ap, _∙_}
+use mathlib.Core.Bool.{Bool, cond}
+use Prim.Native.Nat.{ℕ}
+use borrow.Author.Needs.{needs, sfits-of}
+use lib.IntN.{ℤ}
+use lib.ListN.{getD}
+use mir.Facts.{toZ-ofZ}
+use Rattle.site.specs.Site.{siteBefore}
+use Rattle.site.specs.SiteList.{Columns, columns, site, siteAt}
+use Rattle.site.proofs.Machine.{at₄}
+use Rattle.site.proofs.earlier_at.Statement.{statement}
+use Rattle.site.proofs.earlier_at.Tie as tie
+
+mul-before : tie.Need-mul-before
+mul-before c = search needs
+
+shared-slice-copy-out-before : tie.Need-shared-slice-copy-out-before
+shared-slice-copy-out-before c = search needs
+
+mul-before-2 : tie.Need-mul-before-2
+mul-before-2 c = search needs
+
+shared-slice-copy-out-before-2 : tie.Need-shared-slice-copy-out-before-2
+shared-slice-copy-out-before-2 c = search needs
+
+mul-before-3 : tie.Need-mul-before-3
+mul-before-3 c = search needs
+
+shared-slice-read-before : tie.Need-shared-slice-read-before
+shared-slice-read-before c = search needs
+
+before-requires : tie.Need-before-requires
+before-requires c κs = search needs
+
+abbrev entry : tie.After-before2 → tie.Start
+entry c = c .before .before .before .before .before
+
+learnt : (c : tie.After-before2) → c .before2 .result ≡ siteBefore (siteAt (columns (entry c .args .x .now) (entry c .args .y .now) (entry c .args .number .now)) (entry c .args .i)) (site (entry c .args .sx) (entry c .args .sy) (entry c .args .sn))
+learnt c =
+    let a = entry c .args in
+    at₄ (λ (x y sx sy : ℤ). siteBefore (site x y (getD (a .number .now) (a .i) 0)) (site sx sy (a .sn)))
+    (toZ-ofZ (sfits-of (c .before .before .before .before-arg .given)))
+    (toZ-ofZ (sfits-of (c .before .before .before-arg2 .given)))
+    (toZ-ofZ (entry c .fits .sx))
+    (toZ-ofZ (entry c .fits .sy))
+    (c .before2 .ensures)
+
+returns : tie.Need-returns
+returns c = ap (λ (t : Bool). cond {A = ℕ} t 1 0) (sym (c .if1 .taken) ∙ learnt (c .before))
+
+returns-2 : tie.Need-returns-2
+returns-2 c = ap (λ (t : Bool). cond {A = ℕ} t 1 0) (sym (c .if1 .left) ∙ learnt (c .before))
+
+pub earlier-at-spec : {M : Type 1} → statement M
+earlier-at-spec =
+    tie.close
+    (tie.spec
+    mul-before
+    shared-slice-copy-out-before
+    mul-before-2
+    shared-slice-copy-out-before-2
+    mul-before-3
+    shared-slice-read-before
+    before-requires
+    returns
+    returns-2)

@@ -1,0 +1,60 @@
+-- `site::insert_site` meets its contract.
+use mathlib.Core.Path.{_≡_, ap, _∙_}
+use borrow.Author.Needs.{needs, sfits-of}
+use lib.IntN.{ℤ}
+use mir.Syntax.{w32}
+use mir.Val.{SFits}
+use mir.Facts.{toZ-ofZ}
+use Rattle.site.specs.SiteList.{columns}
+use Rattle.site.specs.Add.{inserted}
+use Rattle.site.proofs.Machine.{at₁}
+use Rattle.site.proofs.insert_site.Statement.{statement}
+use Rattle.site.proofs.insert_site.Tie as tie
+
+insert-coordinate-requires : tie.Need-insert-coordinate-requires
+insert-coordinate-requires c κs = search needs
+
+insert-coordinate-requires-2 : tie.Need-insert-coordinate-requires-2
+insert-coordinate-requires-2 c κs = search needs
+
+insert-number-requires : tie.Need-insert-number-requires
+insert-number-requires c κs = search needs
+
+same-length : tie.Need-same-length
+same-length c = search needs
+
+same-length-2 : tie.Need-same-length-2
+same-length-2 c = search needs
+
+same-length-3 : tie.Need-same-length-3
+same-length-3 c = search needs
+
+abbrev start : tie.After-struct-told → tie.Start
+start c = c .before .before .before
+
+fits-x : (c : tie.After-struct-told) → SFits w32 (start c .args .s .x)
+fits-x c = sfits-of (search needs)
+
+fits-y : (c : tie.After-struct-told2) → SFits w32 (start (c .before .before .before .before) .args .s .y)
+fits-y c = sfits-of (search needs)
+
+returns : tie.Need-returns
+returns c =
+    let second = c .before .before .before .before .before in
+    let first = second .before .before .before .before in
+    let a = start (first .before) .args in
+    let p = at₁ (λ (z : ℤ). inserted (a .place) (a .n) z (a .x .now)) (toZ-ofZ (fits-x (first .before))) (first .insert-coordinate .ensures) in
+    let q = at₁ (λ (z : ℤ). inserted (a .place) (a .n) z (a .y .now)) (toZ-ofZ (fits-y (second .before))) (second .insert-coordinate2 .ensures) in
+    λ i. columns (p i) (q i) (c .before .before .insert-number .ensures i)
+
+pub insert-site-spec : {M : Type 1} → statement M
+insert-site-spec =
+    tie.close
+    (tie.spec
+    insert-coordinate-requires
+    insert-coordinate-requires-2
+    insert-number-requires
+    same-length
+    same-length-2
+    same-length-3
+    returns)

@@ -1,0 +1,57 @@
+-- `site::same_at` meets its contract.
+use mathlib.Core.Bool.{cond, _||_}
+use Prim.Native.Nat.{ℕ}
+use borrow.Author.Needs.{needs, sfits-of}
+use lib.IntN.{ℤ}
+use lib.ListN.{getD}
+use mir.Facts.{toZ-ofZ}
+use Rattle.site.specs.Site.{siteBefore}
+use Rattle.site.specs.SiteList.{site}
+use Rattle.site.proofs.Machine.{at₄}
+use Rattle.site.proofs.same_at.Statement.{statement}
+use Rattle.site.proofs.same_at.Tie as tie
+
+mul-same : tie.Need-mul-same
+mul-same c = search needs
+
+shared-slice-copy-out-same : tie.Need-shared-slice-copy-out-same
+shared-slice-copy-out-same c = search needs
+
+mul-same-2 : tie.Need-mul-same-2
+mul-same-2 c = search needs
+
+shared-slice-copy-out-same-2 : tie.Need-shared-slice-copy-out-same-2
+shared-slice-copy-out-same-2 c = search needs
+
+mul-same-3 : tie.Need-mul-same-3
+mul-same-3 c = search needs
+
+shared-slice-read-same : tie.Need-shared-slice-read-same
+shared-slice-read-same c = search needs
+
+same-requires : tie.Need-same-requires
+same-requires c κs = search needs
+
+returns : tie.Need-returns
+returns c =
+    let e = c .before .before .before .before .before in
+    let n = getD (e .args .number .now) (e .args .i) 0 in
+    at₄ (λ (x y sx sy : ℤ). cond {A = ℕ} (siteBefore (site x y n) (site sx sy (e .args .sn)) || siteBefore (site sx sy (e .args .sn)) (site x y n)) 0 1)
+    (toZ-ofZ (sfits-of (c .before .before .before .same-arg .given)))
+    (toZ-ofZ (sfits-of (c .before .before .same-arg2 .given)))
+    (toZ-ofZ (e .fits .sx))
+    (toZ-ofZ (e .fits .sy))
+    (c .same .ensures)
+
+pub same-at-spec : {M : Type 1} → statement M
+same-at-spec =
+    tie.close
+    (tie.spec
+    mul-same
+    shared-slice-copy-out-same
+    mul-same-2
+    shared-slice-copy-out-same-2
+    mul-same-3
+    shared-slice-read-same
+    same-requires
+    returns)

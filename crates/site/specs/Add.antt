@@ -1,0 +1,59 @@
+-- Adding a site to the sites in use.
+use mathlib.Core.Bool.{Bool, not, _||_}
+use mathlib.Core.List.{List, _∷_, _++_}
+use Prim.Native.Nat.{ℕ, _+_, _-_}
+use lib.Dec.{leb, ltb}
+use lib.ListN.{length, take, drop}
+use Rattle.order.specs.Lists.{all, keep}
+use Rattle.site.specs.declared.Site.{Site}
+use Rattle.site.specs.declared.Added.{Added}
+use Rattle.site.specs.declared.Added.the-variants.{At, Refused}
+use Rattle.site.specs.Told.{Told, refused, answered, tell, unlessRefused, refuseIf, orElse}
+use Rattle.site.specs.Site.{lawfulSite, siteBefore}
+use Rattle.site.specs.SiteList.{Columns, columns, sites, inUse}
+use Rattle.site.specs.Refusal.{equalLengths, contentRefusal}
+
+-- "1: columns unequal, more than 65,535 sites, or (adding) a count of sites in use above the columns' length."
+unfoldable pub useFault : Columns → ℕ → Bool
+useFault c count = not (equalLengths c) || (ltb 65_535 count || ltb (length (c .x)) count)
+
+-- The place of a site in a list: how many of its sites come before it.
+unfoldable pub placeOf : Site → List Site → ℕ
+placeOf s l = length (keep (λ t. siteBefore t s) l)
+
+-- "11: the same x, y and number is already in the list": some site of it comes neither before nor after.
+unfoldable pub present : Site → List Site → Bool
+present s l = not (all (λ t. siteBefore t s || siteBefore s t) l)
+
+-- "6: adding when the columns are full or 65,535 sites are in use."
+unfoldable pub noRoom : Columns → ℕ → Bool
+noRoom c count = leb (length (c .x)) count || leb 65_535 count
+
+-- 1, 2, 3 for the sites in use, then 2 for the site, then 6, then 11.
+unfoldable pub addRefusal : Columns → ℕ → Site → ℕ
+addRefusal c count s =
+    orElse (refuseIf (useFault c count) 1)
+    (orElse (contentRefusal (sites (inUse count c)))
+    (orElse (refuseIf (not (lawfulSite s)) 2)
+    (orElse (refuseIf (noRoom c count) 6) (refuseIf (present s (sites (inUse count c))) 11))))
+
+-- A column with `v` at place `p` and the rest of the first `n` moved up by one; what stands further on is as before.
+unfoldable pub inserted : {A : Type 0} → ℕ → ℕ → A → List A → List A
+inserted p n v column = take p column ++ v ∷ take (n - p) (drop p column) ++ drop (n + 1) column
+
+-- "Adding puts the site at its place and moves later ones up by one."
+unfoldable pub addedColumns : Columns → ℕ → Site → Columns
+addedColumns c count s =
+    let p = placeOf s (sites (inUse count c)) in
+    unlessRefused (addRefusal c count s) c
+    (columns (inserted p count (s .x) (c .x)) (inserted p count (s .y) (c .y)) (inserted p count (s .number) (c .number)))
+
+-- "adding, the site's place and the new count in use", or the refusal.
+unfoldable pub addTold : Columns → ℕ → Site → Told (record { place : ℕ; count : ℕ })
+addTold c count s =
+    tell (addRefusal c count s) (record { place = placeOf s (sites (inUse count c)); count = count + 1 })
+
+-- The paper's number and values for each case of the answer.
+unfoldable pub addedTold : Added → Told (record { place : ℕ; count : ℕ })
+addedTold (At place count) = answered (record { place = place; count = count })
+addedTold (Refused number) = refused number

@@ -1,0 +1,27 @@
+-- What a call tells its caller. A refusal is its number in document 01; 0 is none.
+use mathlib.Core.Bool.{Bool, cond}
+use Prim.Native.Nat.{ℕ, zero, suc}
+
+-- "A refusal answers its number alone"; a success answers its values.
+pub data Told (A : Type 0) : Type 0 where
+  refused : ℕ → Told A
+  answered : A → Told A
+
+-- The answer under a refusal number: the values where it is 0.
+unfoldable pub tell : {A : Type 0} → ℕ → A → Told A
+tell zero values = answered values
+tell (suc n) values = refused (suc n)
+
+-- What a lent place holds afterwards: "every lent buffer and the campaign being as before" a refusal.
+unfoldable pub unlessRefused : {A : Type 0} → ℕ → A → A → A
+unlessRefused zero before after = after
+unlessRefused (suc n) before after = before
+
+-- The number where the fault is there, else none.
+abbrev pub refuseIf : Bool → ℕ → ℕ
+refuseIf fault number = cond fault number 0
+
+-- The first refusal of two in their order.
+unfoldable pub orElse : ℕ → ℕ → ℕ
+orElse zero next = next
+orElse (suc n) next = suc n
