@@ -1,0 +1,166 @@
+-- Laws of the three result columns and the entries that they hold.
+use mathlib.Core.Path.{_≡_, refl, sym, ap, _∙_}
+use mathlib.Core.Bool.{Bool, true, false, _&&_, and-eq-true-iff}
+use mathlib.Core.List.{List, [], _∷_, _++_, map}
+use Prim.Native.Nat.{ℕ, zero, suc, _+_, _-_, _≤_, _<_}
+use native.Mathlib.Omega.{arith}
+use lib.Dec.{leb}
+use lib.ListN.{length, take, drop, getD, length-append, length-take, length-drop, length-map, take-append-drop}
+use lib.Seq.{take-append-seam, length-take-le, getD-take, drop-append-add, drop-drop}
+use borrow.Author.Tests.{leb-true, le-leb}
+use Rattle.order.specs.Lists.{overwritten}
+use Rattle.order.proofs.Lists.{length-overwritten}
+use Rattle.entry.specs.declared.Entry.{Entry}
+use Rattle.entry.specs.Entry.{entry, lastDistance}
+use Rattle.entry.specs.Results.{Results, results, zipEntries, entriesOf, holding, roomFor}
+use Rattle.entry.proofs.Rank.{last-distance}
+
+-- ---- one column, any element
+
+module _ {A : Type 0} where
+  -- Written again, at least as far.
+  pub overwritten-again : (v w c : List A) → length v ≤ length w → overwritten w (overwritten v c) ≡ overwritten w c
+  unfolding overwritten
+  overwritten-again v w c h =
+      let split : length w ≡ length v + (length w - length v) = omega arith in
+      ap (λ (r : List A). w ++ r)
+      (ap (λ (n : ℕ). drop n (v ++ drop (length v) c)) split
+      ∙ drop-append-add v (drop (length v) c) (length w - length v)
+      ∙ drop-drop (length w - length v) (length v) c
+      ∙ ap (λ (n : ℕ). drop n c) (sym split))
+
+  -- Its own first elements written: nothing changes.
+  pub overwritten-self : (n : ℕ) (c : List A) → n ≤ length c → overwritten (take n c) c ≡ c
+  unfolding overwritten
+  overwritten-self n c h = rw (length-take-le n c h) (take-append-drop n c)
+
+-- ---- room
+
+module _ (k : ℕ) (r : Results) where
+  pub room-lengths : roomFor k r ≡ true → (k ≤ length (r .distance)) × (k ≤ length (r .first)) × (k ≤ length (r .second))
+  unfolding roomFor
+  room-lengths h =
+      let p = and-eq-true-iff (leb k (length (r .distance))) (leb k (length (r .first)) && leb k (length (r .second))) .0 h in
+      let q = and-eq-true-iff (leb k (length (r .first))) (leb k (length (r .second))) .0 (p .1) in
+      (leb-true k (length (r .distance)) (p .0), leb-true k (length (r .first)) (q .0), leb-true k (length (r .second)) (q .1))
+
+  pub lengths-room : k ≤ length (r .distance) → k ≤ length (r .first) → k ≤ length (r .second) → roomFor k r ≡ true
+  unfolding roomFor
+  lengths-room d f s =
+      simp (le-leb k (length (r .distance)) d, le-leb k (length (r .first)) f, le-leb k (length (r .second)) s)
+
+-- ---- entries of columns
+
+zip-append : (l : List Entry) (ds is js : List ℕ)
+    → zipEntries (map (λ e. e .distance) l ++ ds) (map (λ e. e .first) l ++ is) (map (λ e. e .second) l ++ js) ≡ l ++ zipEntries ds is js
+unfolding zipEntries
+zip-append [] ds is js = refl
+zip-append (e ∷ l) ds is js = ap (λ (r : List Entry). e ∷ r) (zip-append l ds is js)
+
+-- The columns hold what was written.
+pub entries-holding : (l : List Entry) (r : Results) → entriesOf (length l) (holding l r) ≡ l
+unfolding entriesOf holding overwritten
+entries-holding l r =
+    rw (zip-append l (drop (length (map (λ e. e .distance) l)) (r .distance)) (drop (length (map (λ e. e .first) l)) (r .first)) (drop (length (map (λ e. e .second) l)) (r .second)))
+    (take-append-seam l _)
+
+length-zip : (n : ℕ) (ds is js : List ℕ) → n ≤ length ds → n ≤ length is → n ≤ length js → length (take n (zipEntries ds is js)) ≡ n
+unfolding zipEntries
+length-zip zero ds is js p q t = refl
+length-zip (suc n) [] is js p q t = absurd (omega arith)
+length-zip (suc n) (d ∷ ds) [] js p q t = absurd (omega arith)
+length-zip (suc n) (d ∷ ds) (i ∷ is) [] p q t = absurd (omega arith)
+length-zip (suc n) (d ∷ ds) (i ∷ is) (j ∷ js) p q t = ap suc (length-zip n ds is js (omega arith) (omega arith) (omega arith))
+
+-- The entries' numbers stand in the columns.
+zip-columns : (n : ℕ) (ds is js : List ℕ) → n ≤ length ds → n ≤ length is → n ≤ length js
+    → (map (λ e. e .distance) (take n (zipEntries ds is js)) ≡ take n ds)
+    × (map (λ e. e .first) (take n (zipEntries ds is js)) ≡ take n is)
+    × (map (λ e. e .second) (take n (zipEntries ds is js)) ≡ take n js)
+unfolding zipEntries
+zip-columns zero ds is js p q t = (refl, refl, refl)
+zip-columns (suc n) [] is js p q t = absurd (omega arith)
+zip-columns (suc n) (d ∷ ds) [] js p q t = absurd (omega arith)
+zip-columns (suc n) (d ∷ ds) (i ∷ is) [] p q t = absurd (omega arith)
+zip-columns (suc n) (d ∷ ds) (i ∷ is) (j ∷ js) p q t =
+    let h = zip-columns n ds is js (omega arith) (omega arith) (omega arith) in
+    (ap (λ (r : List ℕ). d ∷ r) (h .0), ap (λ (r : List ℕ). i ∷ r) (h .1), ap (λ (r : List ℕ). j ∷ r) (h .2))
+
+zip-at : (i : ℕ) (ds is js : List ℕ) (e : Entry) → i < length ds → i < length is → i < length js
+    → getD (zipEntries ds is js) i e ≡ entry (getD ds i 0) (getD is i 0) (getD js i 0)
+unfolding zipEntries
+zip-at i [] is js e p q t = absurd (omega arith)
+zip-at i (d ∷ ds) [] js e p q t = absurd (omega arith)
+zip-at i (d ∷ ds) (f ∷ is) [] e p q t = absurd (omega arith)
+zip-at zero (d ∷ ds) (f ∷ is) (s ∷ js) e p q t = refl
+zip-at (suc i) (d ∷ ds) (f ∷ is) (s ∷ js) e p q t = zip-at i ds is js e (omega arith) (omega arith) (omega arith)
+
+-- `count` entries within the room of the columns.
+module _ (k count : ℕ) (r : Results) (room : roomFor k r ≡ true) (most : count ≤ k) where
+  pub length-entries : length (entriesOf count r) ≡ count
+  unfolding entriesOf
+  length-entries =
+      let h = room-lengths k r room in
+      length-zip count (r .distance) (r .first) (r .second) (omega arith) (omega arith) (omega arith)
+
+  -- Each column begins with its numbers of the entries.
+  pub entries-columns : (map (λ e. e .distance) (entriesOf count r) ≡ take count (r .distance))
+      × (map (λ e. e .first) (entriesOf count r) ≡ take count (r .first))
+      × (map (λ e. e .second) (entriesOf count r) ≡ take count (r .second))
+  unfolding entriesOf
+  entries-columns =
+      let h = room-lengths k r room in
+      zip-columns count (r .distance) (r .first) (r .second) (omega arith) (omega arith) (omega arith)
+
+  -- An entry by its place.
+  pub entry-at : (i : ℕ) (e : Entry) → i < count
+      → getD (entriesOf count r) i e ≡ entry (getD (r .distance) i 0) (getD (r .first) i 0) (getD (r .second) i 0)
+  unfolding entriesOf
+  entry-at i e h =
+      let n = room-lengths k r room in
+      getD-take count (zipEntries (r .distance) (r .first) (r .second)) i e h
+      ∙ zip-at i (r .distance) (r .first) (r .second) e (omega arith) (omega arith) (omega arith)
+
+  -- The last squared distance stands in its column.
+  pub last-distance-column : 0 < count → lastDistance (entriesOf count r) ≡ getD (r .distance) (count - 1) 0
+  last-distance-column h =
+      last-distance (entriesOf count r) (count - 1) (entry 0 0 0) (omega (arith, length-entries))
+      ∙ ap (λ e. e .distance) (entry-at (count - 1) (entry 0 0 0) (omega arith))
+
+  -- The columns hold their own entries.
+  pub holding-self : holding (entriesOf count r) r ≡ r
+  unfolding holding
+  holding-self =
+      let n = room-lengths k r room in
+      let c = entries-columns in
+      rw (c .0, c .1, c .2, overwritten-self count (r .distance) (omega arith), overwritten-self count (r .first) (omega arith), overwritten-self count (r .second) (omega arith))
+
+-- Written again, at least as far.
+pub holding-again : (l m : List Entry) (r : Results) → length l ≤ length m → holding m (holding l r) ≡ holding m r
+unfolding holding
+holding-again l m r h = λ i. record {
+  distance = overwritten-again (map (λ e. e .distance) l) (map (λ e. e .distance) m) (r .distance) (lengths (λ e. e .distance)) i;
+  first = overwritten-again (map (λ e. e .first) l) (map (λ e. e .first) m) (r .first) (lengths (λ e. e .first)) i;
+  second = overwritten-again (map (λ e. e .second) l) (map (λ e. e .second) m) (r .second) (lengths (λ e. e .second)) i;
+}
+  where
+    lengths : (f : Entry → ℕ) → length (map f l) ≤ length (map f m)
+    lengths f = rw (length-map l f, length-map m f) h
+
+-- No column changes its length.
+pub holding-lengths : (l : List Entry) (r : Results) → roomFor (length l) r ≡ true
+    → (length (holding l r .distance) ≡ length (r .distance)) × (length (holding l r .first) ≡ length (r .first)) × (length (holding l r .second) ≡ length (r .second))
+unfolding holding
+holding-lengths l r room =
+    let n = room-lengths (length l) r room in (
+      length-overwritten (map (λ e. e .distance) l) (r .distance) (rw (length-map) (n .0)),
+      length-overwritten (map (λ e. e .first) l) (r .first) (rw (length-map) (n .1)),
+      length-overwritten (map (λ e. e .second) l) (r .second) (rw (length-map) (n .2)),
+    )
+
+-- Room stays.
+pub room-holding : (k : ℕ) (l : List Entry) (r : Results) → roomFor k r ≡ true → length l ≤ k → roomFor k (holding l r) ≡ true
+room-holding k l r room h =
+    let n = room-lengths k r room in
+    let m = holding-lengths l r (lengths-room (length l) r (omega arith) (omega arith) (omega arith)) in
+    lengths-room k (holding l r) (omega arith) (omega arith) (omega arith)

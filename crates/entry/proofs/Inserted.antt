@@ -1,0 +1,122 @@
+-- Laws of a column into which one value is put, for any element.
+use mathlib.Core.Path.{_≡_, refl, sym, ap, _∙_}
+use mathlib.Core.List.{List, [], _∷_, _++_, map, append-assoc, append-nil, map-append}
+use Prim.Native.Nat.{ℕ, zero, suc, _+_, _-_, _≤_, _<_}
+use native.Mathlib.Omega.{arith}
+use native.Mathlib.Numerals.{add-one}
+use lib.ListN.{length, take, drop, getD, set, length-append, length-take, length-drop, length-set, length-map, take-append-drop, drop-of-length-le, List·getD-append}
+use lib.Seq.{take-suc, drop-cons, append-snoc, length-take-le, set-at, getD-take, take-take, take-all, drop-drop}
+use Rattle.order.specs.Lists.{overwritten}
+use Rattle.site.specs.Add.{inserted}
+
+module _ {A : Type 0} where
+  -- The same with the parts grouped to the right.
+  pub inserted-is : (p n : ℕ) (v : A) (c : List A) → inserted p n v c ≡ take p c ++ v ∷ (take (n - p) (drop p c) ++ drop (suc n) c)
+  unfolding inserted
+  inserted-is p n v c = rw (add-one n) (append-assoc (take p c) (v ∷ take (n - p) (drop p c)) (drop (suc n) c))
+
+  module _ (n : ℕ) (c : List A) (room : n < length c) where
+    -- A store at the place.
+    pub inserted-store : (p : ℕ) (x v : A) → p ≤ n → set (inserted p n x c) p v ≡ inserted p n v c
+    inserted-store p x v h =
+        rw (inserted-is p n x c, inserted-is p n v c)
+        (set-at (take p c) x (take (n - p) (drop p c) ++ drop (suc n) c) v p (length-take-le p c (omega arith)))
+
+    -- Nothing is moved yet.
+    pub inserted-none : (d : A) → inserted n n (getD c n d) c ≡ c
+    inserted-none d =
+        let none : n - n ≡ 0 = omega arith in
+        rw (inserted-is n n (getD c n d) c, none, ← drop-cons c n d room) (take-append-drop n c)
+
+    inserted-back : (i : ℕ) (d : A) → i < n → inserted (suc i) n (getD c i d) c ≡ inserted i n (getD c i d) c
+    inserted-back i d h =
+        let one : n - i ≡ suc (n - suc i) = omega arith in
+        rw (inserted-is (suc i) n (getD c i d) c, inserted-is i n (getD c i d) c, one, take-suc c i d (omega arith), drop-cons c i d (omega arith))
+        (append-snoc (take i c) (getD c i d) _)
+
+    getD-inserted : (i : ℕ) (x d : A) → i < n → getD (inserted (suc i) n x c) i d ≡ getD c i d
+    getD-inserted i x d h =
+        rw (inserted-is (suc i) n x c)
+        (List·getD-append (take (suc i) c) (x ∷ (take (n - suc i) (drop (suc i) c) ++ drop (suc n) c)) d i
+        (rw (length-take-le (suc i) c (omega arith)) (omega arith))
+        ∙ getD-take (suc i) c i d (omega arith))
+
+    -- One element more is moved up by one.
+    pub inserted-more : (i : ℕ) (x d : A) → 0 < i → i ≤ n
+        → set (inserted i n x c) i (getD (inserted i n x c) (i - 1) d) ≡ inserted (i - 1) n (getD c (i - 1) d) c
+    inserted-more zero x d pos h = absurd (omega arith)
+    inserted-more (suc i) x d pos h =
+        let one : suc i - 1 ≡ i = omega arith in
+        rw (one, getD-inserted i x d (omega arith), inserted-store (suc i) x (getD c i d) h) (inserted-back i d (omega arith))
+
+    pub length-inserted : (p : ℕ) (v : A) → p ≤ n → length (inserted p n v c) ≡ length c
+    length-inserted p v h =
+        rw (inserted-is p n v c, length-append, length-append, length-take, length-take, length-drop, length-drop) (omega arith)
+
+-- A column in which the elements from place `i` to `n` are moved up by one, on the way down to place `p`.
+pub record Moving {A : Type 0} (d : A) (c : List A) (p n i : ℕ) (column : List A) : Type 0 where
+  pub from : p ≤ i
+  pub to : i ≤ n
+  pub holds : column ≡ inserted i n (getD c i d) c
+  pub long : length column ≡ length c
+
+module _ {A : Type 0} (d : A) (c : List A) (p n : ℕ) (room : n < length c) where
+  pub moving-starts : p ≤ n → Moving d c p n n c
+  moving-starts h = record { from = h; to = omega arith; holds = sym (inserted-none n c room d); long = refl }
+
+  pub moving-more : (i : ℕ) (column : List A) → p < i → Moving d c p n i column
+      → Moving d c p n (i - 1) (set column i (getD column (i - 1) d))
+  moving-more i column h m = record {
+    from = omega arith;
+    to = omega arith;
+    holds = rw (m .holds) (inserted-more n c room i (getD c i d) d (omega arith) (m .to));
+    long = length-set column i (getD column (i - 1) d) ∙ m .long;
+  }
+
+  pub moving-ends : (i : ℕ) (column : List A) (v : A) → i ≤ p → Moving d c p n i column → set column p v ≡ inserted p n v c
+  moving-ends i column v h m =
+      let same : i ≡ p = omega arith in
+      let is : column ≡ inserted p n (getD c p d) c = rw same at (m .holds) in
+      rw is (inserted-store n c room p (getD c p d) v (omega arith))
+
+-- A value put at the start of the part from place `p` on is put at place `p` of the whole.
+pub inserted-part : {A : Type 0} (p n : ℕ) (v : A) (c part : List A) → p ≤ n → n < length c
+    → part ≡ inserted 0 (n - p) v (take (length c - p) (drop p c))
+    → take p c ++ (part ++ drop (length c - p) (drop p c)) ≡ inserted p n v c
+inserted-part {A} p n v c part pn nc is =
+    let whole : take (length c - p) (drop p c) ≡ drop p c = take-all (length c - p) (drop p c) (rw length-drop (omega arith)) in
+    let none : drop (length c - p) (drop p c) ≡ [] = drop-of-length-le (drop p c) {i = length c - p} (rw length-drop (omega arith)) in
+    let rest : drop (suc (n - p)) (drop p c) ≡ drop (suc n) c =
+    drop-drop (suc (n - p)) p c ∙ (let sums : p + suc (n - p) ≡ suc n = omega arith in ap (λ (m : ℕ). drop m c) sums) in
+    let same : (n - p) - 0 ≡ n - p = omega arith in
+    rw (is, whole, none, append-nil, inserted-is 0 (n - p) v (drop p c), same, rest, inserted-is p n v c)
+
+take-part : {A : Type 0} (count p n : ℕ) (c : List A) → p ≤ n → n ≤ count → take (n - p) (drop p (take count c)) ≡ take (n - p) (drop p c)
+take-part count zero n c pn nc = take-take (n - 0) count c (omega arith)
+take-part zero (suc p) n c pn nc = absurd (omega arith)
+take-part (suc count) (suc p) n [] pn nc = refl
+take-part (suc count) (suc p) n (a ∷ c) pn nc =
+    let one : n - suc p ≡ (n - 1) - p = omega arith in
+    rw one (take-part count p (n - 1) c (omega arith) (omega arith))
+
+map-take : {A B : Type 0} (f : A → B) (n : ℕ) (l : List A) → map f (take n l) ≡ take n (map f l)
+map-take f zero l = refl
+map-take f (suc n) [] = refl
+map-take {A} {B} f (suc n) (a ∷ l) = ap (λ (r : List B). f a ∷ r) (map-take f n l)
+
+map-drop : {A B : Type 0} (f : A → B) (n : ℕ) (l : List A) → map f (drop n l) ≡ drop n (map f l)
+map-drop f zero l = refl
+map-drop f (suc n) [] = refl
+map-drop f (suc n) (a ∷ l) = map-drop f n l
+
+-- One key of the elements of a list stands in a column: putting an element into the list is putting its key into the column.
+pub inserted-key : {A B : Type 0} (f : A → B) (v : A) (l : List A) (column : List B) (p n : ℕ) → map f l ≡ take (length l) column
+    → p ≤ n → n ≤ length l
+    → inserted p n (f v) column ≡ overwritten (map f (take p l ++ v ∷ take (n - p) (drop p l))) column
+unfolding overwritten
+inserted-key f v l column p n is pn nl =
+    let lp : length (take p l) ≡ p = length-take-le p l (omega arith) in
+    let whole : length (map f (take p l ++ v ∷ take (n - p) (drop p l))) ≡ suc n =
+    rw (length-map, length-append, lp, length-take, length-drop) (omega arith) in
+    rw (whole, map-append, map-take, map-take, map-drop, is, inserted-is p n (f v) column, take-part (length l) p n column pn nl, take-take p (length l) column (omega arith))
+    (sym (append-assoc (take p column) (f v ∷ take (n - p) (drop p column)) (drop (suc n) column)))

@@ -1,0 +1,82 @@
+-- A pair takes its place: a search, and one shift for each column.
+use native.Mathlib.Omega.{arith}
+use borrow.Author.Needs.{needs}
+use Rattle.entry.proofs.Offering.{ready-whole, offer-keeps, offer-inside, offer-within, offer-puts}
+use Rattle.entry.proofs.offer.Statement.{statement}
+use Rattle.entry.proofs.offer.Tie as tie
+
+place-requires : tie.Need-place-requires
+place-requires c κs = ready-whole _ _ _ (c .before .before .before .before .before .before .pre)
+
+same-length : tie.Need-same-length
+same-length c = search needs
+
+same-length-2 : tie.Need-same-length-2
+same-length-2 c = search needs
+
+same-length-3 : tie.Need-same-length-3
+same-length-3 c = search needs
+
+returns : tie.Need-returns
+returns c = offer-keeps _ _ _ (c .before .before .before .before .before .before .before .before .pre) _ _ (c .before .place .ensures) (c .if1 .taken)
+
+stay-requires : tie.Need-stay-requires
+stay-requires c κs = offer-inside _ _ _ (c .before .before .before .before .before .before .before .before .pre) _ _ (c .before .place .ensures) (c .if1 .left)
+
+insert-u64-requires : tie.Need-insert-u64-requires
+insert-u64-requires c κs =
+    let s = c .before in
+    let w = offer-within _ _ _ (s .before .before .before .before .before .before .before .before .before .pre) _ _ (s .before .before .place .ensures) _ (s .before .if1 .left) (s .stay .ensures) in
+    (w .0, w .2)
+
+insert-u32-requires : tie.Need-insert-u32-requires
+insert-u32-requires c κs =
+    let s = c .before .before .before .before .before in
+    let w = offer-within _ _ _ (s .before .before .before .before .before .before .before .before .before .pre) _ _ (s .before .before .place .ensures) _ (s .before .if1 .left) (s .stay .ensures) in
+    (w .0, w .3)
+
+insert-u32-requires-2 : tie.Need-insert-u32-requires-2
+insert-u32-requires-2 c κs =
+    let s = c .before .before .before .before .before .before .before .before .before in
+    let w = offer-within _ _ _ (s .before .before .before .before .before .before .before .before .before .pre) _ _ (s .before .before .place .ensures) _ (s .before .if1 .left) (s .stay .ensures) in
+    (w .0, w .4)
+
+add-result : tie.Need-add-result
+add-result c =
+    let s = c .before .before .before .before .before .before .before .before .before .before .before .before in
+    let w = offer-within _ _ _ (s .before .before .before .before .before .before .before .before .before .pre) _ _ (s .before .before .place .ensures) _ (s .before .if1 .left) (s .stay .ensures) in
+    omega (arith, s .before .before .before .before .before .before .before .before .before .fits .k)
+
+same-length-4 : tie.Need-same-length-4
+same-length-4 c = c .before .before .before .before .before .before .before .before .before .before .insert-u64 .kept .0
+
+same-length-5 : tie.Need-same-length-5
+same-length-5 c = c .before .before .before .before .before .before .insert-u32 .kept .0
+
+same-length-6 : tie.Need-same-length-6
+same-length-6 c = c .before .before .insert-u322 .kept .0
+
+returns-2 : tie.Need-returns-2
+returns-2 c =
+    let s = c .before .before .before .before .before .before .before .before .before .before .before .before in
+    offer-puts _ _ _ (s .before .before .before .before .before .before .before .before .before .pre) _ _ (s .before .before .place .ensures) _ (s .before .if1 .left) (s .stay .ensures) _ _ _
+    (c .before .before .before .before .before .before .before .before .before .before .insert-u64 .ensures) (c .before .before .before .before .before .before .insert-u32 .ensures) (c .before .before .insert-u322 .ensures)
+
+pub offer-spec : {M : Type 1} → statement M
+offer-spec =
+    tie.close
+    (tie.spec
+    place-requires
+    same-length
+    same-length-2
+    same-length-3
+    returns
+    stay-requires
+    insert-u64-requires
+    insert-u32-requires
+    insert-u32-requires-2
+    add-result
+    same-length-4
+    same-length-5
+    same-length-6
+    returns-2)

@@ -1,0 +1,30 @@
+-- An entry, and its rank.
+use mathlib.Core.Bool.{Bool}
+use mathlib.Core.List.{List, [], _∷_}
+use Prim.Native.Nat.{ℕ}
+use lib.Dec.{ltb}
+use lib.ListN.{take}
+use Rattle.order.specs.Order.{on, lex}
+use Rattle.order.specs.Best.{insert, best}
+use Rattle.entry.specs.declared.Entry.{Entry}
+
+abbrev pub entry : ℕ → ℕ → ℕ → Entry
+entry distance first second = record { distance = distance; first = first; second = second }
+
+-- "Smaller squared distance first, then smaller first place, then smaller second place." (01: rank.)
+unfoldable pub rankBefore : Entry → Entry → Bool
+rankBefore = lex (on ltb (λ e. e .distance)) (lex (on ltb (λ e. e .first)) (on ltb (λ e. e .second)))
+
+-- "The first K pairs by rank, or all when that is fewer."
+unfoldable pub bestK : ℕ → List Entry → List Entry
+bestK k l = best rankBefore k l
+
+-- "the pair takes its place by rank, the entry past K dropping out."
+unfoldable pub offer : ℕ → Entry → List Entry → List Entry
+offer k e l = take k (insert rankBefore e l)
+
+-- The squared distance of the last entry.
+unfoldable pub lastDistance : List Entry → ℕ
+lastDistance [] = 0
+lastDistance (e ∷ []) = e .distance
+lastDistance (e ∷ (f ∷ l)) = lastDistance (f ∷ l)
