@@ -1,0 +1,22 @@
+-- The laws of strips and sweeps.
+pub mod Examples
+pub mod StepLaws
+pub mod ScanLaws
+pub mod ProductLaws
+pub mod Geometry
+pub mod ClassicLaws
+pub mod ReverseLaws
+pub mod StripLaws
+pub mod SweepLaws
+pub mod CountLaws
+pub mod PlaceLaws
+pub mod RunLaws
+pub mod HeldLaws
+pub mod Progress
+pub mod ScanRuns
+pub mod RightScan
+pub mod LeftScan
+pub mod NumberLaws
+pub mod References
+pub mod Fingers
+pub mod Taking

@@ -1,0 +1,60 @@
+-- Strips of a list of sites in order, by place and by x.
+use mathlib.Core.Path.{_≡_}
+use mathlib.Core.Bool.{Bool, true, false}
+use mathlib.Core.List.{List, [], _∷_}
+use Prim.Native.Nat.{ℕ, suc, _-_}
+use lib.Signed.{ltZ}
+use lib.ListN.{drop}
+use Rattle.order.specs.Order.{StrictOrder, on, ascending}
+use Rattle.order.specs.Lists.{All}
+use Rattle.order.specs.Sorted.{Sorted, Ascends}
+use Rattle.order.proofs.Order.{byTest, never-both, ltZ-order, up-to-equality, on-order, by-number, lex-order, lex-more, strict}
+use Rattle.order.proofs.Lists.{all-weaken}
+use Rattle.order.proofs.Sorted.{ascending-ascends, sorted-take, sorted-drop}
+use Rattle.site.specs.declared.Site.{Site}
+use Rattle.site.specs.Site.{siteBefore}
+use Rattle.sweep.specs.Strip.{Placed, placedFrom, whole, strip}
+
+-- By x alone.
+abbrev pub leftOf : Placed → Placed → Bool
+leftOf = on ltZ (λ p. p .site .x)
+
+same-site : (a b : Site) → (a .x ≡ b .x) × ((a .y ≡ b .y) × (a .number ≡ b .number)) → a ≡ b
+same-site a b h = λ i. record { x = h .0 i; y = h .1 .0 i; number = h .1 .1 i }
+
+pub site-order : StrictOrder siteBefore
+unfolding siteBefore
+site-order =
+    strict
+    (lex-order (on-order (up-to-equality ltZ-order) (λ s. s .x))
+    (lex-order (on-order (up-to-equality ltZ-order) (λ s. s .y)) (by-number (λ s. s .number))))
+    same-site
+
+-- A site that comes before another is not right of it.
+before-x : (s t : Site) → siteBefore s t ≡ true → ltZ (t .x) (s .x) ≡ false
+unfolding siteBefore
+before-x s t h =
+    byTest (ltZ (t .x) (s .x)) (λ l. never-both h (lex-more _ _ s t (ltZ-order .asym (t .x) (s .x) l) l)) (λ f. f)
+
+-- What holds of each site holds of each with its place.
+pub all-placed : (P : Site → Type 0) (n : ℕ) (l : List Site) → All P l → All (λ p. P (p .site)) (placedFrom n l)
+unfolding placedFrom All
+all-placed P n [] h = tt
+all-placed P n (s ∷ l) h = (h .0, all-placed P (suc n) l (h .1))
+
+placed-sorted : (n : ℕ) (l : List Site) → Ascends siteBefore l → Sorted leftOf (placedFrom n l)
+unfolding placedFrom Ascends Sorted
+placed-sorted n [] h = tt
+placed-sorted n (s ∷ l) h = (
+  all-placed (λ t. ltZ (t .x) (s .x) ≡ false) (suc n) l (all-weaken (λ t. siteBefore s t ≡ true) (λ t. ltZ (t .x) (s .x) ≡ false) (before-x s) l (h .0)),
+  placed-sorted (suc n) l (h .1),
+)
+
+-- The sites of a list in order stand in the order of x.
+pub whole-sorted : (l : List Site) → ascending siteBefore l ≡ true → Sorted leftOf (whole l)
+unfolding whole
+whole-sorted l h = placed-sorted 0 l (ascending-ascends site-order l h)
+
+pub strip-sorted : (from to : ℕ) (l : List Site) → ascending siteBefore l ≡ true → Sorted leftOf (strip from to l)
+unfolding strip
+strip-sorted from to l h = sorted-take leftOf (to - from) (drop from (whole l)) (sorted-drop leftOf from (whole l) (whole-sorted l h))

@@ -1,0 +1,26 @@
+-- An element of a coordinate column, and the squared difference that the callee gives.
+use mathlib.Core.Path.{_≡_}
+use lib.IntN.{ℤ}
+use mir.Facts.{toZ-ofZ}
+use Rattle.site.specs.Site.{gap, square}
+use Rattle.site.proofs.Machine.{at₂}
+use borrow.Author.Needs.{needs, sfits-of}
+use Rattle.sweep.proofs.squared_gap_at.Statement.{statement}
+use Rattle.sweep.proofs.squared_gap_at.Tie as tie
+
+mul-squared-gap : tie.Need-mul-squared-gap
+mul-squared-gap c = search needs
+
+shared-slice-copy-out-squared-gap : tie.Need-shared-slice-copy-out-squared-gap
+shared-slice-copy-out-squared-gap c = search needs
+
+squared-gap-requires : tie.Need-squared-gap-requires
+squared-gap-requires c κs = search needs
+
+returns : tie.Need-returns
+returns c = at₂ (λ (a b : ℤ). square (gap a b)) (toZ-ofZ (c .before .before .fits .v)) (toZ-ofZ (sfits-of (c .before .squared-gap-arg .given))) (c .squared-gap .ensures)
+
+pub squared-gap-at-spec : {M : Type 1} → statement M
+squared-gap-at-spec =
+    tie.close
+    (tie.spec mul-squared-gap shared-slice-copy-out-squared-gap squared-gap-requires returns)

@@ -1,0 +1,43 @@
+-- Runs of sites read from two coordinate columns, as the functions of this crate meet them.
+use mathlib.Core.Bool.{Bool, cond, _&&_, _||_}
+use mathlib.Core.List.{List, [], _∷_}
+use Prim.Native.Nat.{ℕ, zero, suc, _+_}
+use lib.Dec.{leb, ltb}
+use lib.IntN.{ℤ, pos}
+use lib.ListN.{getD}
+use lib.Signed.{leZ}
+use Rattle.site.specs.SiteList.{site}
+use Rattle.entry.specs.Results.{Results, entriesOf}
+use Rattle.sweep.specs.Strip.{Placed}
+use Rattle.sweep.specs.Scan.{Candidate, State}
+use Rattle.sweep.specs.Sweep.{look}
+
+-- A site that needs no number: a sweep reads none.
+abbrev pub spotOf : ℤ → ℤ → ℕ → Placed
+spotOf x y place = record { place = place; site = site x y 0 }
+
+-- The site at a place of two coordinate columns.
+unfoldable pub spot : List ℤ → List ℤ → ℕ → Placed
+spot xs ys i = spotOf (getD xs i (pos 0)) (getD ys i (pos 0)) i
+
+-- `n` sites from place `from` on.
+unfoldable pub rightward : List ℤ → List ℤ → ℕ → ℕ → List Placed
+rightward xs ys from zero = []
+rightward xs ys from (suc n) = spot xs ys from ∷ rightward xs ys (suc from) n
+
+-- `n` sites from place `limit` on, latest first.
+unfoldable pub leftward : List ℤ → List ℤ → ℕ → ℕ → List Placed
+leftward xs ys limit zero = []
+leftward xs ys limit (suc n) = spot xs ys (limit + n) ∷ leftward xs ys limit n
+
+-- A look from a reference; `swapped` where the reference is the second list's.
+unfoldable pub lookFrom : Bool → Placed → Placed → Candidate
+lookFrom swapped r o = cond swapped (look o r) (look r o)
+
+-- Whether the next reference is the first list's: there is one, and the second list has none or one that it leads.
+unfoldable pub firstNext : List ℤ → ℕ → ℕ → List ℤ → ℕ → ℕ → Bool
+firstNext ax i aTo bx j bTo = ltb i aTo && (leb bTo j || leZ (getD ax i (pos 0)) (getD bx j (pos 0)))
+
+-- The state that the columns and the two counters hold.
+unfoldable pub stateOf : ℕ → Results → ℕ → ℕ → State
+stateOf count r looks distances = record { entries = entriesOf count r; looks = looks; distances = distances }

@@ -1,0 +1,62 @@
+-- The two sweeps, step by step, for any things that pair up; then for strips of sites.
+use mathlib.Core.Bool.{Bool, cond}
+use mathlib.Core.List.{List, [], _∷_, map}
+use Prim.Native.Nat.{ℕ}
+use lib.ListN.{take}
+use lib.Signed.{leZ}
+use Rattle.site.specs.Site.{gap, square}
+use Rattle.entry.specs.declared.Entry.{Entry}
+use Rattle.sweep.specs.declared.Way.{Way}
+use Rattle.sweep.specs.declared.Way.the-variants.{Classic, ReverseRun}
+use Rattle.sweep.specs.Strip.{Placed, pair}
+use Rattle.sweep.specs.Scan.{Candidate, State, Scanned, scan}
+
+-- `leads a b`: the reference is the first list's `a` and not the second list's `b`.
+-- `look a b`: what a look at the two tests and offers.
+module _ {A B : Type 0} (leads : A → B → Bool) (look : A → B → Candidate) (k : ℕ) where
+  -- "Two fingers start at the strips' first sites. While both are inside, the reference is the first list's site if its x is
+  -- at most the other's, else the second's. It is scanned against the other list from that finger to the right. Then the
+  -- reference's finger moves one on."
+  unfoldable pub classicOver : List A → List B → State → State
+  classicOver [] q s = s
+  classicOver (a ∷ p) [] s = s
+  classicOver (a ∷ p) (b ∷ q) s =
+      let byFirst = classicOver p (b ∷ q) (scan k (map (look a) (b ∷ q)) s .state) in
+      let bySecond = classicOver (a ∷ p) q (scan k (map (λ c. look c b) (a ∷ p)) s .state) in
+      cond (leads a b) byFirst bySecond
+
+  -- "References are taken in ascending x, a first-list site before a second-list site at equal x, otherwise by place. Each is
+  -- scanned against the other list's sites already taken, latest first, down to that list's left limit. The place where the
+  -- scan stopped becomes the new left limit: it and all before it are never looked at again."
+  -- `u` and `v` are the sites already taken and past their list's left limit, latest first: a scan leaves those that it passed.
+  unfoldable pub reverseOver : List A → List B → List A → List B → State → State
+  reverseOver [] [] u v s = s
+  reverseOver [] (b ∷ q) u v s =
+      let r = scan k (map (λ c. look c b) u) s in
+      reverseOver [] q (take (r .passed) u) (b ∷ v) (r .state)
+  reverseOver (a ∷ p) [] u v s =
+      let r = scan k (map (look a) v) s in
+      reverseOver p [] (a ∷ u) (take (r .passed) v) (r .state)
+  reverseOver (a ∷ p) (b ∷ q) u v s =
+      let byFirst = scan k (map (look a) v) s in
+      let bySecond = scan k (map (λ c. look c b) u) s in
+      let first = reverseOver p (b ∷ q) (a ∷ u) (take (byFirst .passed) v) (byFirst .state) in
+      let second = reverseOver (a ∷ p) q (take (bySecond .passed) u) (b ∷ v) (bySecond .state) in
+      cond (leads a b) first second
+
+-- The first list's site is the reference "if its x is at most the other's".
+unfoldable pub leads : Placed → Placed → Bool
+leads p q = leZ (p .site .x) (q .site .x)
+
+-- "A look tests the x-difference of one reference site and one other."
+unfoldable pub look : Placed → Placed → Candidate
+look p q = record { gap = square (gap (p .site .x) (q .site .x)); entry = pair p q }
+
+-- A list before a sweep, with both counters at 0.
+unfoldable pub start : List Entry → State
+start l = record { entries = l; looks = 0; distances = 0 }
+
+-- The sweep named, over two strips, on a list that may hold entries already. (01: classic, Reverse Run.)
+unfoldable pub sweep : Way → ℕ → List Placed → List Placed → List Entry → State
+sweep Classic k p q l = classicOver leads look k p q (start l)
+sweep ReverseRun k p q l = reverseOver leads look k p q [] [] (start l)
