@@ -1,0 +1,10 @@
+-- The laws of the two lists of pairs.
+pub mod Parts
+pub mod Lawful
+pub mod Places
+pub mod Offsets
+pub mod Rows
+pub mod DistanceRows
+pub mod Writes
+pub mod DistanceAnswers
+pub mod KListAnswers

@@ -1,0 +1,110 @@
+-- Offsets of coordinates: which sites are too far in x.
+use mathlib.Core.Path.{_≡_, refl}
+use mathlib.Core.Bool.{true, false, _&&_}
+use mathlib.Core.List.{List}
+use Prim.Native.Nat.{ℕ, _+_, _*_, _-_, _%_, _^_, _≤_, _<_}
+use native.Mathlib.Nat.{mul-lt-mul-of-pos-right, mul-le-mul, mul-le-mul-left, mul-le-mul-right}
+use native.Mathlib.Omega.{arith}
+use borrow.Author.Tests.{lt-leb, ltb-true, ltb-false}
+use lib.Dec.{ltb}
+use lib.IntN.{ℤ, pos, negsuc}
+use lib.ListN.{length}
+use lib.Signed.{leZ}
+use mir.Syntax.{w32, w64}
+use mir.Val.{Fits}
+use Rattle.site.specs.declared.Site.{Site}
+use Rattle.site.specs.Site.{within, gap, square, squaredDistance}
+use Rattle.site.specs.SiteList.{site}
+use Rattle.site.proofs.Cases.{byTest, and-first}
+use Rattle.site.proofs.Integers.{up, down, le-sides, le-total, le-trans, size-up, size-down}
+use Rattle.site.proofs.Distance.{squared-gap-x, squared-gap-y}
+use Rattle.pairs.specs.declared.Run.{Run}
+use Rattle.pairs.specs.Run.{offset, offsetAt, Rising, Skipped, Behind, RunOf, near}
+
+within-tests : (x : ℤ) → within x ≡ true → (leZ (negsuc 999_999_999) x && leZ x (pos 1_000_000_000)) ≡ true
+unfolding within
+within-tests x h = h
+
+-- An offset by sides.
+offset-sides : (x : ℤ) → within x ≡ true → offset x + down x ≡ up x + 2_147_483_648
+unfolding offset gap down up
+offset-sides x h =
+    let l = and-first (leZ (negsuc 999_999_999) x) (leZ x (pos 1_000_000_000)) (within-tests x h) in
+    omega (arith, size-down x (negsuc 2_147_483_647) (le-trans (negsuc 2_147_483_647) (negsuc 999_999_999) x refl l))
+
+pub offset-rises : (a b : ℤ) → within a ≡ true → within b ≡ true → leZ a b ≡ true → offset a ≤ offset b
+offset-rises a b h k t = omega (arith, offset-sides a h, offset-sides b k, le-sides a b t)
+
+-- Offsets that are more than `e` apart.
+pub far-left : (a b : ℤ) (e : ℕ) → within a ≡ true → within b ≡ true → offset b + e < offset a → e < gap a b
+unfolding gap
+far-left a b e h k t =
+    let p = offset-sides a h in
+    let q = offset-sides b k in
+    byTest (leZ a b) (λ l. omega (arith, le-sides a b l)) (λ l. omega (arith, size-down a b (le-total a b l)))
+
+pub far-right : (a b : ℤ) (e : ℕ) → within a ≡ true → within b ≡ true → offset a + e < offset b → e < gap a b
+unfolding gap
+far-right a b e h k t =
+    let p = offset-sides a h in
+    let q = offset-sides b k in
+    byTest (leZ a b) (λ l. omega (arith, size-up a b l)) (λ l. omega (arith, le-sides b a (le-total a b l)))
+
+square-lt : (m n : ℕ) → m < n → square m < square n
+unfolding square
+square-lt m n h =
+    let p : m * n ≤ n * n = mul-le-mul-right n (omega arith) in
+    let q : m * m ≤ m * n = mul-le-mul-left m (omega arith) in
+    let r : m * n < n * n = mul-lt-mul-of-pos-right h (omega arith) in
+    omega arith
+
+-- A site further than `e` in x is not near.
+pub far : (x y : ℤ) (s : Site) (e : ℕ) → e < gap x (s .x) → near (square e) x y s ≡ false
+unfolding near
+far x y s e h =
+    lt-leb (squaredDistance (site x y 0) s) (square e)
+    (omega (arith, square-lt e (gap x (s .x)) h, squared-gap-x (site x y 0) s))
+
+-- Nor is one further than `e` in y, by a difference that wraps.
+pub far-y : (x y : ℤ) (s : Site) (e : ℕ) {a b r : ℕ} → within y ≡ true → within (s .y) ≡ true → e < 2 ^ 32 → r < 2 ^ 64
+    → a ≡ offset (s .y) → a < 2 ^ 32 → b ≡ offset y → b < 2 ^ 32 → (r + b) % 2 ^ 64 ≡ a + e → 2 * e < r → near (e * e) x y s ≡ false
+unfolding near square
+far-y x y s e {a} {b} {r} h k u v p g q f w t =
+    let beyond : e < gap y (s .y) =
+    byTest (ltb (a + e) b)
+    (λ l. far-left y (s .y) e h k (omega (arith, ltb-true (a + e) b l)))
+    (λ l. far-right y (s .y) e h k (omega (arith, ltb-false (a + e) b l))) in
+    lt-leb (squaredDistance (site x y 0) s) (e * e)
+    (omega (arith, square-lt e (gap y (s .y)) beyond, squared-gap-y (site x y 0) s))
+
+-- Of each place of a range: of none, and of one more.
+pub between-none : (P : ℕ → Type 0) (f : ℕ) (k : ℕ) → f ≤ k → k < f → P k
+between-none P f k h g = absurd (omega arith)
+
+pub between-more : (P : ℕ → Type 0) (f i : ℕ) → ((k : ℕ) → f ≤ k → k < i → P k) → P i → (k : ℕ) → f ≤ k → k < i + 1 → P k
+between-more P f i h p k a b =
+    byTest (ltb k i) (λ t. h k a (ltb-true k i t)) (λ t. let e : k ≡ i = omega (arith, ltb-false k i t) in rw e p)
+
+-- A run by its two ends.
+pub run-next : (a b : List ℤ) (e i : ℕ) (last : Run) {x low left right : ℕ} → Rising b → Behind a b e i last → x ≡ offsetAt a i → low ≡ x - e
+    → Skipped b (last .left) low left → Skipped b (last .right) (x + e + 1) right
+    → RunOf a b e i (record { left = left; right = right })
+run-next a b e i last {x} {low} {left} {right} rises behind p q l r =
+    record {
+      behind = record { left = l .inside; right = r .inside; below = below };
+      above = above;
+    }
+  where
+    below : (k : ℕ) → k < left → offsetAt b k + e < offsetAt a i
+    below k h =
+        byTest (ltb k (last .left)) (λ t. behind .below k (ltb-true k (last .left) t))
+        (λ t. omega (arith, l .below k (ltb-false k (last .left) t) h))
+
+    above : (k : ℕ) → right ≤ k → k < length b → offsetAt a i + e < offsetAt b k
+    above k h g = omega (arith, r .stop (omega arith), rises .rises right k h g)
+
+-- The square of a `u32` fits 64 bits.
+pub square-fits : {e : ℕ} → Fits w32 e → Fits w64 (e * e)
+square-fits {e} h =
+    let k : e ≤ 4_294_967_295 = omega (arith, h .fits) in
+    record { fits = omega (arith, mul-le-mul k k) }

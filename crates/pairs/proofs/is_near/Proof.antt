@@ -1,0 +1,103 @@
+-- `pairs::is_near` meets its contract.
+use mathlib.Core.Path.{sym, ap}
+use Prim.Native.Nat.{ℕ, _*_}
+use borrow.Author.Needs.{needs, sfits-of}
+use lib.Dec.{leb}
+use lib.IntN.{ℤ, pos}
+use lib.ListN.{getD}
+use mir.Facts.{toZ-ofZ}
+use Rattle.site.specs.Site.{squaredDistance}
+use Rattle.site.specs.SiteList.{site}
+use Rattle.site.proofs.Machine.{at₁, at₄}
+use Rattle.pairs.specs.Run.{offset, near}
+use Rattle.pairs.proofs.Offsets.{far-y, square-fits}
+use Rattle.pairs.proofs.is_near.Statement.{statement}
+use Rattle.pairs.proofs.is_near.Tie as tie
+
+mul-offset : tie.Need-mul-offset
+mul-offset c = search needs
+
+shared-slice-copy-out-offset : tie.Need-shared-slice-copy-out-offset
+shared-slice-copy-out-offset c = search needs
+
+offset-requires : tie.Need-offset-requires
+offset-requires c κs = search needs
+
+add-wrapping-sub-u64 : tie.Need-add-wrapping-sub-u64
+add-wrapping-sub-u64 c = search needs
+
+offset-requires-2 : tie.Need-offset-requires-2
+offset-requires-2 c κs = search needs
+
+wrapping-sub-u64-requires : tie.Need-wrapping-sub-u64-requires
+wrapping-sub-u64-requires c κs = search needs
+
+mul-if1 : tie.Need-mul-if1
+mul-if1 c = search needs
+
+abbrev started : tie.After-wrapping-sub-u64 → tie.Start
+started c = c .before .before .before .before
+
+returns : tie.Need-returns
+returns c =
+    let w = c .before in
+    let s = started w in
+    sym
+    (far-y (s .args .x) (s .args .y) (site (getD (s .args .bx .now) (s .args .j) (pos 0)) (getD (s .args .by .now) (s .args .j) (pos 0)) 0) (s .args .e)
+    (s .pre .1) (s .pre .5) (s .fits .e .fits) (w .wrapping-sub-u64 .ok)
+    (at₁ offset (toZ-ofZ (sfits-of (w .before .before .before .offset-arg .given))) (w .before .before .offset .ensures .0)) (w .before .before .offset .ensures .1)
+    (at₁ offset (toZ-ofZ (s .fits .y)) (w .before .offset2 .ensures .0)) (w .before .offset2 .ensures .1)
+    (w .wrapping-sub-u64 .ensures) (c .if1 .taken))
+
+mul-squared-distance : tie.Need-mul-squared-distance
+mul-squared-distance c = search needs
+
+shared-slice-copy-out-squared-distance : tie.Need-shared-slice-copy-out-squared-distance
+shared-slice-copy-out-squared-distance c = search needs
+
+mul-squared-distance-2 : tie.Need-mul-squared-distance-2
+mul-squared-distance-2 c = search needs
+
+shared-slice-copy-out-squared-distance-2 : tie.Need-shared-slice-copy-out-squared-distance-2
+shared-slice-copy-out-squared-distance-2 c = search needs
+
+squared-distance-requires : tie.Need-squared-distance-requires
+squared-distance-requires c κs =
+    let s = started (c .before .before .before) in (
+      rw (toZ-ofZ (s .fits .x)) (s .pre .0),
+      rw (toZ-ofZ (s .fits .y)) (s .pre .1),
+      rw (toZ-ofZ (sfits-of (c .before .squared-distance-arg .given))) (s .pre .4),
+      rw (toZ-ofZ (sfits-of (c .squared-distance-arg2 .given))) (s .pre .5),
+    )
+
+mul-result : tie.Need-mul-result
+mul-result c = square-fits (started (c .before .before .before .before) .fits .e)
+
+returns-2 : tie.Need-returns-2
+unfolding near
+returns-2 c =
+    let s = started (c .before .before .before .before) in
+    ap (λ (n : ℕ). leb n (s .args .e * s .args .e))
+    (at₄ (λ (x y u v : ℤ). squaredDistance (site x y 0) (site u v 0)) (toZ-ofZ (s .fits .x)) (toZ-ofZ (s .fits .y))
+    (toZ-ofZ (sfits-of (c .before .before .squared-distance-arg .given))) (toZ-ofZ (sfits-of (c .before .squared-distance-arg2 .given)))
+    (c .squared-distance .ensures))
+
+pub is-near-spec : {M : Type 1} → statement M
+is-near-spec =
+    tie.close
+    (tie.spec
+    mul-offset
+    shared-slice-copy-out-offset
+    offset-requires
+    add-wrapping-sub-u64
+    offset-requires-2
+    wrapping-sub-u64-requires
+    mul-if1
+    returns
+    mul-squared-distance
+    shared-slice-copy-out-squared-distance
+    mul-squared-distance-2
+    shared-slice-copy-out-squared-distance-2
+    squared-distance-requires
+    mul-result
+    returns-2)

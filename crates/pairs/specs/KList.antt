@@ -1,0 +1,57 @@
+-- The K list of two whole lists.
+use mathlib.Core.Bool.{Bool, not, _&&_}
+use mathlib.Core.List.{List, []}
+use Prim.Native.Nat.{ℕ}
+use lib.Dec.{leb}
+use lib.ListN.{length}
+use Rattle.site.specs.declared.Site.{Site}
+use Rattle.site.specs.Told.{Told, refused, answered, tell, unlessRefused, refuseIf, orElse}
+use Rattle.site.specs.SiteList.{Columns, sites}
+use Rattle.site.specs.Refusal.{listsRefusal}
+use Rattle.entry.specs.declared.Entry.{Entry}
+use Rattle.entry.specs.Entry.{bestK}
+use Rattle.entry.specs.Results.{Results, holding, roomFor}
+use Rattle.sweep.specs.declared.Way.{Way}
+use Rattle.sweep.specs.Strip.{whole, pairs}
+use Rattle.sweep.specs.Sweep.{sweep}
+use Rattle.pairs.specs.declared.Listed.{Listed}
+use Rattle.pairs.specs.declared.Listed.the-variants.{Entries, Refused}
+
+-- "K is 1 to 4,096."
+unfoldable pub lawfulK : ℕ → Bool
+lawfulK k = leb 1 k && leb k 4_096
+
+-- "The first K pairs by rank, or all n × m when that is fewer." (01: K list.)
+unfoldable pub kList : ℕ → List Site → List Site → List Entry
+kList k a b = bestK k (pairs (whole a) (whole b))
+
+-- 1, 2, 3 for each list, then "4: K is 0 or above 4,096", then "6: a whole K list with a result column shorter than K".
+unfoldable pub kListRefusal : Columns → Columns → ℕ → Results → ℕ
+kListRefusal a b k r =
+    orElse (listsRefusal a b) (orElse (refuseIf (not (lawfulK k)) 4) (refuseIf (not (roomFor k r)) 6))
+
+-- What the result columns then hold.
+unfoldable pub kListResults : Columns → Columns → ℕ → Results → Results
+kListResults a b k r = unlessRefused (kListRefusal a b k r) r (holding (kList k (sites a) (sites b)) r)
+
+-- "a K list, the entry count, looks and distances": the counters are the sweep's own.
+pub record Counts : Type 0 where
+  pub count : ℕ
+  pub looks : ℕ
+  pub distances : ℕ
+
+unfoldable pub kListTold : Way → Columns → Columns → ℕ → Results → Told Counts
+kListTold way a b k r =
+    let swept = sweep way k (whole (sites a)) (whole (sites b)) [] in
+    tell (kListRefusal a b k r)
+    (record {
+      count = length (kList k (sites a) (sites b));
+      looks = swept .looks;
+      distances = swept .distances;
+    })
+
+-- The paper's number and values for each case of the answer.
+unfoldable pub listedTold : Listed → Told Counts
+listedTold (Entries count looks distances) =
+    answered (record { count = count; looks = looks .0; distances = distances .0 })
+listedTold (Refused number) = refused number

@@ -1,0 +1,360 @@
+// The calls on two whole lists: the K list by either sweep, and the distance list.
+ghost use mathlib.Core.Path.{_≡_};
+ghost use mathlib.Core.Bool.{true};
+ghost use Prim.Native.Nat.{_+_, _*_, _-_, _≤_, _<_, _^_};
+ghost use lib.IntN.{pos};
+ghost use lib.ListN.{length, getD};
+ghost use Rattle.site.specs.Site.{within};
+ghost use Rattle.site.specs.SiteList.{columns, site, sites};
+ghost use Rattle.site.specs.Refusal.{listRefusal, listsRefusal};
+ghost use Rattle.entry.specs.Results.{results};
+ghost use Rattle.pairs.specs.KList.{lawfulK, kListRefusal, kListResults, kListTold, listedTold};
+ghost use Rattle.pairs.specs.DistanceList.{distanceList, distanceRefusal, distanceFirst, distanceSecond, distanceTold, withinTold};
+ghost use Rattle.pairs.specs.Run.{offset, Rising, Skipped, Behind, RunOf, others, near, nearTo, Reference, Room, Written, PairsWritten};
+use sweep::Distances;
+use sweep::Looks;
+use sweep::Way;
+
+// What a K list answers: the entry count, looks and distances, or the refusal's number.
+pub enum Listed {
+    Entries {
+        count: u32,
+        looks: Looks,
+        distances: Distances,
+    },
+    Refused(u32),
+}
+
+// What a distance list answers: its count, or the refusal's number.
+pub enum Within {
+    Pairs(u64),
+    Refused(u32),
+}
+
+// The places of a list from `left` up to, not including, `right`.
+struct Run {
+    left: usize,
+    right: usize,
+}
+
+// The refusal of two lists, 1, 2 or 3 of the first, else of the second; 0 for lawful ones.
+pub fn lists_refusal(ax: &[i32], ay: &[i32], an: &[u32], bx: &[i32], by: &[i32], bn: &[u32]) -> u32
+    ensures { λ r. ⌜ r ≡ listsRefusal (columns (now (ax .entry)) (now (ay .entry)) (now (an .entry))) (columns (now (bx .entry)) (now (by .entry)) (now (bn .entry))) ⌝ }
+{
+    let first = site::list_refusal(ax, ay, an);
+    if first != 0 {
+        return first;
+    }
+    site::list_refusal(bx, by, bn)
+}
+
+// How far a coordinate is right of the least `i32`.
+fn offset(x: i32) -> u64
+    ensures { λ r. ⌜ (r ≡ offset x) × (r < 2 ^ 32) ⌝ }
+{
+    ((x as i64) + 2_147_483_648) as u64
+}
+
+// One number less another, or 0 where that is more.
+fn less(a: u64, b: u64) -> u64
+    ensures { λ r. ⌜ r ≡ a - b ⌝ }
+{
+    if b < a { a - b } else { 0 }
+}
+
+// The first place from `from` on whose offset is `limit` or more.
+fn skip_below(xs: &[i32], from: usize, limit: u64) -> usize
+    requires { ⌜ from ≤ length (now xs) ⌝ }
+    ensures { λ r. ⌜ Skipped (now (xs .entry)) from limit r ⌝ }
+{
+    let mut i = from;
+    while i < xs.len() {
+        if limit <= offset(xs[i]) {
+            return i;
+        }
+        i += 1;
+    }
+    i
+}
+
+// The run of a reference: from the run of the one before it, both ends only move right.
+fn next_run(a: &[i32], b: &[i32], i: usize, last: Run, e: u32) -> Run
+    requires { ⌜ (i < length (now a)) × (Rising (now b)) × (Behind (now a) (now b) e i last) ⌝ }
+    ensures { λ r. ⌜ RunOf (now (a .entry)) (now (b .entry)) e i r ⌝ }
+{
+    let x = offset(a[i]);
+    let from = last.left;
+    let to = last.right;
+    let left = skip_below(b, from, less(x, e as u64));
+    let right = skip_below(b, to, x + (e as u64) + 1);
+    Run { left, right }
+}
+
+// Whether a site is near a position: its squared distance is at most `e` squared. A difference of y beyond `e` decides alone.
+fn is_near(x: i32, y: i32, bx: &[i32], by: &[i32], j: usize, e: u32) -> bool
+    requires { ⌜ (within x ≡ true) × (within y ≡ true) × (j < length (now bx)) × (j < length (now by)) × (within (getD (now bx) j (pos 0)) ≡ true) × (within (getD (now by) j (pos 0)) ≡ true) ⌝ }
+    ensures { λ r. ⌜ r ≡ near (e * e) x y (site (getD (now (bx .entry)) j (pos 0)) (getD (now (by .entry)) j (pos 0)) 0) ⌝ }
+{
+    let reach = e as u64;
+    let above = std::num::wrapping_sub_u64(offset(by[j]) + reach, offset(y));
+    if 2 * reach < above {
+        return false;
+    }
+    site::squared_distance(x, y, bx[j], by[j]) <= reach * reach
+}
+
+// How many sites of a run are near a position.
+fn count_row(x: i32, y: i32, bx: &[i32], by: &[i32], bn: &[u32], run: Run, e: u32) -> u64
+    requires { ⌜ Reference x y (columns (now bx) (now by) (now bn)) run ⌝ }
+    ensures { λ r. ⌜ r ≡ length (nearTo (e * e) x y (others run (columns (now (bx .entry)) (now (by .entry)) (now (bn .entry))))) ⌝ }
+{
+    let mut count: u64 = 0;
+    let mut j = run.left;
+    let end = run.right;
+    while j < end {
+        if is_near(x, y, bx, by, j, e) {
+            count += 1;
+        }
+        j += 1;
+    }
+    count
+}
+
+// How many pairs of two lawful lists are within `e`.
+fn count_all(ax: &[i32], ay: &[i32], an: &[u32], bx: &[i32], by: &[i32], bn: &[u32], e: u32) -> u64
+    requires { ⌜ (listRefusal (columns (now ax) (now ay) (now an)) ≡ 0) × (listRefusal (columns (now bx) (now by) (now bn)) ≡ 0) ⌝ }
+    ensures { λ r. ⌜ r ≡ length (distanceList e (sites (columns (now (ax .entry)) (now (ay .entry)) (now (an .entry)))) (sites (columns (now (bx .entry)) (now (by .entry)) (now (bn .entry))))) ⌝ }
+{
+    let mut count: u64 = 0;
+    let mut run = Run { left: 0, right: 0 };
+    let mut i = 0;
+    while i < ax.len() {
+        run = next_run(ax, bx, i, run, e);
+        count += count_row(ax[i], ay[i], bx, by, bn, run, e);
+        i += 1;
+    }
+    count
+}
+
+// Writes a pair for each site of a run that is near a position, from place `n` of the columns on: the place past them.
+fn write_row(
+    x: i32,
+    y: i32,
+    place: u32,
+    bx: &[i32],
+    by: &[i32],
+    bn: &[u32],
+    run: Run,
+    e: u32,
+    n: usize,
+    first: &mut [u32],
+    second: &mut [u32],
+) -> usize
+    requires { ⌜
+        (Reference x y (columns (now bx) (now by) (now bn)) run)
+        × (Room (nearTo (e * e) x y (others run (columns (now bx) (now by) (now bn)))) n (now first) (now second))
+        ⌝ }
+    ensures { λ r. ⌜
+        Written (nearTo (e * e) x y (others run (columns (now (bx .entry)) (now (by .entry)) (now (bn .entry)))))
+        place n (now (first .entry)) (now (second .entry)) (now (first .exit)) (now (second .exit)) r
+        ⌝ }
+{
+    let mut at = n;
+    let mut j = run.left;
+    let end = run.right;
+    while j < end {
+        if is_near(x, y, bx, by, j, e) {
+            first[at] = place;
+            second[at] = j as u32;
+            at += 1;
+        }
+        j += 1;
+    }
+    at
+}
+
+// Writes the places of all pairs within `e` of two lawful lists into the columns, which have room for them: how many.
+fn write_all(
+    ax: &[i32],
+    ay: &[i32],
+    an: &[u32],
+    bx: &[i32],
+    by: &[i32],
+    bn: &[u32],
+    e: u32,
+    first: &mut [u32],
+    second: &mut [u32],
+) -> usize
+    requires { ⌜
+        (listRefusal (columns (now ax) (now ay) (now an)) ≡ 0)
+        × (listRefusal (columns (now bx) (now by) (now bn)) ≡ 0)
+        × (length (distanceList e (sites (columns (now ax) (now ay) (now an))) (sites (columns (now bx) (now by) (now bn)))) ≤ length (now first))
+        × (length (distanceList e (sites (columns (now ax) (now ay) (now an))) (sites (columns (now bx) (now by) (now bn)))) ≤ length (now second))
+        ⌝ }
+    ensures { λ r. ⌜
+        PairsWritten (distanceList e (sites (columns (now (ax .entry)) (now (ay .entry)) (now (an .entry)))) (sites (columns (now (bx .entry)) (now (by .entry)) (now (bn .entry)))))
+        (now (first .entry)) (now (second .entry)) (now (first .exit)) (now (second .exit)) r
+        ⌝ }
+{
+    let mut n: usize = 0;
+    let mut run = Run { left: 0, right: 0 };
+    let mut i = 0;
+    while i < ax.len() {
+        run = next_run(ax, bx, i, run, e);
+        n = write_row(ax[i], ay[i], i as u32, bx, by, bn, run, e, n, first, second);
+        i += 1;
+    }
+    n
+}
+
+// The refusal of a distance list: 1, 2 or 3 of the first list, else of the second, then 6 for columns too short; 0 for none.
+fn distance_refusal(
+    ax: &[i32],
+    ay: &[i32],
+    an: &[u32],
+    bx: &[i32],
+    by: &[i32],
+    bn: &[u32],
+    e: u32,
+    first: &[u32],
+    second: &[u32],
+) -> u32
+    ensures { λ r. ⌜ r ≡ distanceRefusal (columns (now (ax .entry)) (now (ay .entry)) (now (an .entry))) (columns (now (bx .entry)) (now (by .entry)) (now (bn .entry))) e (now (first .entry)) (now (second .entry)) ⌝ }
+{
+    let refusal = lists_refusal(ax, ay, an, bx, by, bn);
+    if refusal != 0 {
+        return refusal;
+    }
+    let count = count_all(ax, ay, an, bx, by, bn, e);
+    if (first.len() as u64) < count {
+        return 6;
+    }
+    if (second.len() as u64) < count {
+        return 6;
+    }
+    0
+}
+
+// All pairs of two lists with squared distance at most `e` squared, by first place and then second. (01: distance list.)
+pub fn distance_list(
+    ax: &[i32],
+    ay: &[i32],
+    an: &[u32],
+    bx: &[i32],
+    by: &[i32],
+    bn: &[u32],
+    e: u32,
+    first: &mut [u32],
+    second: &mut [u32],
+) -> Within
+    ensures { λ r. ⌜ withinTold r ≡ distanceTold (columns (now (ax .entry)) (now (ay .entry)) (now (an .entry))) (columns (now (bx .entry)) (now (by .entry)) (now (bn .entry))) e (now (first .entry)) (now (second .entry)) ⌝ }
+    ensures { λ r. ⌜ now (first .exit) ≡ distanceFirst (columns (now (ax .entry)) (now (ay .entry)) (now (an .entry))) (columns (now (bx .entry)) (now (by .entry)) (now (bn .entry))) e (now (first .entry)) (now (second .entry)) ⌝ }
+    ensures { λ r. ⌜ now (second .exit) ≡ distanceSecond (columns (now (ax .entry)) (now (ay .entry)) (now (an .entry))) (columns (now (bx .entry)) (now (by .entry)) (now (bn .entry))) e (now (first .entry)) (now (second .entry)) ⌝ }
+{
+    let refusal = distance_refusal(ax, ay, an, bx, by, bn, e, first, second);
+    if refusal != 0 {
+        return Within::Refused(refusal);
+    }
+    let count = write_all(ax, ay, an, bx, by, bn, e, first, second);
+    Within::Pairs(count as u64)
+}
+
+// Whether K is 1 to 4,096.
+pub fn lawful_k(k: u32) -> bool
+    ensures { λ r. ⌜ r ≡ lawfulK k ⌝ }
+{
+    1 <= k && k <= 4_096
+}
+
+// The refusal of a K list: 1, 2 or 3 of the first list, else of the second, then 4 for K, then 6 for columns too short; 0 for none.
+fn k_list_refusal(
+    ax: &[i32],
+    ay: &[i32],
+    an: &[u32],
+    bx: &[i32],
+    by: &[i32],
+    bn: &[u32],
+    k: u32,
+    distance: &[u64],
+    first: &[u32],
+    second: &[u32],
+) -> u32
+    ensures { λ r. ⌜
+        r ≡ kListRefusal (columns (now (ax .entry)) (now (ay .entry)) (now (an .entry))) (columns (now (bx .entry)) (now (by .entry)) (now (bn .entry))) k
+        (results (now (distance .entry)) (now (first .entry)) (now (second .entry)))
+        ⌝ }
+{
+    let refusal = lists_refusal(ax, ay, an, bx, by, bn);
+    if refusal != 0 {
+        return refusal;
+    }
+    if !lawful_k(k) {
+        return 4;
+    }
+    let least = k as usize;
+    if distance.len() < least {
+        return 6;
+    }
+    if first.len() < least {
+        return 6;
+    }
+    if second.len() < least {
+        return 6;
+    }
+    0
+}
+
+// The first K pairs of two lists by rank, or all where there are fewer, by the sweep named. (01: K list.)
+pub fn k_list(
+    way: Way,
+    ax: &[i32],
+    ay: &[i32],
+    an: &[u32],
+    bx: &[i32],
+    by: &[i32],
+    bn: &[u32],
+    k: u32,
+    distance: &mut [u64],
+    first: &mut [u32],
+    second: &mut [u32],
+) -> Listed
+    ensures { λ r. ⌜
+        listedTold r ≡ kListTold way (columns (now (ax .entry)) (now (ay .entry)) (now (an .entry))) (columns (now (bx .entry)) (now (by .entry)) (now (bn .entry))) k
+        (results (now (distance .entry)) (now (first .entry)) (now (second .entry)))
+        ⌝ }
+    ensures { λ r. ⌜
+        results (now (distance .exit)) (now (first .exit)) (now (second .exit))
+        ≡ kListResults (columns (now (ax .entry)) (now (ay .entry)) (now (an .entry))) (columns (now (bx .entry)) (now (by .entry)) (now (bn .entry))) k
+        (results (now (distance .entry)) (now (first .entry)) (now (second .entry)))
+        ⌝ }
+{
+    let refusal = k_list_refusal(ax, ay, an, bx, by, bn, k, distance, first, second);
+    if refusal != 0 {
+        return Listed::Refused(refusal);
+    }
+    let n = ax.len();
+    let m = bx.len();
+    let swept = sweep::run(
+        way,
+        ax,
+        ay,
+        bx,
+        by,
+        0,
+        n,
+        0,
+        m,
+        k as usize,
+        0,
+        distance,
+        first,
+        second,
+    );
+    let looks = swept.looks;
+    let distances = swept.distances;
+    Listed::Entries {
+        count: swept.entries,
+        looks,
+        distances,
+    }
+}
