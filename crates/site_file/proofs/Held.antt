@@ -1,0 +1,86 @@
+-- Consulting a file through held starts, one test after another.
+use mathlib.Core.Path.{_≡_, refl, sym, _∙_}
+use mathlib.Core.List.{List}
+use Prim.Native.Nat.{ℕ, _+_, _*_, _≤_, _<_}
+use borrow.Author.Tests.{le-leb, lt-leb, eq-eqb, ne-eqb}
+use Rattle.site.specs.declared.Site.{Site}
+use Rattle.site.specs.Told.{refused, answered, tell, orElse}
+use Rattle.site.proofs.Answers.{told-refused}
+use Rattle.site_file.specs.declared.Which.{Which}
+use Rattle.site_file.specs.declared.Which.the-variants.{First, Second}
+use denote.Ref.{RefT, now}
+use Rattle.site_file.specs.declared.Reader.{Reader}
+use Rattle.site_file.specs.Bytes.{word}
+use Rattle.site_file.specs.File.{startIn, countIn, siteIn}
+use Rattle.site_file.specs.Calls.{contentsRefusal, siteRefusal, siteTold}
+use Rattle.site_file.specs.Held.{heldStart, ownStarts, heldRefusal, heldTold}
+use Rattle.site_file.proofs.Contents.{first-refusal}
+
+pub held-first : (first second : ℕ) {r : ℕ} {w : Which} → w ≡ First → r ≡ first → r ≡ heldStart first second w
+unfolding heldStart
+held-first first second e p = rw e p
+
+pub held-second : (first second : ℕ) {r : ℕ} {w : Which} → w ≡ Second → r ≡ second → r ≡ heldStart first second w
+unfolding heldStart
+held-second first second e p = rw e p
+
+-- Held starts that are the file's.
+pub held-start : (file : List ℕ) (w : Which) {a b first second : ℕ} → a ≡ word file 0 → a ≡ first → b ≡ word file 8 → b ≡ second → heldStart first second w ≡ startIn file w
+unfolding heldStart startIn
+held-start file First p e q f = sym e ∙ p
+held-start file Second p e q f = sym f ∙ q
+
+module _ (file : List ℕ) (first second : ℕ) (w : Which) (place : ℕ) {r : ℕ} (p : r ≡ contentsRefusal file) where
+  pub held-refused : (r ≡ 0 → ⊥) → refused r ≡ heldTold file first second w place
+  unfolding heldTold heldRefusal
+  held-refused h = told-refused _ (rw (← p) (sym (first-refusal r _ h))) h
+
+  module _ (z : r ≡ 0) {a : ℕ} (pa : a ≡ word file 0) where
+    pub held-first-wrong : (a ≡ first → ⊥) → refused 10 ≡ heldTold file first second w place
+    unfolding heldTold heldRefusal ownStarts startIn tell orElse
+    held-first-wrong h = rw (← p, z, ← pa, ne-eqb a first h)
+
+    module _ (e : a ≡ first) {b : ℕ} (pb : b ≡ word file 8) where
+      pub held-second-wrong : (b ≡ second → ⊥) → refused 10 ≡ heldTold file first second w place
+      unfolding heldTold heldRefusal ownStarts startIn tell orElse
+      held-second-wrong h = rw (← p, z, ← pa, eq-eqb a first e, ← pb, ne-eqb b second h)
+
+      module _ (f : b ≡ second) {n : ℕ} (pn : n ≡ countIn file w) where
+        pub held-past : n ≤ place → refused 8 ≡ heldTold file first second w place
+        unfolding heldTold heldRefusal ownStarts startIn tell orElse
+        held-past h = rw (← p, z, ← pa, eq-eqb a first e, ← pb, eq-eqb b second f, ← pn, le-leb n place h)
+
+        pub held-found : place < n → {k : ℕ} {s : Site} → k ≡ heldStart first second w → s ≡ siteIn file (k + 12 * place) → answered s ≡ heldTold file first second w place
+        unfolding heldTold heldRefusal ownStarts startIn tell orElse
+        held-found h pk ps =
+            rw (
+              ← p,
+              z,
+              ← pa,
+              eq-eqb a first e,
+              ← pb,
+              eq-eqb b second f,
+              ← pn,
+              lt-leb n place h,
+              ← pk,
+              ← ps,
+            )
+
+-- Through its own starts a file is consulted as by itself.
+own-start : (file : List ℕ) (w : Which) → heldStart (startIn file First) (startIn file Second) w ≡ startIn file w
+unfolding heldStart
+own-start file First = refl
+own-start file Second = refl
+
+pub held-own : (file : List ℕ) (w : Which) (place : ℕ) → heldTold file (startIn file First) (startIn file Second) w place ≡ siteTold file w place
+unfolding heldTold heldRefusal siteTold siteRefusal ownStarts orElse
+held-own file w place =
+    rw (
+      eq-eqb (startIn file First) (startIn file First) refl,
+      eq-eqb (startIn file Second) (startIn file Second) refl,
+      own-start file w,
+    )
+
+-- A reader that holds a file and its own starts.
+pub held-by : (r : Reader) (s : RefT (List ℕ)) (w : Which) (place : ℕ) → r .file ≡ s → r .first ≡ startIn (now s) First → r .second ≡ startIn (now s) Second → heldTold (now (r .file)) (r .first) (r .second) w place ≡ siteTold (now s) w place
+held-by r s w place e f g = rw (e, f, g) (held-own (now s) w place)

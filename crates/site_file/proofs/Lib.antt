@@ -1,0 +1,10 @@
+-- The laws of site files.
+pub mod Stored
+pub mod Bytes
+pub mod File
+pub mod Contents
+pub mod Writing
+pub mod Held
+pub mod Words
+pub mod Bodies
+pub mod RoundTrip

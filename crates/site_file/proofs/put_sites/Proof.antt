@@ -1,0 +1,93 @@
+-- `site_file::put_sites` meets its contract: what is left to store, stored after what was, is the whole body.
+use mathlib.Core.Path.{_≡_, refl, _∙_}
+use Prim.Native.Nat.{_+_, _-_, _*_, _≤_}
+use native.Mathlib.Omega.{arith}
+use borrow.Author.Needs.{needs}
+use lib.ListN.{length, drop}
+use Rattle.site.specs.SiteList.{columns, sites}
+use Rattle.site_file.specs.Stored.{stored}
+use Rattle.site_file.specs.File.{bodyBytes}
+use Rattle.site_file.proofs.File.{sites-step, sites-end}
+use Rattle.site_file.proofs.put_sites.Statement.{statement}
+use Rattle.site_file.proofs.put_sites.Tie as tie
+
+abbrev Inv-loop : tie.InvT-loop
+Inv-loop buffer₀ start x y number at₀ i₀ buffer at i =
+    (at ≡ start + 12 * i)
+    × (i ≤ length x)
+    × (length buffer ≡ length buffer₀)
+    × (stored at (bodyBytes (sites (columns (drop i x) (drop i y) (drop i number)))) buffer
+    ≡ stored start (bodyBytes (sites (columns x y number))) buffer₀)
+
+abbrev μ-loop : tie.MeasureT-loop
+μ-loop buffer₀ start x y number at₀ i₀ buffer at i = length x - i
+
+loop-holds : tie.Need-loop-holds Inv-loop μ-loop
+loop-holds c =
+    (search needs, search needs, refl, refl)
+
+mul-put-site : tie.Need-mul-put-site Inv-loop μ-loop
+mul-put-site c = search needs
+
+shared-slice-copy-out-put-site : tie.Need-shared-slice-copy-out-put-site Inv-loop μ-loop
+shared-slice-copy-out-put-site c = search needs
+
+mul-put-site-2 : tie.Need-mul-put-site-2 Inv-loop μ-loop
+mul-put-site-2 c = search needs
+
+shared-slice-copy-out-put-site-2 : tie.Need-shared-slice-copy-out-put-site-2 Inv-loop μ-loop
+shared-slice-copy-out-put-site-2 c = search needs
+
+mul-put-site-3 : tie.Need-mul-put-site-3 Inv-loop μ-loop
+mul-put-site-3 c = search needs
+
+shared-slice-read-put-site : tie.Need-shared-slice-read-put-site Inv-loop μ-loop
+shared-slice-read-put-site c = search needs
+
+put-site-requires : tie.Need-put-site-requires Inv-loop μ-loop
+put-site-requires c κs = search needs
+
+add-at : tie.Need-add-at Inv-loop μ-loop
+add-at c = search needs
+
+add-i : tie.Need-add-i Inv-loop μ-loop
+add-i c = search needs
+
+loop-less : tie.Need-loop-less Inv-loop μ-loop
+loop-less c = search needs
+
+loop-again : tie.Need-loop-again Inv-loop μ-loop
+loop-again c = (
+  search needs,
+  search needs,
+  c .before .before .put-site .kept .0 ∙ c .before .before .before .before .before .before .before .before .loop .inv .2,
+  sites-step _ _ _ _ _ _ (omega arith) (c .before .before .before .before .before .before .before .loop-test .taken) (c .before .before .before .before .before .before .before .before .before .before .before .pre .1 .0) (c .before .before .before .before .before .before .before .before .before .before .before .pre .1 .1) (record { sfits = c .before .before .before .before .before .put-site-arg2 .given }) (record { sfits = c .before .before .before .before .put-site-arg3 .given }) (c .before .before .put-site .ensures) ∙ c .before .before .before .before .before .before .before .before .loop .inv .3,
+)
+
+same-length : tie.Need-same-length Inv-loop μ-loop
+same-length c = search needs
+
+returns : tie.Need-returns Inv-loop μ-loop
+returns c =
+    sites-end _ _ _ _ _ _ (c .loop-test .left) ∙ c .before .loop .inv .3
+
+pub put-sites-spec : {M : Type 1} → statement M
+put-sites-spec =
+    tie.close
+    (tie.spec
+    Inv-loop
+    μ-loop
+    loop-holds
+    mul-put-site
+    shared-slice-copy-out-put-site
+    mul-put-site-2
+    shared-slice-copy-out-put-site-2
+    mul-put-site-3
+    shared-slice-read-put-site
+    put-site-requires
+    add-at
+    add-i
+    loop-less
+    loop-again
+    same-length
+    returns)

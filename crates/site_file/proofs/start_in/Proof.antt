@@ -1,0 +1,28 @@
+-- `site_file::start_in` meets its contract.
+use Rattle.site_file.proofs.File.{start-first, start-second}
+use borrow.Author.Needs.{needs}
+use Rattle.site_file.proofs.start_in.Statement.{statement}
+use Rattle.site_file.proofs.start_in.Tie as tie
+
+enum-told : tie.Need-enum-told
+enum-told c = search needs
+
+word-at-requires : tie.Need-word-at-requires
+word-at-requires c κs = search needs
+
+enum-told-2 : tie.Need-enum-told-2
+enum-told-2 c = search needs
+
+word-at-requires-2 : tie.Need-word-at-requires-2
+word-at-requires-2 c κs = search needs
+
+returns : tie.Need-returns
+returns c = start-first _ (c .before .enum-told .given .1) (c .word-at .ensures)
+
+returns-2 : tie.Need-returns-2
+returns-2 c = start-second _ (c .before .enum-told2 .given .1) (c .word-at2 .ensures)
+
+pub start-in-spec : {M : Type 1} → statement M
+start-in-spec =
+    tie.close
+    (tie.spec enum-told word-at-requires enum-told-2 word-at-requires-2 returns returns-2)

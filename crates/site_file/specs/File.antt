@@ -1,0 +1,60 @@
+-- The bytes of a site file, and the sites in a file's bytes.
+use mathlib.Core.List.{List, [], _∷_, _++_, map}
+use Prim.Native.Nat.{ℕ, zero, suc, _+_, _*_}
+use lib.ListN.{length}
+use Rattle.site.specs.declared.Site.{Site}
+use Rattle.site.specs.SiteList.{Columns, columns, site}
+use Rattle.site_file.specs.declared.Which.{Which}
+use Rattle.site_file.specs.declared.Which.the-variants.{First, Second}
+use Rattle.site_file.specs.Bytes.{bytes4, word, unsigned, signed}
+
+-- "A site is x, y (two's complement) and number, 4 bytes each."
+unfoldable pub siteBytes : Site → List ℕ
+siteBytes s = bytes4 (unsigned (s .x)) ++ (bytes4 (unsigned (s .y)) ++ bytes4 (s .number))
+
+unfoldable pub bodyBytes : List Site → List ℕ
+bodyBytes [] = []
+bodyBytes (s ∷ l) = siteBytes s ++ bodyBytes l
+
+-- "The first start is 16, the second 16 + 12 × n, the file's length 16 + 12 × n + 12 × m exactly."
+abbrev pub firstStart : ℕ
+firstStart = 16
+
+unfoldable pub secondStart : ℕ → ℕ
+secondStart n = 16 + 12 * n
+
+unfoldable pub fileLength : ℕ → ℕ → ℕ
+fileLength n m = 16 + 12 * n + 12 * m
+
+-- "Contents: for each list, start (4 bytes) and site count (4 bytes)."
+unfoldable pub contentsBytes : ℕ → ℕ → List ℕ
+contentsBytes n m = bytes4 firstStart ++ (bytes4 n ++ (bytes4 (secondStart n) ++ bytes4 m))
+
+-- "A table of contents, then the bodies."
+unfoldable pub fileBytes : List Site → List Site → List ℕ
+fileBytes a b = contentsBytes (length a) (length b) ++ (bodyBytes a ++ bodyBytes b)
+
+-- What a file's contents say of a list: its start and its site count.
+unfoldable pub startIn : List ℕ → Which → ℕ
+startIn file First = word file 0
+startIn file Second = word file 8
+
+unfoldable pub countIn : List ℕ → Which → ℕ
+countIn file First = word file 4
+countIn file Second = word file 12
+
+-- The site whose bytes begin at a position.
+unfoldable pub siteIn : List ℕ → ℕ → Site
+siteIn file at = site (signed (word file at)) (signed (word file (at + 4))) (word file (at + 8))
+
+unfoldable pub sitesFrom : List ℕ → ℕ → ℕ → List Site
+sitesFrom file at zero = []
+sitesFrom file at (suc n) = siteIn file at ∷ sitesFrom file (at + 12) n
+
+-- The sites of one list of a file.
+unfoldable pub sitesIn : List ℕ → Which → List Site
+sitesIn file which = sitesFrom file (startIn file which) (countIn file which)
+
+-- The columns that some sites fill.
+unfoldable pub columnsOf : List Site → Columns
+columnsOf l = columns (map (λ s. s .x) l) (map (λ s. s .y) l) (map (λ s. s .number) l)
