@@ -1,0 +1,136 @@
+-- The text of two lists from their number columns and their K list.
+use mathlib.Core.Path.{_≡_, refl, sym, ap, _∙_}
+use mathlib.Core.Bool.{true}
+use mathlib.Core.List.{List, [], _∷_}
+use Prim.Native.Nat.{ℕ, zero, suc, _+_, _*_, _≤_}
+use native.Mathlib.Omega.{arith}
+use lib.IntN.{ℤ}
+use lib.ListN.{length, replicate}
+use borrow.Author.Tests.{leb-true}
+use lib.Dec.{leb}
+use Rattle.order.proofs.Best.{length-best}
+use Rattle.site.specs.SiteList.{Columns, Level, sites, zipSites}
+use Rattle.site.specs.Told.{orElse, unlessRefused}
+use Rattle.site.specs.Refusal.{listRefusal, listsRefusal}
+use Rattle.site.proofs.Cases.{and-second}
+use Rattle.site.proofs.Lawful.{orElse-first, orElse-second, accepted-few}
+use Rattle.site.proofs.Columns.{sites-length}
+use Rattle.entry.specs.declared.Entry.{Entry}
+use Rattle.entry.specs.Entry.{rankBefore, bestK}
+use Rattle.entry.specs.Results.{Results, results, entriesOf, holding, roomFor}
+use Rattle.entry.proofs.Columns.{room-lengths, lengths-room, entries-holding, room-holding}
+use Rattle.sweep.specs.declared.Way.{Way}
+use Rattle.sweep.specs.declared.Looks.{Looks}
+use Rattle.sweep.specs.declared.Distances.{Distances}
+use Rattle.sweep.specs.Strip.{whole, pairs}
+use Rattle.sweep.proofs.PlaceLaws.{length-whole-pairs}
+use Rattle.pairs.specs.declared.Listed.{Listed}
+use Rattle.pairs.specs.declared.Listed.the-variants.{Entries, Refused}
+use Rattle.pairs.specs.KList.{lawfulK, kList, kListRefusal, kListResults, kListTold, listedTold}
+use Rattle.site_file.proofs.Writing.{accepted-level}
+use Rattle.listing.specs.Put.{Put, Lawful}
+use Rattle.listing.proofs.Verdict.{refused-never, answered-values}
+use Rattle.listing.specs.Listing.{numberAt, numberIn, entryLines, entriesText, listingText}
+
+-- A site's number stands in the column of numbers.
+zip-number : (xs ys : List ℤ) (ns : List ℕ) (i : ℕ) → length ys ≡ length xs → length ns ≡ length xs → numberAt (zipSites xs ys ns) i ≡ numberIn ns i
+unfolding numberAt numberIn zipSites
+zip-number [] ys [] i p q = refl
+zip-number [] ys (n ∷ ns) i p q = absurd (omega arith)
+zip-number (x ∷ xs) [] ns i p q = absurd (omega arith)
+zip-number (x ∷ xs) (y ∷ ys) [] i p q = absurd (omega arith)
+zip-number (x ∷ xs) (y ∷ ys) (n ∷ ns) zero p q = refl
+zip-number (x ∷ xs) (y ∷ ys) (n ∷ ns) (suc i) p q = zip-number xs ys ns i (omega arith) (omega arith)
+
+pub site-number : (c : Columns) → Level c → (i : ℕ) → numberAt (sites c) i ≡ numberIn (c .number) i
+unfolding sites
+site-number c l i = zip-number (c .x) (c .y) (c .number) i (l .y) (l .number)
+
+-- The lines are the same where the numbers are.
+same-lines : (a b f g : ℕ → ℕ) → ((i : ℕ) → a i ≡ f i) → ((i : ℕ) → b i ≡ g i) → (rank : ℕ) (l : List Entry) → entryLines a b rank l ≡ entryLines f g rank l
+unfolding entryLines
+same-lines a b f g p q rank [] = refl
+same-lines a b f g p q rank (e ∷ l) = rw (p (e .first), q (e .second), same-lines a b f g p q (suc rank) l)
+
+pub listing-text : (k : ℕ) (a b : Columns) → Level a → Level b
+    → listingText k (sites a) (sites b) ≡ entriesText (length (a .number) * length (b .number)) (numberIn (a .number)) (numberIn (b .number)) (kList k (sites a) (sites b))
+unfolding listingText entriesText kList
+listing-text k a b p q =
+    rw (
+      length-whole-pairs (sites a) (sites b),
+      sites-length a p,
+      sites-length b q,
+      p .number,
+      q .number,
+      same-lines (numberAt (sites a)) (numberAt (sites b)) (numberIn (a .number)) (numberIn (b .number)) (site-number a p) (site-number b q) 1 _,
+    )
+
+-- ---- the K list in the result columns
+
+-- A K list of two lawful lists, into columns with room for it.
+module _ (way : Way) (a b : Columns) (k : ℕ) (r : Results) {buffer : List ℕ} (lawful : Lawful a b k buffer) (long : roomFor 4_096 r ≡ true) where
+  k-most : k ≤ 4_096
+  unfolding lawfulK
+  k-most = leb-true k 4_096 (and-second (leb 1 k) (leb k 4_096) (lawful .some))
+
+  enough : (n : ℕ) → n ≤ 4_096 → roomFor n r ≡ true
+  enough n h = let l = room-lengths 4_096 r long in lengths-room n r (omega arith) (omega arith) (omega arith)
+
+  none : kListRefusal a b k r ≡ 0
+  unfolding kListRefusal orElse
+  none = rw (lawful .lists, lawful .some, enough k k-most)
+
+  found : List Entry
+  found = kList k (sites a) (sites b)
+
+  few : length found ≤ 4_096
+  unfolding found kList bestK
+  few = omega (arith, k-most, length-best rankBefore k (pairs (whole (sites a)) (whole (sites b))))
+
+  level : (c : Columns) → listRefusal c ≡ 0 → (length (c .number) ≤ 65_535) × Level c
+  level c ok = let l = accepted-level c ok in (omega (arith, l .number, accepted-few c ok), l)
+
+  first : (length (a .number) ≤ 65_535) × Level a
+  unfolding listsRefusal
+  first = level a (orElse-first (listRefusal a) (listRefusal b) (lawful .lists))
+
+  second : (length (b .number) ≤ 65_535) × Level b
+  unfolding listsRefusal
+  second = level b (orElse-second (listRefusal a) (listRefusal b) (lawful .lists))
+
+  module _ {l : Listed} (told : listedTold l ≡ kListTold way a b k r) where
+    pub never-refused : {n : ℕ} → l ≡ Refused n → ⊥
+    unfolding listedTold kListTold
+    never-refused {n} e = refused-never _ n (kListRefusal a b k r) (sym (ap listedTold e) ∙ told) none
+
+    entries-count : {count : ℕ} {looks : Looks} {distances : Distances} → l ≡ Entries count looks distances → count ≡ length found
+    unfolding listedTold kListTold found
+    entries-count e =
+        ap (λ v. v .count) (answered-values _ _ (kListRefusal a b k r) (sym (ap listedTold e) ∙ told) none)
+
+    module _ {count : ℕ} {looks : Looks} {distances : Distances} (e : l ≡ Entries count looks distances) {s : Results} (held : s ≡ kListResults a b k r) where
+      columns-held : s ≡ holding found r
+      unfolding kListResults unlessRefused found
+      columns-held = rw none at held
+
+      -- What the text is written from.
+      pub text-ready : (roomFor count s ≡ true) × ((length (a .number) ≤ 65_535) × (length (b .number) ≤ 65_535) × (51 + 84 * count ≤ length buffer))
+      text-ready =
+          let size = entries-count e in (
+            rw (columns-held, size) (room-holding (length found) found r (enough (length found) few) (omega arith)),
+            (first .0, second .0, omega (arith, lawful .room, few, size)),
+          )
+
+      pub text-written : {z : ℕ} {before after : List ℕ}
+          → Put 0 (entriesText (length (a .number) * length (b .number)) (numberIn (a .number)) (numberIn (b .number)) (entriesOf count s)) before after z
+          → Put 0 (listingText k (sites a) (sites b)) before after z
+      unfolding found
+      text-written p =
+          let same : entriesOf count s ≡ kList k (sites a) (sites b) =
+          rw (columns-held, entries-count e) (entries-holding found r) in
+          rw (listing-text k a b (first .1) (second .1), ← same) p
+
+-- Result columns of 4,096 zeros have room.
+pub zeros-room : roomFor 4_096 (results (replicate 4_096 0) (replicate 4_096 0) (replicate 4_096 0)) ≡ true
+unfolding roomFor
+zeros-room = refl

@@ -1,0 +1,24 @@
+-- The refusal that reading a file answers.
+use Rattle.listing.proofs.Verdict.{read-none, read-number}
+use borrow.Author.Needs.{needs}
+use Rattle.listing.proofs.file_refusal.Statement.{statement}
+use Rattle.listing.proofs.file_refusal.Tie as tie
+
+read-requires : tie.Need-read-requires
+read-requires c κs = search needs
+
+enum-told : tie.Need-enum-told
+enum-told c = search needs
+
+enum-known-number : tie.Need-enum-known-number
+enum-known-number c = search needs
+
+returns : tie.Need-returns
+returns c = read-none _ (c .before .before .read .ensures) (c .enum-told .given .1)
+
+returns-2 : tie.Need-returns-2
+returns-2 c = read-number _ (c .before .before .before .read .ensures) (c .before .number .given .1)
+
+pub file-refusal-spec : {M : Type 1} → statement M
+file-refusal-spec =
+    tie.close (tie.spec read-requires enum-told enum-known-number returns returns-2)

@@ -1,0 +1,54 @@
+-- The tests of an input, one after another.
+use Rattle.listing.proofs.Verdict.{input-long, input-short, input-file, input-small, input-large, input-right}
+use borrow.Author.Needs.{needs}
+use Rattle.listing.proofs.input_refusal.Statement.{statement}
+use Rattle.listing.proofs.input_refusal.Tie as tie
+
+returns : tie.Need-returns
+returns c = input-long _ (search needs)
+
+returns-2 : tie.Need-returns-2
+returns-2 c = input-short _ (search needs)
+
+sub-file-refusal : tie.Need-sub-file-refusal
+sub-file-refusal c = search needs
+
+part-file-refusal-start : tie.Need-part-file-refusal-start
+part-file-refusal-start c = search needs
+
+part-file-refusal-end : tie.Need-part-file-refusal-end
+part-file-refusal-end c = search needs
+
+file-refusal-requires : tie.Need-file-refusal-requires
+file-refusal-requires c κs = search needs
+
+returns-3 : tie.Need-returns-3
+returns-3 c = input-file _ (search needs) (search needs) (c .before .file-refusal .ensures) (c .if3 .taken)
+
+word-at-requires : tie.Need-word-at-requires
+word-at-requires c κs = search needs
+
+returns-4 : tie.Need-returns-4
+returns-4 c = input-small _ (search needs) (search needs) (c .before .before .before .file-refusal .ensures) (c .before .before .if3 .left) (c .before .word-at .ensures) (c .if4 .taken)
+
+returns-5 : tie.Need-returns-5
+returns-5 c = input-large _ (search needs) (search needs) (c .before .before .before .before .file-refusal .ensures) (c .before .before .before .if3 .left) (c .before .before .word-at .ensures) (search needs)
+
+returns-6 : tie.Need-returns-6
+returns-6 c = input-right _ (search needs) (search needs) (c .before .before .before .before .file-refusal .ensures) (c .before .before .before .if3 .left) (c .before .before .word-at .ensures) (c .before .if4 .left) (search needs)
+
+pub input-refusal-spec : {M : Type 1} → statement M
+input-refusal-spec =
+    tie.close
+    (tie.spec
+    returns
+    returns-2
+    sub-file-refusal
+    part-file-refusal-start
+    part-file-refusal-end
+    file-refusal-requires
+    returns-3
+    word-at-requires
+    returns-4
+    returns-5
+    returns-6)

@@ -1,0 +1,54 @@
+-- Both lists read into columns, and their text.
+use Rattle.listing.proofs.Reading.{read-lawful, read-text}
+use borrow.Author.Needs.{needs}
+use Rattle.listing.proofs.list_sites.Statement.{statement}
+use Rattle.listing.proofs.list_sites.Tie as tie
+
+read-sites-requires : tie.Need-read-sites-requires
+read-sites-requires c κs = (c .before .before .before .before .before .before .before .pre .0 .inside .0, (c .before .before .before .before .before .before .before .pre .1 .0 .x, c .before .before .before .before .before .before .before .pre .1 .0 .y, c .before .before .before .before .before .before .before .pre .1 .0 .number))
+
+read-sites-requires-2 : tie.Need-read-sites-requires-2
+read-sites-requires-2 c κs = (c .before .before .before .before .before .before .before .before .before .before .before .before .before .before .before .pre .0 .inside .1, (c .before .before .before .before .before .before .before .before .before .before .before .before .before .before .before .pre .1 .1 .x, c .before .before .before .before .before .before .before .before .before .before .before .before .before .before .before .pre .1 .1 .y, c .before .before .before .before .before .before .before .before .before .before .before .before .before .before .before .pre .1 .1 .number))
+
+list-columns-requires : tie.Need-list-columns-requires
+list-columns-requires c κs = read-lawful _ _ _ _ _ _ (c .before .before .before .before .before .before .before .before .before .before .before .before .before .before .before .before .before .before .before .read-sites .ensures) (c .before .before .before .before .before .before .before .before .before .before .before .read-sites2 .ensures) (c .before .before .before .before .before .before .before .before .before .before .before .before .before .before .before .before .before .before .before .before .before .before .before .before .before .before .before .pre .0)
+
+same-length : tie.Need-same-length
+same-length c = search needs
+
+same-length-2 : tie.Need-same-length-2
+same-length-2 c = search needs
+
+same-length-3 : tie.Need-same-length-3
+same-length-3 c = search needs
+
+same-length-4 : tie.Need-same-length-4
+same-length-4 c = search needs
+
+same-length-5 : tie.Need-same-length-5
+same-length-5 c = search needs
+
+same-length-6 : tie.Need-same-length-6
+same-length-6 c = search needs
+
+same-length-7 : tie.Need-same-length-7
+same-length-7 c = search needs
+
+returns : tie.Need-returns
+returns c = read-text _ _ _ _ _ _ (c .before .before .before .before .before .before .before .before .before .before .before .before .before .before .before .before .before .before .before .before .before .before .read-sites .ensures) (c .before .before .before .before .before .before .before .before .before .before .before .before .before .before .read-sites2 .ensures) (c .before .before .list-columns .ensures)
+
+pub list-sites-spec : {M : Type 1} → statement M
+list-sites-spec =
+    tie.close
+    (tie.spec
+    read-sites-requires
+    read-sites-requires-2
+    list-columns-requires
+    same-length
+    same-length-2
+    same-length-3
+    same-length-4
+    same-length-5
+    same-length-6
+    same-length-7
+    returns)

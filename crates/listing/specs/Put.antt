@@ -1,0 +1,43 @@
+-- What the functions that write text into a lent buffer promise.
+use mathlib.Core.Path.{_≡_}
+use mathlib.Core.Bool.{true}
+use mathlib.Core.List.{List, map}
+use Prim.Native.Nat.{ℕ, _+_, _*_, _≤_, _<_}
+use lib.ListN.{length}
+use Rattle.site.specs.SiteList.{Columns}
+use Rattle.site.specs.Refusal.{contentRefusal, listsRefusal}
+use Rattle.pairs.specs.KList.{lawfulK}
+use Rattle.site_file.specs.File.{sitesFrom}
+use Rattle.site_file.specs.Stored.{stored}
+use Rattle.listing.specs.Decimal.{decimal, digitAt, powersBelow}
+
+-- The buffer holds the text from position `at` on and is otherwise as it was `before`; `next` is the position past the text.
+pub record Put (at : ℕ) (text before after : List ℕ) (next : ℕ) : Type 0 where
+  pub position : next ≡ at + length text
+  pub buffer : after ≡ stored at text before
+
+-- The number has `count` decimal digits.
+pub record Digits (n count : ℕ) : Type 0 where
+  pub least : 0 < count
+  pub most : count ≤ 20
+  pub digits : decimal n ≡ map (digitAt n) (powersBelow count)
+
+-- Two lists and a K that no test refuses, and a buffer with room for any text of them.
+pub record Lawful (a b : Columns) (k : ℕ) (buffer : List ℕ) : Type 0 where
+  pub lists : listsRefusal a b ≡ 0
+  pub some : lawfulK k ≡ true
+  pub room : 344_115 ≤ length buffer
+
+-- Columns of a given length.
+pub record Sized (n : ℕ) (c : Columns) : Type 0 where
+  pub x : length (c .x) ≡ n
+  pub y : length (c .y) ≡ n
+  pub number : length (c .number) ≡ n
+
+-- Two lists in a file and a K that no test refuses, and a buffer with room for any text of them.
+pub record FileLists (file : List ℕ) (first second n m k : ℕ) (buffer : List ℕ) : Type 0 where
+  pub few : (n ≤ 65_535) × (m ≤ 65_535)
+  pub inside : (first + 12 * n ≤ length file) × (second + 12 * m ≤ length file)
+  pub lawful : (contentRefusal (sitesFrom file first n) ≡ 0) × (contentRefusal (sitesFrom file second m) ≡ 0)
+  pub some : lawfulK k ≡ true
+  pub room : 344_115 ≤ length buffer
