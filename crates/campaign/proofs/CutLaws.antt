@@ -1,0 +1,157 @@
+-- Laws of lawful cut ends and of the strips that they make.
+use mathlib.Core.Path.{_≡_, refl, sym, ap, _∙_}
+use mathlib.Core.Bool.{true, false, _&&_, and-eq-true-iff}
+use mathlib.Core.List.{List, [], _∷_, _++_, map}
+use Prim.Native.Nat.{ℕ, zero, suc, _+_, _-_, _≤_, _<_}
+use native.Mathlib.Omega.{arith}
+use lib.Dec.{leb, ltb, eqb}
+use lib.ListN.{length, take, drop, getD}
+use lib.Seq.{take-add, drop-drop, take-all}
+use borrow.Author.Tests.{ltb-true, leb-true, eqb-true, le-leb, lt-leb}
+use Rattle.order.specs.Order.{ascending}
+use Rattle.order.specs.Lists.{keep, All}
+use Rattle.order.specs.Sorted.{Ascends}
+use Rattle.order.proofs.Order.{ltb-order}
+use Rattle.order.proofs.Lists.{all-at, all-weaken, keep-yes, keep-none}
+use Rattle.order.proofs.Sorted.{ascending-ascends}
+use Rattle.site.specs.declared.Site.{Site}
+use Rattle.sweep.specs.Strip.{whole, strip}
+use Rattle.sweep.proofs.PlaceLaws.{length-whole, length-strip-within}
+use Rattle.campaign.specs.Grid.{lastEnd, lawfulEnds, stripFrom, stripTo, stripAt, stripHolding, countFrom}
+use Rattle.campaign.proofs.Gathered.{gathered, gathered-map}
+
+-- What lawful ends of a list of `n` are.
+pub record Cut (n : ℕ) (ends : List ℕ) : Type 0 where
+  pub few : length ends ≤ 32
+  pub up : Ascends ltb (0 ∷ ends)
+  pub last : lastEnd ends ≡ n
+
+pub lawful-cut : (n : ℕ) (ends : List ℕ) → lawfulEnds n ends ≡ true → Cut n ends
+unfolding lawfulEnds
+lawful-cut n ends h =
+    let p = and-eq-true-iff (leb (length ends) 32) (ascending ltb (0 ∷ ends) && eqb (lastEnd ends) n) .0 h in
+    let q = and-eq-true-iff (ascending ltb (0 ∷ ends)) (eqb (lastEnd ends) n) .0 (p .1) in
+    record {
+      few = leb-true (length ends) 32 (p .0);
+      up = ascending-ascends ltb-order (0 ∷ ends) (q .0);
+      last = eqb-true (lastEnd ends) n (q .1);
+    }
+
+-- ---- ends that ascend from `from` on
+
+up-first : (from e : ℕ) (l : List ℕ) → Ascends ltb (from ∷ (e ∷ l)) → from < e
+unfolding Ascends All
+up-first from e l s = ltb-true from e (s .0 .0)
+
+up-rest : (from : ℕ) (l : List ℕ) → Ascends ltb (from ∷ l) → Ascends ltb l
+unfolding Ascends
+up-rest from l s = s .1
+
+-- Each end is at most the last.
+pub at-most-last : (l : List ℕ) (s : ℕ) → Ascends ltb l → s < length l → getD l s 0 ≤ lastEnd l
+unfolding lastEnd
+at-most-last [] s u h = absurd (omega arith)
+at-most-last (e ∷ []) zero u h = omega arith
+at-most-last (e ∷ []) (suc s) u h = absurd (omega arith)
+at-most-last (e ∷ (f ∷ l)) zero u h = omega (arith, up-first e f l u, at-most-last (f ∷ l) 0 (up-rest e (f ∷ l) u) (omega arith))
+at-most-last (e ∷ (f ∷ l)) (suc s) u h = at-most-last (f ∷ l) s (up-rest e (f ∷ l) u) (omega arith)
+
+last-from-zero : (ends : List ℕ) → lastEnd (0 ∷ ends) ≡ lastEnd ends
+unfolding lastEnd
+last-from-zero [] = refl
+last-from-zero (e ∷ l) = refl
+
+-- The first is below each other.
+first-least : (e : ℕ) (l : List ℕ) (s : ℕ) → Ascends ltb (e ∷ l) → s < length (e ∷ l) → e ≤ getD (e ∷ l) s 0
+unfolding Ascends
+first-least e l zero u h = omega arith
+first-least e l (suc s) u h = omega (arith, ltb-true e (getD l s 0) (all-at (λ x. ltb e x ≡ true) l s 0 (omega arith) (u .0)))
+
+-- A strip ends past its start.
+strip-up : (from : ℕ) (ends : List ℕ) (s : ℕ) → Ascends ltb (from ∷ ends) → s < length ends → getD (from ∷ ends) s 0 < getD ends s 0
+strip-up from [] s u h = absurd (omega arith)
+strip-up from (e ∷ l) zero u h = up-first from e l u
+strip-up from (e ∷ l) (suc s) u h = strip-up e l s (up-rest from (e ∷ l) u) (omega arith)
+
+-- No end past a place is at most it.
+past-place : (place e : ℕ) (l : List ℕ) → place < e → Ascends ltb (e ∷ l) → All (λ x. leb x place ≡ false) (e ∷ l)
+unfolding Ascends All
+past-place place e l h u = (
+  lt-leb e place h,
+  all-weaken (λ x. ltb e x ≡ true) (λ x. leb x place ≡ false) (λ x t. lt-leb x place (omega (arith, ltb-true e x t))) l (u .0),
+)
+
+-- As many ends are at most a place as its strip's number says.
+holding-from : (from : ℕ) (ends : List ℕ) (s place : ℕ) → Ascends ltb (from ∷ ends) → s < length ends
+    → getD (from ∷ ends) s 0 ≤ place → place < getD ends s 0 → length (keep (λ e. leb e place) ends) ≡ s
+holding-from from [] s place u h low high = absurd (omega arith)
+holding-from from (e ∷ l) zero place u h low high =
+    ap (λ (r : List ℕ). length r) (keep-none (λ x. leb x place) (e ∷ l) (past-place place e l high (up-rest from (e ∷ l) u)))
+holding-from from (e ∷ l) (suc s) place u h low high =
+    let least = first-least e l s (up-rest from (e ∷ l) u) (omega arith) in
+    rw (keep-yes (λ (x : ℕ). leb x place) e l (le-leb e place (omega arith)))
+    (ap suc (holding-from e l s place (up-rest from (e ∷ l) u) (omega arith) low high))
+
+-- ---- parts by ends
+
+cutPart : {A : Type 0} → ℕ → List ℕ → List A → ℕ → List A
+cutPart from ends w s = take (getD ends s 0 - getD (from ∷ ends) s 0) (drop (getD (from ∷ ends) s 0) w)
+
+pub count-suc : (i n : ℕ) → countFrom (suc i) n ≡ map suc (countFrom i n)
+unfolding countFrom
+count-suc i zero = refl
+count-suc i (suc n) = ap (λ (r : List ℕ). suc i ∷ r) (count-suc (suc i) n)
+
+last-one : (e : ℕ) → lastEnd (e ∷ []) ≡ e
+unfolding lastEnd
+last-one e = refl
+
+last-more : (e f : ℕ) (l : List ℕ) → lastEnd (e ∷ (f ∷ l)) ≡ lastEnd (f ∷ l)
+unfolding lastEnd
+last-more e f l = refl
+
+-- Parts by ends that ascend, one after the other: all from the first to the last.
+parts-from : {A : Type 0} (from : ℕ) (ends : List ℕ) (w : List A) → Ascends ltb (from ∷ ends)
+    → gathered (cutPart from ends w) (countFrom 0 (length ends)) ≡ take (lastEnd (from ∷ ends) - from) (drop from w)
+unfolding gathered countFrom cutPart
+parts-from from [] w u = let z : lastEnd (from ∷ []) - from ≡ 0 = omega (arith, last-one from) in rw z
+parts-from {A} from (e ∷ l) w u =
+    let tail = up-rest from (e ∷ l) u in
+    let less = up-first from e l u in
+    let most : e ≤ lastEnd (e ∷ l) = at-most-last (e ∷ l) 0 tail (omega arith) in
+    let split : lastEnd (from ∷ (e ∷ l)) - from ≡ (e - from) + (lastEnd (e ∷ l) - e) = omega (arith, last-more from e l) in
+    let on : from + (e - from) ≡ e = omega arith in
+    let rest : gathered (cutPart from (e ∷ l) w) (countFrom 1 (length l)) ≡ take (lastEnd (e ∷ l) - e) (drop e w) =
+    ap (gathered (cutPart from (e ∷ l) w)) (count-suc 0 (length l))
+    ∙ gathered-map (cutPart from (e ∷ l) w) suc (countFrom 0 (length l))
+    ∙ parts-from e l w tail in
+    ap (λ (r : List A). take (e - from) (drop from w) ++ r) rest
+    ∙ sym (ap (λ (n : ℕ). take n (drop from w)) split
+    ∙ take-add (e - from) (lastEnd (e ∷ l) - e) (drop from w)
+    ∙ ap (λ (r : List A). take (e - from) (drop from w) ++ take (lastEnd (e ∷ l) - e) r)
+    (drop-drop (e - from) from w ∙ ap (λ (n : ℕ). drop n w) on))
+
+-- ---- the strips of a list
+
+module _ (l : List Site) (ends : List ℕ) (cut : Cut (length l) ends) where
+  -- The strips, one after the other, are the whole list.
+  pub strips-whole : gathered (stripAt ends l) (countFrom 0 (length ends)) ≡ whole l
+  unfolding stripAt strip stripFrom stripTo cutPart
+  strips-whole =
+      parts-from 0 ends (whole l) (cut .up)
+      ∙ take-all (lastEnd (0 ∷ ends) - 0) (whole l) (omega (arith, last-from-zero ends, length-whole l, cut .last))
+
+  module _ (s : ℕ) (h : s < length ends) where
+    -- A strip lies inside its list.
+    pub strip-inside : (stripFrom ends s < stripTo ends s) × (stripTo ends s ≤ length l)
+    unfolding stripFrom stripTo
+    strip-inside = (strip-up 0 ends s (cut .up) h, omega (arith, at-most-last ends s (up-rest 0 ends (cut .up)) h, cut .last))
+
+    pub length-strip : length (stripAt ends l s) ≡ stripTo ends s - stripFrom ends s
+    unfolding stripAt
+    length-strip = length-strip-within (stripFrom ends s) (stripTo ends s) l (strip-inside .1)
+
+    -- The strip that holds a place of a strip is that strip.
+    pub strip-holds : (place : ℕ) → stripFrom ends s ≤ place → place < stripTo ends s → stripHolding ends place ≡ s
+    unfolding stripFrom stripTo stripHolding
+    strip-holds place low high = holding-from 0 ends s place (cut .up) h low high

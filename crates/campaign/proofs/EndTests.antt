@@ -1,0 +1,126 @@
+-- Cut ends taken one at a time: the test of them, the strip that holds a place, and the slots.
+use mathlib.Core.Path.{_≡_, refl, sym, ap, _∙_}
+use mathlib.Core.Bool.{Bool, true, false, _&&_}
+use mathlib.Core.List.{List, [], _∷_, _++_, append-assoc}
+use Prim.Native.Nat.{ℕ, zero, suc, _+_, _-_, _≤_, _<_}
+use native.Mathlib.Numerals.{add-one}
+use native.Mathlib.Omega.{arith}
+use lib.Dec.{leb, ltb, eqb}
+use lib.ListN.{length, getD, take, drop, set, replicate, length-take, drop-of-length-le}
+use lib.Seq.{drop-cons, take-suc, set-at, length-take-le, append-snoc, take-length}
+use borrow.Author.Tests.{lt-ltb, le-ltb, le-leb, lt-leb}
+use Rattle.order.specs.Order.{ascending}
+use Rattle.order.specs.Lists.{keep}
+use Rattle.order.proofs.Lists.{keep-yes, keep-no, keep-nil}
+use Rattle.campaign.specs.Grid.{lastEnd, lawfulEnds, stripHolding}
+use Rattle.campaign.specs.Calls.{slots}
+
+-- ---- lawful ends
+
+-- `last` is the end before place `i`: what the rest of the ends tells is what all tell.
+pub record Walked (ends : List ℕ) (last i : ℕ) : Type 0 where
+  pub order : ascending ltb (0 ∷ ends) ≡ ascending ltb (last ∷ drop i ends)
+  pub end : lastEnd ends ≡ lastEnd (last ∷ drop i ends)
+
+pub last-of : (ends : List ℕ) → lastEnd ends ≡ lastEnd (0 ∷ ends)
+unfolding lastEnd
+last-of [] = refl
+last-of (e ∷ l) = refl
+
+pub walked-none : (ends : List ℕ) → Walked ends 0 0
+walked-none ends = record { order = refl; end = last-of ends }
+
+ascending-on : (a b : ℕ) (l : List ℕ) → a < b → ascending ltb (a ∷ (b ∷ l)) ≡ ascending ltb (b ∷ l)
+unfolding ascending
+ascending-on a b l h = rw (lt-ltb a b h)
+
+ascending-off : (a b : ℕ) (l : List ℕ) → b ≤ a → ascending ltb (a ∷ (b ∷ l)) ≡ false
+unfolding ascending
+ascending-off a b l h = rw (le-ltb a b h)
+
+last-on : (a b : ℕ) (l : List ℕ) → lastEnd (a ∷ (b ∷ l)) ≡ lastEnd (b ∷ l)
+unfolding lastEnd
+last-on a b l = refl
+
+module _ (ends : List ℕ) (last i : ℕ) (inside : i < length ends) (w : Walked ends last i) where
+  rest : drop i ends ≡ getD ends i 0 ∷ drop (suc i) ends
+  rest = drop-cons ends i 0 inside
+
+  pub walked-more : last < getD ends i 0 → Walked ends (getD ends i 0) (i + 1)
+  walked-more h = record {
+    order = w .order ∙ rw (rest, add-one) (ascending-on last (getD ends i 0) (drop (suc i) ends) h);
+    end = w .end ∙ rw (rest, add-one) (last-on last (getD ends i 0) (drop (suc i) ends));
+  }
+
+  pub walked-falls : (n : ℕ) → length ends ≤ 32 → getD ends i 0 ≤ last → false ≡ lawfulEnds n ends
+  unfolding lawfulEnds
+  walked-falls n s h =
+      let off : ascending ltb (0 ∷ ends) ≡ false = w .order ∙ rw rest (ascending-off last (getD ends i 0) (drop (suc i) ends) h) in
+      simp (le-leb (length ends) 32 s, off)
+
+one : (a : ℕ) → ascending ltb (a ∷ []) ≡ true
+unfolding ascending
+one a = refl
+
+last-one : (a : ℕ) → lastEnd (a ∷ []) ≡ a
+unfolding lastEnd
+last-one a = refl
+
+pub walked-all : (n : ℕ) (ends : List ℕ) (last i : ℕ) → length ends ≤ i → length ends ≤ 32 → Walked ends last i → eqb last n ≡ lawfulEnds n ends
+unfolding lawfulEnds
+walked-all n ends last i h s w =
+    let none : drop i ends ≡ [] = drop-of-length-le ends h in
+    let order : ascending ltb (0 ∷ ends) ≡ true = w .order ∙ rw none (one last) in
+    let end : lastEnd ends ≡ last = w .end ∙ rw none (last-one last) in
+    simp (le-leb (length ends) 32 s, order, end)
+
+pub too-many : (n : ℕ) (ends : List ℕ) → 32 < length ends → false ≡ lawfulEnds n ends
+unfolding lawfulEnds
+too-many n ends h = simp (lt-leb (length ends) 32 h)
+
+-- ---- the strip that holds a place
+
+abbrev atMost : ℕ → ℕ → Bool
+atMost place e = leb e place
+
+pub held-none : (ends : List ℕ) (place : ℕ) → 0 + length (keep (λ e. leb e place) (drop 0 ends)) ≡ stripHolding ends place
+unfolding stripHolding
+held-none ends place = omega arith
+
+module _ (ends : List ℕ) (place before i : ℕ) (inside : i < length ends) where
+  rest-of : drop i ends ≡ getD ends i 0 ∷ drop (suc i) ends
+  rest-of = drop-cons ends i 0 inside
+
+  module _ (h : before + length (keep (λ e. leb e place) (drop i ends)) ≡ stripHolding ends place) where
+    pub held-one : getD ends i 0 ≤ place → before + 1 + length (keep (λ e. leb e place) (drop (i + 1) ends)) ≡ stripHolding ends place
+    held-one t =
+        let k : length (keep (atMost place) (drop i ends)) ≡ suc (length (keep (atMost place) (drop (suc i) ends))) =
+        rw (rest-of, keep-yes (atMost place) (getD ends i 0) (drop (suc i) ends) (le-leb (getD ends i 0) place t)) refl in
+        rw (add-one i) (omega arith)
+
+    pub held-other : place < getD ends i 0 → before + length (keep (λ e. leb e place) (drop (i + 1) ends)) ≡ stripHolding ends place
+    held-other t =
+        let k : length (keep (atMost place) (drop i ends)) ≡ length (keep (atMost place) (drop (suc i) ends)) =
+        rw (rest-of, keep-no (atMost place) (getD ends i 0) (drop (suc i) ends) (lt-leb (getD ends i 0) place t)) refl in
+        rw (add-one i) (omega arith)
+
+pub held-all : (ends : List ℕ) (place before i : ℕ) → length ends ≤ i
+    → before + length (keep (λ e. leb e place) (drop i ends)) ≡ stripHolding ends place → before ≡ stripHolding ends place
+held-all ends place before i h e =
+    let none : drop i ends ≡ [] = drop-of-length-le ends h in
+    let k : length (keep (atMost place) (drop i ends)) ≡ 0 = rw (none, keep-nil (atMost place)) refl in
+    omega arith
+
+-- ---- slots
+
+pub slots-more : (ends kept : List ℕ) (i : ℕ) → i < length ends → length ends ≤ 32 → kept ≡ take i ends ++ replicate (32 - i) 0
+    → set kept i (getD ends i 0) ≡ take (i + 1) ends ++ replicate (32 - (i + 1)) 0
+slots-more ends kept i h s e =
+    let one-less : 32 - i ≡ suc (32 - suc i) = omega arith in
+    let front : length (take i ends) ≡ i = length-take-le i ends (omega arith) in
+    rw (e, one-less, add-one i, set-at (take i ends) 0 (replicate (32 - suc i) 0) (getD ends i 0) i front, take-suc ends i 0 h)
+    (sym (append-snoc (take i ends) (getD ends i 0) (replicate (32 - suc i) 0)) ∙ simp append-assoc)
+
+pub slots-all : (ends kept : List ℕ) (i : ℕ) → i ≡ length ends → kept ≡ take i ends ++ replicate (32 - i) 0 → kept ≡ slots ends
+unfolding slots
+slots-all ends kept i h e = e ∙ rw (h, take-length ends)

@@ -1,0 +1,197 @@
+-- Laws of the jobs of a grid and of their pairs.
+use mathlib.Core.Path.{_≡_, refl, sym, ap, ap₂, _∙_}
+use mathlib.Core.Bool.{Bool, true, not}
+use mathlib.Core.List.{List, [], _∷_, _++_, append-nil, List·Memᴰ, List·Memᴰ·head, List·Memᴰ·tail}
+use mathlib.Core.List.{List·Permᴰ, List·Permᴰ·trans, Permᴰ·symm}
+use Prim.Native.Nat.{ℕ, zero, suc, _+_, _-_, _*_, _≤_, _<_}
+use native.Mathlib.Omega.{arith}
+use lib.Dec.{ltb}
+use lib.IntN.{pos}
+use lib.ListN.{length, length-append}
+use borrow.Author.Tests.{lt-ltb}
+use Rattle.order.specs.Order.{StrictOrder, on, lex}
+use Rattle.order.specs.Lists.{keep, All, Distinct}
+use Rattle.order.specs.Sorted.{Ascends}
+use Rattle.order.proofs.Order.{by-number, lex-order, strict, lex-less, lex-next, irrefl, ltb-order}
+use Rattle.order.proofs.Lists.{all-mem, all-weaken, keep-mem, mem-keep, perm-distinct, distinct-left, distinct-keep}
+use Rattle.order.proofs.Sorted.{ascends-distinct}
+use Rattle.site.specs.declared.Site.{Site}
+use Rattle.site.specs.Site.{squaredDistance}
+use Rattle.site.specs.SiteList.{site}
+use Rattle.entry.specs.declared.Entry.{Entry}
+use Rattle.sweep.specs.Strip.{whole, pair, product, pairs}
+use Rattle.sweep.proofs.ProductLaws.{perm-eq, mem-product, product-mem, length-product, product-ascends}
+use Rattle.sweep.proofs.PlaceLaws.{mem-pairs, mem-strip-pairs, whole-pairs-distinct}
+use Rattle.campaign.specs.Grid.{stripFrom, stripTo, stripAt, stripHolding, Job, jobOf, countFrom, jobs, jobPairs, jobsPairs, pairTotal}
+use Rattle.campaign.specs.Keeper.{siteAt}
+use Rattle.campaign.proofs.Gathered.{gathered, gathered-append, gathered-perm, gathered-mem, product-gathered, keep-split, members-perm}
+use Rattle.campaign.proofs.CutLaws.{Cut, strips-whole, length-strip, strip-holds}
+
+-- ---- the numbers of a count
+
+count-low : (i n : ℕ) → All (λ x. (i ≤ x) × (x < i + n)) (countFrom i n)
+unfolding countFrom All
+count-low i zero = tt
+count-low i (suc n) = (
+  (omega arith, omega arith),
+  all-weaken (λ x. (suc i ≤ x) × (x < suc i + n)) (λ x. (i ≤ x) × (x < i + suc n)) (λ x h. (omega arith, omega arith)) (countFrom (suc i) n) (count-low (suc i) n),
+)
+
+count-ascends : (i n : ℕ) → Ascends ltb (countFrom i n)
+unfolding countFrom Ascends
+count-ascends i zero = tt
+count-ascends i (suc n) = (
+  all-weaken (λ x. (suc i ≤ x) × (x < suc i + n)) (λ x. ltb i x ≡ true) (λ x h. lt-ltb i x (h .0)) (countFrom (suc i) n) (count-low (suc i) n),
+  count-ascends (suc i) n,
+)
+
+count-mem : (i n d : ℕ) → d < n → List·Memᴰ (i + d) (countFrom i n)
+unfolding countFrom
+count-mem i zero d h = absurd (omega arith)
+count-mem i (suc n) zero h = let e : i + 0 ≡ i = omega arith in List·Memᴰ·head e
+count-mem i (suc n) (suc d) h = let e : i + suc d ≡ suc i + d = omega arith in rw e (List·Memᴰ·tail (count-mem (suc i) n d (omega arith)))
+
+-- ---- jobs
+
+-- A job of the grid.
+pub record InGrid (rows cols : ℕ) (j : Job) : Type 0 where
+  pub row : j .first < rows
+  pub column : j .second < cols
+
+abbrev jobBefore : Job → Job → Bool
+jobBefore = lex (on ltb (λ j. j .first)) (on ltb (λ j. j .second))
+
+pub same-job : (i j : Job) → (i .first ≡ j .first) × (i .second ≡ j .second) → i ≡ j
+same-job i j h = λ t. record { first = h .0 t; second = h .1 t }
+
+job-order : StrictOrder jobBefore
+job-order = strict (lex-order (by-number (λ j. j .first)) (by-number (λ j. j .second))) same-job
+
+pub jobs-in-grid : (rows cols : ℕ) (j : Job) → List·Memᴰ j (jobs rows cols) → InGrid rows cols j
+unfolding jobs
+jobs-in-grid rows cols j m =
+    let w = mem-product jobOf (countFrom 0 rows) (countFrom 0 cols) m in
+    let r = all-mem (λ x. (0 ≤ x) × (x < 0 + rows)) (count-low 0 rows) (w .2) in
+    let c = all-mem (λ x. (0 ≤ x) × (x < 0 + cols)) (count-low 0 cols) (w .3) in
+    let e = w .4 in
+    record { row = omega (arith, ap (λ (i : Job). i .first) e); column = omega (arith, ap (λ (i : Job). i .second) e) }
+
+pub in-grid-jobs : (rows cols : ℕ) (j : Job) → InGrid rows cols j → List·Memᴰ j (jobs rows cols)
+unfolding jobs
+in-grid-jobs rows cols j h =
+    let r : List·Memᴰ (0 + j .first) (countFrom 0 rows) = count-mem 0 rows (j .first) (h .row) in
+    let c : List·Memᴰ (0 + j .second) (countFrom 0 cols) = count-mem 0 cols (j .second) (h .column) in
+    let e : 0 + j .first ≡ j .first = omega arith in
+    let f : 0 + j .second ≡ j .second = omega arith in
+    product-mem jobOf (countFrom 0 rows) (countFrom 0 cols) (rw e at r) (rw f at c)
+
+pub jobs-distinct : (rows cols : ℕ) → Distinct (jobs rows cols)
+unfolding jobs
+jobs-distinct rows cols =
+    ascends-distinct job-order (product jobOf (countFrom 0 rows) (countFrom 0 cols))
+    (product-ascends jobOf ltb ltb jobBefore
+    (λ i k j l h. lex-less (on ltb (λ x. x .first)) (on ltb (λ x. x .second)) (jobOf i j) (jobOf k l) h)
+    (λ i j l h. lex-next (on ltb (λ x. x .first)) (on ltb (λ x. x .second)) (jobOf i j) (jobOf i l) (irrefl ltb-order i) (irrefl ltb-order i) ∙ h)
+    (countFrom 0 rows) (countFrom 0 cols) (count-ascends 0 rows) (count-ascends 0 cols))
+
+-- Some jobs of the grid, each once, are those that a test of being among them keeps.
+pub kept-jobs : (rows cols : ℕ) (test : Job → Bool) (l : List Job) → Distinct l → All (InGrid rows cols) l
+    → ((j : Job) → test j ≡ true → List·Memᴰ j l) → ((j : Job) → List·Memᴰ j l → test j ≡ true)
+    → List·Permᴰ l (keep test (jobs rows cols))
+kept-jobs rows cols test l d inside f g =
+    members-perm job-order l (keep test (jobs rows cols)) d (distinct-keep test (jobs rows cols) (jobs-distinct rows cols))
+    (λ j m. mem-keep test (jobs rows cols) (in-grid-jobs rows cols j (all-mem (InGrid rows cols) inside m)) (g j m))
+    (λ j m. f j (keep-mem test (jobs rows cols) m .1))
+
+-- ---- pairs of jobs
+
+-- An entry of a job's pairs: its places are inside, its squared distance is theirs, and their strips are the job's.
+pub record OfJob (ends ends' : List ℕ) (a b : List Site) (j : Job) (e : Entry) : Type 0 where
+  pub first : e .first < length a
+  pub second : e .second < length b
+  pub distance : e .distance ≡ squaredDistance (siteAt a (e .first)) (siteAt b (e .second))
+  pub holding : stripHolding ends (e .first) ≡ j .first
+  pub holding' : stripHolding ends' (e .second) ≡ j .second
+
+module _ (ends ends' : List ℕ) (a b : List Site) where
+  pairs-gathered : (l : List Job) → jobsPairs ends ends' a b l ≡ gathered (jobPairs ends ends' a b) l
+  unfolding jobsPairs gathered
+  pairs-gathered [] = refl
+  pairs-gathered (j ∷ l) = ap (λ (r : List Entry). jobPairs ends ends' a b j ++ r) (pairs-gathered l)
+
+  pub jobs-pairs-append : (l m : List Job) → jobsPairs ends ends' a b (l ++ m) ≡ jobsPairs ends ends' a b l ++ jobsPairs ends ends' a b m
+  jobs-pairs-append l m = rw (pairs-gathered (l ++ m), pairs-gathered l, pairs-gathered m) (gathered-append (jobPairs ends ends' a b) l m)
+
+  pairs-one : (j : Job) → jobsPairs ends ends' a b (j ∷ []) ≡ jobPairs ends ends' a b j
+  unfolding jobsPairs
+  pairs-one j = append-nil (jobPairs ends ends' a b j)
+
+  -- One job more.
+  pub jobs-pairs-snoc : (l : List Job) (j : Job) → jobsPairs ends ends' a b (l ++ (j ∷ [])) ≡ jobsPairs ends ends' a b l ++ jobPairs ends ends' a b j
+  jobs-pairs-snoc l j = jobs-pairs-append l (j ∷ []) ∙ ap (λ (r : List Entry). jobsPairs ends ends' a b l ++ r) (pairs-one j)
+
+  -- The sequence of the jobs is free.
+  pub jobs-pairs-perm : {l m : List Job} → List·Permᴰ l m → List·Permᴰ (jobsPairs ends ends' a b l) (jobsPairs ends ends' a b m)
+  jobs-pairs-perm {l} {m} p = rw (pairs-gathered l, pairs-gathered m) (gathered-perm (jobPairs ends ends' a b) p)
+
+  module _ (cut : Cut (length a) ends) (cut' : Cut (length b) ends') where
+    -- The pairs of all jobs are all pairs.
+    pub grid-pairs : List·Permᴰ (pairs (whole a) (whole b)) (jobsPairs ends ends' a b (jobs (length ends) (length ends')))
+    unfolding jobs pairs jobPairs
+    grid-pairs =
+        let p = product-gathered pair jobOf (jobPairs ends ends' a b) (stripAt ends a) (stripAt ends' b) (λ i j. refl)
+        (countFrom 0 (length ends)) (countFrom 0 (length ends')) in
+        List·Permᴰ·trans
+        (perm-eq (ap₂ (product pair) (sym (strips-whole a ends cut)) (sym (strips-whole b ends' cut'))))
+        (List·Permᴰ·trans p (perm-eq (sym (pairs-gathered (jobs (length ends) (length ends'))))))
+
+    -- No pair stands twice among the pairs of distinct jobs.
+    pub jobs-pairs-distinct : (test : Job → Bool) (l : List Job) → List·Permᴰ l (keep test (jobs (length ends) (length ends')))
+        → Distinct (jobsPairs ends ends' a b l)
+    jobs-pairs-distinct test l p =
+        let grid = jobs (length ends) (length ends') in
+        let kept = keep test grid in
+        let others = keep (λ j. not (test j)) grid in
+        let all : Distinct (jobsPairs ends ends' a b (kept ++ others)) =
+        perm-distinct (jobs-pairs-perm (keep-split test grid)) (perm-distinct grid-pairs (whole-pairs-distinct a b)) in
+        let apart : Distinct (jobsPairs ends ends' a b kept ++ jobsPairs ends ends' a b others) = rw jobs-pairs-append at all in
+        perm-distinct (jobs-pairs-perm (Permᴰ·symm p)) (distinct-left (jobsPairs ends ends' a b kept) (jobsPairs ends ends' a b others) apart)
+
+    -- How many pairs a job has.
+    pub length-job : (j : Job) → InGrid (length ends) (length ends') j → length (jobPairs ends ends' a b j)
+        ≡ (stripTo ends (j .first) - stripFrom ends (j .first)) * (stripTo ends' (j .second) - stripFrom ends' (j .second))
+    unfolding jobPairs pairs
+    length-job j h =
+        rw (
+          length-product pair (stripAt ends a (j .first)) (stripAt ends' b (j .second)),
+          length-strip a ends cut (j .first) (h .row),
+          length-strip b ends' cut' (j .second) (h .column),
+        )
+
+    -- The pair total is the number of the pairs.
+    pub pair-total : (l : List Job) → All (InGrid (length ends) (length ends')) l → pairTotal ends ends' l ≡ length (jobsPairs ends ends' a b l)
+    unfolding pairTotal jobsPairs All
+    pair-total [] h = refl
+    pair-total (j ∷ l) h =
+        rw (length-append (jobPairs ends ends' a b j) (jobsPairs ends ends' a b l), pair-total l (h .1), length-job j (h .0))
+
+    pub job-entry : (j : Job) → InGrid (length ends) (length ends') j → (e : Entry) → List·Memᴰ e (jobPairs ends ends' a b j)
+        → OfJob ends ends' a b j e
+    unfolding jobPairs stripAt siteAt
+    job-entry j g e m =
+        let w = mem-strip-pairs (stripFrom ends (j .first)) (stripTo ends (j .first)) (stripFrom ends' (j .second)) (stripTo ends' (j .second)) a b m in
+        let p = mem-pairs a b (site (pos 0) (pos 0) 0) (w .4) in
+        record {
+          first = p .first-below;
+          second = p .second-below;
+          distance = p .right;
+          holding = strip-holds a ends cut (j .first) (g .row) (e .first) (w .0) (w .1);
+          holding' = strip-holds b ends' cut' (j .second) (g .column) (e .second) (w .2) (w .3);
+        }
+
+    -- An entry of some jobs' pairs is of one of them.
+    pub jobs-entry : (l : List Job) → All (InGrid (length ends) (length ends')) l → (e : Entry) → List·Memᴰ e (jobsPairs ends ends' a b l)
+        → (j : Job) × List·Memᴰ j l × OfJob ends ends' a b j e
+    jobs-entry l h e m =
+        let w = gathered-mem (jobPairs ends ends' a b) l (rw pairs-gathered at m) in
+        (w .0, w .1, job-entry (w .0) (all-mem (InGrid (length ends) (length ends')) h (w .1)) e (w .2))

@@ -1,0 +1,20 @@
+-- The laws of cut ends, strips, jobs and marks, and examples.
+pub mod Gathered
+pub mod CutLaws
+pub mod GridLaws
+pub mod MarkLaws
+pub mod EndTests
+pub mod EndLaws
+pub mod MarkTests
+pub mod TallyLaws
+pub mod Walks
+pub mod ListLaws
+pub mod KeeperTests
+pub mod PlanTests
+pub mod SoundTests
+pub mod SoundLaws
+pub mod OpenTests
+pub mod GapLaws
+pub mod StripTests
+pub mod JobTests
+pub mod Examples

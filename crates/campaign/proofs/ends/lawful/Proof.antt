@@ -1,0 +1,77 @@
+-- `campaign::ends::lawful` meets its contract. The loop's invariant: the rest of the ends, after the last one passed, tells what all tell.
+use borrow.Author.Needs.{needs}
+use Prim.Native.Nat.{_-_, _≤_, _<_, _^_}
+use native.Mathlib.Omega.{arith}
+use lib.ListN.{length}
+use Rattle.campaign.proofs.EndTests.{Walked, walked-none, walked-more, walked-falls, walked-all, too-many}
+use Rattle.campaign.proofs.ends.lawful.Statement.{statement}
+use Rattle.campaign.proofs.ends.lawful.Tie as tie
+
+abbrev Inv-loop : tie.InvT-loop
+Inv-loop n ends last₀ i₀ last i = (i ≤ length ends) × (last < 2 ^ 32) × Walked ends last i
+
+abbrev μ-loop : tie.MeasureT-loop
+μ-loop n ends last₀ i₀ last i = length ends - i
+
+returns : tie.Need-returns Inv-loop μ-loop
+returns c = too-many _ _ (c .if1 .taken)
+
+loop-holds : tie.Need-loop-holds Inv-loop μ-loop
+loop-holds c = (search needs, search needs, walked-none _)
+
+mul-if2 : tie.Need-mul-if2 Inv-loop μ-loop
+mul-if2 c = search needs
+
+shared-slice-read-if2 : tie.Need-shared-slice-read-if2 Inv-loop μ-loop
+shared-slice-read-if2 c = search needs
+
+returns-2 : tie.Need-returns-2 Inv-loop μ-loop
+returns-2 c =
+    let l = c .before .before .before .loop in
+    walked-falls _ _ (l .i) (c .before .before .loop-test .taken) (l .inv .2) _ (c .before .before .before .before .if1 .left) (c .if2 .taken)
+
+mul-last : tie.Need-mul-last Inv-loop μ-loop
+mul-last c = search needs
+
+shared-slice-read-last : tie.Need-shared-slice-read-last Inv-loop μ-loop
+shared-slice-read-last c = search needs
+
+add-i : tie.Need-add-i Inv-loop μ-loop
+add-i c = search needs
+
+loop-less : tie.Need-loop-less Inv-loop μ-loop
+loop-less c = search needs
+
+loop-again : tie.Need-loop-again Inv-loop μ-loop
+loop-again c =
+    let l = c .before .before .before .before .loop in (
+      search needs,
+      omega (arith, c .shared-slice-known2 .given (l .i)),
+      walked-more _ _ (l .i) (c .before .before .before .loop-test .taken) (l .inv .2) (c .before .if2 .left),
+    )
+
+cast-result : tie.Need-cast-result Inv-loop μ-loop
+cast-result c = search needs
+
+returns-3 : tie.Need-returns-3 Inv-loop μ-loop
+returns-3 c =
+    walked-all _ _ _ _ (c .loop-test .left) (c .before .before .if1 .left) (c .before .loop .inv .2)
+
+pub lawful-spec : {M : Type 1} → statement M
+lawful-spec =
+    tie.close
+    (tie.spec
+    Inv-loop
+    μ-loop
+    returns
+    loop-holds
+    mul-if2
+    shared-slice-read-if2
+    returns-2
+    mul-last
+    shared-slice-read-last
+    add-i
+    loop-less
+    loop-again
+    cast-result
+    returns-3)

@@ -1,0 +1,62 @@
+-- `campaign::keeper::distance_at` meets its contract.
+use borrow.Author.Needs.{needs}
+use borrow.Author.Needs.{sfits-of}
+use lib.IntN.{ℤ}
+use mir.Facts.{toZ-ofZ}
+use Rattle.site.specs.Site.{squaredDistance}
+use Rattle.site.specs.SiteList.{site}
+use Rattle.site.proofs.Machine.{at₄}
+use borrow.Author.Needs.{needs}
+use Rattle.campaign.proofs.keeper.distance_at.Statement.{statement}
+use Rattle.campaign.proofs.keeper.distance_at.Tie as tie
+
+mul-squared-distance : tie.Need-mul-squared-distance
+mul-squared-distance c = search needs
+
+shared-slice-copy-out-squared-distance : tie.Need-shared-slice-copy-out-squared-distance
+shared-slice-copy-out-squared-distance c = search needs
+
+mul-squared-distance-2 : tie.Need-mul-squared-distance-2
+mul-squared-distance-2 c = search needs
+
+shared-slice-copy-out-squared-distance-2 : tie.Need-shared-slice-copy-out-squared-distance-2
+shared-slice-copy-out-squared-distance-2 c = search needs
+
+mul-squared-distance-3 : tie.Need-mul-squared-distance-3
+mul-squared-distance-3 c = search needs
+
+shared-slice-copy-out-squared-distance-3 : tie.Need-shared-slice-copy-out-squared-distance-3
+shared-slice-copy-out-squared-distance-3 c = search needs
+
+mul-squared-distance-4 : tie.Need-mul-squared-distance-4
+mul-squared-distance-4 c = search needs
+
+shared-slice-copy-out-squared-distance-4 : tie.Need-shared-slice-copy-out-squared-distance-4
+shared-slice-copy-out-squared-distance-4 c = search needs
+
+squared-distance-requires : tie.Need-squared-distance-requires
+squared-distance-requires c κs = search needs
+
+returns : tie.Need-returns
+returns c =
+    at₄ (λ (x y u v : ℤ). squaredDistance (site x y 0) (site u v 0))
+    (toZ-ofZ (sfits-of (c .before .before .before .before .squared-distance-arg .given)))
+    (toZ-ofZ (sfits-of (c .before .before .before .squared-distance-arg2 .given)))
+    (toZ-ofZ (sfits-of (c .before .before .squared-distance-arg3 .given)))
+    (toZ-ofZ (sfits-of (c .before .squared-distance-arg4 .given)))
+    (c .squared-distance .ensures)
+
+pub distance-at-spec : {M : Type 1} → statement M
+distance-at-spec =
+    tie.close
+    (tie.spec
+    mul-squared-distance
+    shared-slice-copy-out-squared-distance
+    mul-squared-distance-2
+    shared-slice-copy-out-squared-distance-2
+    mul-squared-distance-3
+    shared-slice-copy-out-squared-distance-3
+    mul-squared-distance-4
+    shared-slice-copy-out-squared-distance-4
+    squared-distance-requires
+    returns)

@@ -1,0 +1,119 @@
+-- `campaign::marks::row` meets its contract. The loop's invariant: the jobs counted and those of the columns left are the row's.
+use borrow.Author.Needs.{needs}
+use mathlib.Core.Path.{ap₂}
+use Rattle.campaign.specs.Grid.{jobOf}
+use Rattle.campaign.proofs.EndLaws.{lawful-parts}
+use Rattle.campaign.proofs.TallyLaws.{jobSize}
+use mathlib.Core.Path.{_≡_}
+use mathlib.Core.Logic.{⊎-elim}
+use Prim.Native.Nat.{_*_, _-_, _≤_, _<_}
+use native.Mathlib.Omega.{arith}
+use lib.ListN.{length}
+use Rattle.campaign.specs.Grid.{stripFrom, stripTo}
+use Rattle.campaign.proofs.TallyLaws.{Left, left-all, left-one, left-none, rowFrom, row-done, row-settled, row-open, size-low}
+use Rattle.campaign.proofs.marks.row.Statement.{statement}
+use Rattle.campaign.proofs.marks.row.Tie as tie
+
+abbrev Inv-loop : tie.InvT-loop
+Inv-loop marks first-ends a second-ends width jobs₀ pairs₀ b₀ jobs pairs b =
+    (b ≤ length second-ends) × (width ≡ stripTo first-ends a - stripFrom first-ends a) × (jobs ≤ b) × (pairs ≤ 4_294_836_225 * b) × Left first-ends second-ends (rowFrom marks a (length second-ends) 0) (rowFrom marks a (length second-ends) b) jobs pairs
+
+abbrev μ-loop : tie.MeasureT-loop
+μ-loop marks first-ends a second-ends width jobs₀ pairs₀ b₀ jobs pairs b = length second-ends - b
+
+-- A row's marks are among the 1,024.
+few : (c : tie.At-loop Inv-loop μ-loop) → (c .before .before .before .before .before .args .a < 32) × (length (c .before .before .before .before .before .args .second-ends .now) ≤ 32)
+few c =
+    let s = c .before .before .before .before .before in (
+      omega (arith, lawful-parts _ _ (s .pre .0 .lawful) .few, s .pre .2),
+      lawful-parts _ _ (s .pre .1 .lawful) .few,
+    )
+
+size : (c : tie.After-width2 Inv-loop μ-loop) → c .before .before .before .before .before .width .result * c .width2 .result ≡ jobSize (c .before .before .before .before .before .before .before .before .before .args .first-ends .now) (c .before .before .before .before .before .before .before .before .before .args .second-ends .now) (jobOf (c .before .before .before .before .before .before .before .before .before .args .a) (c .before .before .before .before .loop .b))
+size c = ap₂ _*_ (c .before .before .before .before .loop .inv .1) (c .width2 .ensures)
+
+width-requires : tie.Need-width-requires Inv-loop μ-loop
+width-requires c κs = (c .before .before .before .pre .0, c .before .before .before .pre .2)
+
+loop-holds : tie.Need-loop-holds Inv-loop μ-loop
+loop-holds c = (search needs, c .width .ensures, search needs, search needs, left-all _ _ _)
+
+mul-if1 : tie.Need-mul-if1 Inv-loop μ-loop
+mul-if1 c = omega (arith, few (c .before))
+
+add-if1 : tie.Need-add-if1 Inv-loop μ-loop
+add-if1 c = omega (arith, few (c .before))
+
+shared-slice-read-if1 : tie.Need-shared-slice-read-if1 Inv-loop μ-loop
+shared-slice-read-if1 c =
+    omega (arith, few (c .before .before), c .before .before .before .before .before .before .before .pre)
+
+add-jobs : tie.Need-add-jobs Inv-loop μ-loop
+add-jobs c = omega (arith, few (c .before .before .before))
+
+width-requires-2 : tie.Need-width-requires-2 Inv-loop μ-loop
+width-requires-2 c κs =
+    (c .before .before .before .before .before .before .before .before .pre .1, c .before .before .loop-test .taken)
+
+mul-pairs : tie.Need-mul-pairs Inv-loop μ-loop
+mul-pairs c =
+    let s = c .before .before .before .before .before .before .before .before .before in
+    omega (arith, size c, size-low _ _ (s .pre .0) (s .pre .1) (jobOf (s .args .a) (c .before .before .before .before .loop .b)))
+
+add-pairs : tie.Need-add-pairs Inv-loop μ-loop
+add-pairs c =
+    let s = c .before .before .before .before .before .before .before .before .before in
+    omega (arith, size c, few (c .before .before .before .before), size-low _ _ (s .pre .0) (s .pre .1) (jobOf (s .args .a) (c .before .before .before .before .loop .b)))
+
+add-b : tie.Need-add-b Inv-loop μ-loop
+add-b c = omega (arith, few (c .before .before .before))
+
+loop-less : tie.Need-loop-less Inv-loop μ-loop
+loop-less c = search needs
+
+loop-again : tie.Need-loop-again Inv-loop μ-loop
+loop-again c =
+    let l = c .before .before .before .loop in
+    let s = c .before .before .before .before .before .before .before .before in
+    let inside = c .before .before .loop-test .taken in
+    ⊎-elim
+    (λ w.
+    let is : c .before .before .before .before .width .result * w .1 .result ≡ jobSize (s .args .first-ends .now) (s .args .second-ends .now) (jobOf (s .args .a) (l .b)) = ap₂ _*_ (l .inv .1) (w .1 .ensures) in
+    let low = size-low _ _ (s .pre .0) (s .pre .1) (jobOf (s .args .a) (l .b)) in (
+      search needs,
+      l .inv .1,
+      omega (arith, w .2),
+      omega (arith, w .3),
+      rw (w .2, w .3) (left-one _ _ _ _ (jobOf (s .args .a) (l .b)) (row-settled _ _ _ _ inside (w .0 .taken)) is (l .inv .4)),
+    ))
+    (λ w. (
+      search needs,
+      l .inv .1,
+      omega (arith, w .1),
+      omega (arith, w .2),
+      rw (w .1, w .2) (left-none _ _ _ _ (row-open _ _ _ _ inside (w .0 .left)) (l .inv .4)),
+    ))
+    (c .if1 .came)
+
+returns : tie.Need-returns Inv-loop μ-loop
+returns c = row-done _ _ _ _ _ (c .before .loop .b) _ (c .loop-test .left) (c .before .loop .inv .4)
+
+pub row-spec : {M : Type 1} → statement M
+row-spec =
+    tie.close
+    (tie.spec
+    Inv-loop
+    μ-loop
+    width-requires
+    loop-holds
+    mul-if1
+    add-if1
+    shared-slice-read-if1
+    add-jobs
+    width-requires-2
+    mul-pairs
+    add-pairs
+    add-b
+    loop-less
+    loop-again
+    returns)

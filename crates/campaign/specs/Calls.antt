@@ -1,0 +1,166 @@
+-- What opening, a job and status answer, and what the campaign and the result columns then hold.
+use mathlib.Core.Bool.{Bool, true, false, not, cond, _&&_}
+use mathlib.Core.List.{List, _++_}
+use Prim.Native.Nat.{ℕ, zero, suc, _*_, _-_}
+use lib.Dec.{ltb}
+use lib.ListN.{length, set, replicate}
+use Rattle.site.specs.declared.Site.{Site}
+use Rattle.site.specs.Told.{Told, refused, answered, tell, unlessRefused, refuseIf, orElse}
+use Rattle.site.specs.Site.{square}
+use Rattle.site.specs.SiteList.{Columns, sites}
+use Rattle.site.specs.Refusal.{listsRefusal}
+use Rattle.entry.specs.declared.Entry.{Entry}
+use Rattle.entry.specs.Entry.{bestK}
+use Rattle.entry.specs.Results.{Results, entriesOf, holding, roomFor}
+use Rattle.sweep.specs.declared.Way.{Way}
+use Rattle.sweep.specs.Scan.{State, beyond}
+use Rattle.sweep.specs.Sweep.{sweep}
+use Rattle.pairs.specs.KList.{lawfulK}
+use Rattle.campaign.specs.declared.Campaign.{Campaign}
+use Rattle.campaign.specs.declared.Opened.{Opened}
+use Rattle.campaign.specs.declared.Outcome.{Outcome}
+use Rattle.campaign.specs.declared.Outcome.the-variants as outcome
+use Rattle.campaign.specs.declared.JobDone.{JobDone}
+use Rattle.campaign.specs.declared.Status.{Status}
+use Rattle.campaign.specs.declared.Status.the-variants as status
+use Rattle.campaign.specs.Grid.{lawfulEnds, stripAt, Job, jobOf, markOf, settled, settledJobs, jobPairs, stripGap}
+use Rattle.campaign.specs.Keeper.{firstEnds, secondEnds, campaignRefusal}
+
+-- "Opening tests for 1 to 6."
+unfoldable pub openRefusal : Columns → Columns → ℕ → List ℕ → List ℕ → Results → ℕ
+openRefusal a b k ends ends' r =
+    orElse (listsRefusal a b)
+    (orElse (refuseIf (not (lawfulK k)) 4)
+    (orElse (refuseIf (not (lawfulEnds (length (a .x)) ends && lawfulEnds (length (b .x)) ends')) 5)
+    (refuseIf (not (roomFor k r)) 6)))
+
+-- Ends in the 32 slots of a campaign; the unused slots are 0.
+unfoldable pub slots : List ℕ → List ℕ
+slots ends = ends ++ replicate (32 - length ends) 0
+
+-- "the campaign with entry count 0", "1,024 marks, one for each job, all 0 at opening".
+unfoldable pub newCampaign : ℕ → List ℕ → List ℕ → Campaign
+newCampaign k ends ends' =
+    record {
+      k = k;
+      entries = 0;
+      «first_strips» = length ends;
+      «second_strips» = length ends';
+      «first_ends» = slots ends;
+      «second_ends» = slots ends';
+      marks = replicate 1024 0;
+    }
+
+-- The campaign field of a refused opening: all 0.
+unfoldable pub noCampaign : Campaign
+noCampaign =
+    record {
+      k = 0;
+      entries = 0;
+      «first_strips» = 0;
+      «second_strips» = 0;
+      «first_ends» = replicate 32 0;
+      «second_ends» = replicate 32 0;
+      marks = replicate 1024 0;
+    }
+
+-- "opening, the campaign with entry count 0, no column touched", or the refusal.
+unfoldable pub openTold : Columns → Columns → ℕ → List ℕ → List ℕ → Results → Told Campaign
+openTold a b k ends ends' r = tell (openRefusal a b k ends ends' r) (newCampaign k ends ends')
+
+-- A job tests for 1, 2, 3 and 7, then "8: a strip number not below the strip count", then "9: the job is settled".
+unfoldable pub jobRefusal : Campaign → Columns → Columns → Results → Job → ℕ
+jobRefusal c a b r j =
+    orElse (campaignRefusal c a b r)
+    (orElse (refuseIf (not (ltb (j .first) (c .«first_strips») && ltb (j .second) (c .«second_strips»))) 8)
+    (refuseIf (settled (c .marks) j) 9))
+
+-- "A job is skipped exactly when the list has K entries and the gap squared is greater than the last squared distance."
+unfoldable pub skips : Campaign → List Site → List Site → List Entry → Job → Bool
+skips c a b l j =
+    beyond (c .k) l (square (stripGap (stripAt (firstEnds c) a (j .first)) (stripAt (secondEnds c) b (j .second))))
+
+-- "the list becomes the first K of its old entries and the job's pairs", swept or skipped.
+unfoldable pub jobEntries : Campaign → List Site → List Site → List Entry → Job → List Entry
+jobEntries c a b l j = bestK (c .k) (l ++ jobPairs (firstEnds c) (secondEnds c) a b j)
+
+-- "Either way it becomes settled." All else of the campaign stays.
+unfoldable pub afterJob : Campaign → ℕ → Job → Campaign
+afterJob c count j =
+    record {
+      k = c .k;
+      entries = count;
+      «first_strips» = c .«first_strips»;
+      «second_strips» = c .«second_strips»;
+      «first_ends» = c .«first_ends»;
+      «second_ends» = c .«second_ends»;
+      marks = set (c .marks) (markOf j) 1;
+    }
+
+-- "a job, the campaign, whether it was swept or skipped, looks and distances (both 0 when skipped)".
+pub record JobValues : Type 0 where
+  pub campaign : Campaign
+  pub swept : Bool
+  pub looks : ℕ
+  pub distances : ℕ
+
+unfoldable pub jobValues : Way → Campaign → List Site → List Site → List Entry → Job → JobValues
+jobValues way c a b l j =
+    let s = sweep way (c .k) (stripAt (firstEnds c) a (j .first)) (stripAt (secondEnds c) b (j .second)) l in
+    let skip = skips c a b l j in
+    record {
+      campaign = afterJob c (length (jobEntries c a b l j)) j;
+      swept = not skip;
+      looks = cond skip 0 (s .looks);
+      distances = cond skip 0 (s .distances);
+    }
+
+unfoldable pub jobTold : Way → Campaign → Columns → Columns → Results → Job → Told JobValues
+jobTold way c a b r j =
+    tell (jobRefusal c a b r j) (jobValues way c (sites a) (sites b) (entriesOf (c .entries) r) j)
+
+-- What the campaign and the result columns are after a job.
+unfoldable pub jobCampaign : Campaign → Columns → Columns → Results → Job → Campaign
+jobCampaign c a b r j =
+    unlessRefused (jobRefusal c a b r j) c
+    (afterJob c (length (jobEntries c (sites a) (sites b) (entriesOf (c .entries) r) j)) j)
+
+unfoldable pub jobResults : Campaign → Columns → Columns → Results → Job → Results
+jobResults c a b r j =
+    unlessRefused (jobRefusal c a b r j) r
+    (holding (jobEntries c (sites a) (sites b) (entriesOf (c .entries) r) j) r)
+
+-- "Status gives jobs settled, jobs in all, entries, and K."
+pub record StatusValues : Type 0 where
+  pub settled : ℕ
+  pub jobs : ℕ
+  pub entries : ℕ
+  pub k : ℕ
+
+unfoldable pub statusTold : Campaign → Columns → Columns → Results → Told StatusValues
+statusTold c a b r =
+    tell (campaignRefusal c a b r)
+    (record {
+      settled = length (settledJobs (c .marks) (c .«first_strips») (c .«second_strips»));
+      jobs = c .«first_strips» * c .«second_strips»;
+      entries = c .entries;
+      k = c .k;
+    })
+
+-- The paper's number and values for each case of each answer.
+unfoldable pub openedTold : Opened → Told Campaign
+openedTold o = tell (o .refusal) (o .campaign)
+
+unfoldable pub jobDoneTold : JobDone → Told JobValues
+jobDoneTold d = case (d .outcome)
+  where
+    case : Outcome → Told JobValues
+    case (outcome.Swept looks distances) =
+        answered (record { campaign = d .campaign; swept = true; looks = looks .0; distances = distances .0 })
+    case outcome.Skipped = answered (record { campaign = d .campaign; swept = false; looks = 0; distances = 0 })
+    case (outcome.Refused number) = refused number
+
+unfoldable pub statusOf : Status → Told StatusValues
+statusOf (status.Counts settled jobs entries k) =
+    answered (record { settled = settled; jobs = jobs; entries = entries; k = k })
+statusOf (status.Refused number) = refused number

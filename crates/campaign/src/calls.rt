@@ -1,0 +1,174 @@
+// The calls on a campaign.
+use super::Campaign;
+use super::JobDone;
+use super::Opened;
+use super::Outcome;
+use super::Status;
+use super::jobs;
+use super::keeper;
+use super::opening;
+use sweep::Way;
+ghost use mathlib.Core.Path.{_≡_};
+ghost use Rattle.site.specs.Told.{unlessRefused};
+ghost use Rattle.site.specs.SiteList.{columns};
+ghost use Rattle.entry.specs.Results.{results};
+ghost use Rattle.campaign.specs.Grid.{jobOf};
+ghost use Rattle.campaign.specs.Calls.{openRefusal, newCampaign, noCampaign, openTold, openedTold, statusTold, statusOf, jobTold, jobDoneTold, jobCampaign, jobResults};
+
+// Opens a campaign: K, the cut ends of each list, no job settled. No column is touched. (01: opening.)
+pub fn open(
+    ax: &[i32],
+    ay: &[i32],
+    an: &[u32],
+    bx: &[i32],
+    by: &[i32],
+    bn: &[u32],
+    k: u32,
+    first_ends: &[u32],
+    second_ends: &[u32],
+    distance: &[u64],
+    first: &[u32],
+    second: &[u32],
+) -> Opened
+    ensures { λ r. ⌜
+        openedTold r ≡ openTold (columns (now (ax .entry)) (now (ay .entry)) (now (an .entry)))
+        (columns (now (bx .entry)) (now (by .entry)) (now (bn .entry))) k (now («first_ends» .entry))
+        (now («second_ends» .entry)) (results (now (distance .entry)) (now (first .entry)) (now (second .entry)))
+        ⌝ }
+    ensures { λ r. ⌜
+        r .campaign ≡ unlessRefused (openRefusal (columns (now (ax .entry)) (now (ay .entry)) (now (an .entry)))
+        (columns (now (bx .entry)) (now (by .entry)) (now (bn .entry))) k (now («first_ends» .entry))
+        (now («second_ends» .entry)) (results (now (distance .entry)) (now (first .entry)) (now (second .entry))))
+        noCampaign (newCampaign k (now («first_ends» .entry)) (now («second_ends» .entry)))
+        ⌝ }
+{
+    let refusal = opening::refusal(
+        ax,
+        ay,
+        an,
+        bx,
+        by,
+        bn,
+        k,
+        first_ends,
+        second_ends,
+        distance,
+        first,
+        second,
+    );
+    if refusal != 0 {
+        return Opened {
+            refusal,
+            campaign: opening::none(),
+        };
+    }
+    Opened {
+        refusal,
+        campaign: opening::new(k, first_ends, second_ends),
+    }
+}
+
+// How far a campaign is: jobs settled, jobs in all, entries and K. (01: status.)
+pub fn status(
+    c: Campaign,
+    ax: &[i32],
+    ay: &[i32],
+    an: &[u32],
+    bx: &[i32],
+    by: &[i32],
+    bn: &[u32],
+    distance: &[u64],
+    first: &[u32],
+    second: &[u32],
+) -> Status
+    ensures { λ r. ⌜
+        statusOf r ≡ statusTold c (columns (now (ax .entry)) (now (ay .entry)) (now (an .entry)))
+        (columns (now (bx .entry)) (now (by .entry)) (now (bn .entry)))
+        (results (now (distance .entry)) (now (first .entry)) (now (second .entry)))
+        ⌝ }
+{
+    let refused = keeper::refusal(c, ax, ay, an, bx, by, bn, distance, first, second);
+    if refused != 0 {
+        return Status::Refused(refused);
+    }
+    Status::Counts {
+        settled: keeper::settled(c).jobs,
+        jobs: c.first_strips * c.second_strips,
+        entries: c.entries,
+        k: c.k,
+    }
+}
+
+// Settles one job: swept by the way named, or skipped. The list becomes the first K of its entries and the job's pairs. (01: job.)
+pub fn job(
+    c: Campaign,
+    ax: &[i32],
+    ay: &[i32],
+    an: &[u32],
+    bx: &[i32],
+    by: &[i32],
+    bn: &[u32],
+    distance: &mut [u64],
+    first: &mut [u32],
+    second: &mut [u32],
+    first_strip: u32,
+    second_strip: u32,
+    way: Way,
+) -> JobDone
+    ensures { λ r. ⌜
+        jobDoneTold r ≡ jobTold way c (columns (now (ax .entry)) (now (ay .entry)) (now (an .entry)))
+        (columns (now (bx .entry)) (now (by .entry)) (now (bn .entry)))
+        (results (now (distance .entry)) (now (first .entry)) (now (second .entry)))
+        (jobOf «first_strip» «second_strip»)
+        ⌝ }
+    ensures { λ r. ⌜
+        r .campaign ≡ jobCampaign c (columns (now (ax .entry)) (now (ay .entry)) (now (an .entry)))
+        (columns (now (bx .entry)) (now (by .entry)) (now (bn .entry)))
+        (results (now (distance .entry)) (now (first .entry)) (now (second .entry)))
+        (jobOf «first_strip» «second_strip»)
+        ⌝ }
+    ensures { λ r. ⌜
+        (results (now (distance .exit)) (now (first .exit)) (now (second .exit))) ≡ jobResults c
+        (columns (now (ax .entry)) (now (ay .entry)) (now (an .entry)))
+        (columns (now (bx .entry)) (now (by .entry)) (now (bn .entry)))
+        (results (now (distance .entry)) (now (first .entry)) (now (second .entry)))
+        (jobOf «first_strip» «second_strip»)
+        ⌝ }
+{
+    let s = first_strip;
+    let t = second_strip;
+    let refused = jobs::refusal(c, ax, ay, an, bx, by, bn, distance, first, second, s, t);
+    if refused != 0 {
+        return JobDone {
+            campaign: c,
+            outcome: Outcome::Refused(refused),
+        };
+    }
+    if jobs::skips(c, ax, ay, an, bx, by, bn, distance, first, second, s, t) {
+        return JobDone {
+            campaign: jobs::settle(c, s, t, c.entries),
+            outcome: Outcome::Skipped,
+        };
+    }
+    let swept = jobs::swept(
+        c,
+        ax,
+        ay,
+        an,
+        bx,
+        by,
+        bn,
+        distance,
+        first,
+        second,
+        s,
+        t,
+        way,
+    );
+    let looks = swept.looks;
+    let distances = swept.distances;
+    JobDone {
+        campaign: jobs::settle(c, s, t, swept.entries),
+        outcome: Outcome::Swept { looks, distances },
+    }
+}

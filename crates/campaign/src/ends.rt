@@ -1,0 +1,79 @@
+// Cut ends of a list: whether they are lawful, the strip that holds a place, and the slots that keep them.
+ghost use mathlib.Core.Path.{_≡_};
+ghost use Prim.Native.Nat.{_-_, _≤_, _<_};
+ghost use lib.ListN.{length};
+ghost use Rattle.campaign.specs.Grid.{lawfulEnds, stripFrom, stripTo, stripHolding};
+ghost use Rattle.campaign.specs.Calls.{slots};
+ghost use Rattle.campaign.specs.Tally.{Cuts};
+
+// Whether cut ends are lawful for a list of `n` sites.
+pub fn lawful(n: usize, ends: &[u32]) -> bool
+    ensures { λ r. ⌜ r ≡ lawfulEnds n (now (ends .entry)) ⌝ }
+{
+    if 32 < ends.len() {
+        return false;
+    }
+    let mut last: u32 = 0;
+    let mut i = 0;
+    while i < ends.len() {
+        if ends[i] <= last {
+            return false;
+        }
+        last = ends[i];
+        i += 1;
+    }
+    last as usize == n
+}
+
+// The strip that holds a place: how many ends are at most the place.
+pub fn holding(ends: &[u32], place: u32) -> usize
+    ensures { λ r. ⌜ r ≡ stripHolding (now (ends .entry)) place ⌝ }
+{
+    let mut before = 0;
+    let mut i = 0;
+    while i < ends.len() {
+        if ends[i] <= place {
+            before += 1;
+        }
+        i += 1;
+    }
+    before
+}
+
+// The ends in the 32 slots of a campaign.
+pub fn in_slots(ends: &[u32]) -> [u32; 32]
+    requires { ⌜ length (now ends) ≤ 32 ⌝ }
+    ensures { λ r. ⌜ r ≡ slots (now (ends .entry)) ⌝ }
+{
+    let mut kept = [0; 32];
+    let mut i = 0;
+    while i < ends.len() {
+        kept[i] = ends[i];
+        i += 1;
+    }
+    kept
+}
+
+// Where a strip starts.
+pub fn from(ends: &[u32], s: usize) -> u32
+    requires { ⌜ s < length (now ends) ⌝ }
+    ensures { λ r. ⌜ r ≡ stripFrom (now (ends .entry)) s ⌝ }
+{
+    if s == 0 { 0 } else { ends[s - 1] }
+}
+
+// Where a strip ends.
+pub fn to(ends: &[u32], s: usize) -> u32
+    requires { ⌜ s < length (now ends) ⌝ }
+    ensures { λ r. ⌜ r ≡ stripTo (now (ends .entry)) s ⌝ }
+{
+    ends[s]
+}
+
+// How many sites a strip has.
+pub fn width(ends: &[u32], s: usize) -> u64
+    requires { ⌜ Cuts (now ends) × (s < length (now ends)) ⌝ }
+    ensures { λ r. ⌜ r ≡ stripTo (now (ends .entry)) s - stripFrom (now (ends .entry)) s ⌝ }
+{
+    (to(ends, s) - from(ends, s)) as u64
+}

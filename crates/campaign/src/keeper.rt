@@ -1,0 +1,335 @@
+// Refusal 7: whether a campaign and the columns that hold its entries have a fault.
+use super::Campaign;
+use super::Settled;
+use super::ends;
+use super::marks;
+use entry::Entry;
+ghost use mathlib.Core.Path.{_≡_};
+ghost use mathlib.Core.Bool.{true, _&&_};
+ghost use Prim.Native.Nat.{min, _≤_, _<_};
+ghost use lib.Dec.{eqb};
+ghost use lib.IntN.{pos};
+ghost use lib.ListN.{length, getD};
+ghost use Rattle.order.specs.Order.{ascending};
+ghost use Rattle.order.specs.Lists.{all};
+ghost use Rattle.site.specs.Site.{within, squaredDistance};
+ghost use Rattle.site.specs.SiteList.{columns, site, sites};
+ghost use Rattle.site.specs.Refusal.{listsRefusal};
+ghost use Rattle.entry.specs.Entry.{rankBefore};
+ghost use Rattle.entry.specs.Results.{results, entriesOf, roomFor};
+ghost use Rattle.pairs.specs.KList.{lawfulK};
+ghost use Rattle.campaign.specs.Grid.{jobOf, settledJobs};
+ghost use Rattle.campaign.specs.Tally.{Tally};
+ghost use Rattle.campaign.specs.Keeper.{firstEnds, secondEnds, settledTotal, sound, campaignRefusal};
+ghost use Rattle.campaign.specs.Kept.{Accepted, Room, SoundPlan, fits, soundPlan, entriesSound};
+
+// Whether K is 1 to 4,096.
+pub fn lawful_k(k: u32) -> bool
+    ensures { λ r. ⌜ r ≡ lawfulK k ⌝ }
+{
+    1 <= k && k <= 4_096
+}
+
+// Whether no column is shorter than `k`.
+pub fn room(k: usize, distance: &[u64], first: &[u32], second: &[u32]) -> bool
+    ensures { λ r. ⌜ r ≡ roomFor k (results (now (distance .entry)) (now (first .entry)) (now (second .entry))) ⌝ }
+{
+    if distance.len() < k {
+        return false;
+    }
+    if first.len() < k {
+        return false;
+    }
+    k <= second.len()
+}
+
+// The squared distance of the sites at two places.
+fn distance_at(ax: &[i32], ay: &[i32], bx: &[i32], by: &[i32], i: usize, j: usize) -> u64
+    requires { ⌜ (i < length (now ax)) × (i < length (now ay)) × (j < length (now bx)) × (j < length (now by)) ⌝ }
+    requires { ⌜
+        (within (getD (now ax) i (pos 0)) ≡ true) × (within (getD (now ay) i (pos 0)) ≡ true) ×
+        (within (getD (now bx) j (pos 0)) ≡ true) × (within (getD (now by) j (pos 0)) ≡ true)
+        ⌝ }
+    ensures { λ r. ⌜
+        r ≡ squaredDistance (site (getD (now (ax .entry)) i (pos 0)) (getD (now (ay .entry)) i (pos 0)) 0)
+        (site (getD (now (bx .entry)) j (pos 0)) (getD (now (by .entry)) j (pos 0)) 0)
+        ⌝ }
+{
+    site::squared_distance(ax[i], ay[i], bx[j], by[j])
+}
+
+// Whether the entries stand in rank order.
+fn in_order(distance: &[u64], first: &[u32], second: &[u32], count: usize) -> bool
+    requires { ⌜ roomFor count (results (now distance) (now first) (now second)) ≡ true ⌝ }
+    ensures { λ r. ⌜
+        r ≡ ascending rankBefore
+        (entriesOf count (results (now (distance .entry)) (now (first .entry)) (now (second .entry))))
+        ⌝ }
+{
+    let mut i = 0;
+    while i + 1 < count {
+        if !entry::before(
+            entry::entry_at(distance, first, second, i),
+            entry::entry_at(distance, first, second, i + 1),
+        ) {
+            return false;
+        }
+        i += 1;
+    }
+    true
+}
+
+// Whether an entry has no fault.
+fn fits(
+    e: Entry,
+    ax: &[i32],
+    ay: &[i32],
+    an: &[u32],
+    bx: &[i32],
+    by: &[i32],
+    bn: &[u32],
+    first_ends: &[u32],
+    second_ends: &[u32],
+    marks: &[u8],
+) -> bool
+    requires { ⌜ Accepted (columns (now ax) (now ay) (now an)) (columns (now bx) (now by) (now bn)) ⌝ }
+    requires { ⌜ (length (now «first_ends») ≤ 32) × (length (now «second_ends») ≤ 32) ⌝ }
+    ensures { λ r. ⌜
+        r ≡ fits (now (marks .entry)) (now («first_ends» .entry)) (now («second_ends» .entry))
+        (sites (columns (now (ax .entry)) (now (ay .entry)) (now (an .entry))))
+        (sites (columns (now (bx .entry)) (now (by .entry)) (now (bn .entry)))) e
+        ⌝ }
+{
+    let i = e.first as usize;
+    let j = e.second as usize;
+    if ax.len() <= i {
+        return false;
+    }
+    if bx.len() <= j {
+        return false;
+    }
+    if e.distance != distance_at(ax, ay, bx, by, i, j) {
+        return false;
+    }
+    marks::is_settled(
+        marks,
+        ends::holding(first_ends, e.first),
+        ends::holding(second_ends, e.second),
+    )
+}
+
+// Whether each entry has no fault.
+fn all_fit(
+    distance: &[u64],
+    first: &[u32],
+    second: &[u32],
+    count: usize,
+    ax: &[i32],
+    ay: &[i32],
+    an: &[u32],
+    bx: &[i32],
+    by: &[i32],
+    bn: &[u32],
+    first_ends: &[u32],
+    second_ends: &[u32],
+    marks: &[u8],
+) -> bool
+    requires { ⌜ roomFor count (results (now distance) (now first) (now second)) ≡ true ⌝ }
+    requires { ⌜ Accepted (columns (now ax) (now ay) (now an)) (columns (now bx) (now by) (now bn)) ⌝ }
+    requires { ⌜ (length (now «first_ends») ≤ 32) × (length (now «second_ends») ≤ 32) ⌝ }
+    ensures { λ r. ⌜
+        r ≡ all (fits (now (marks .entry)) (now («first_ends» .entry)) (now («second_ends» .entry))
+        (sites (columns (now (ax .entry)) (now (ay .entry)) (now (an .entry))))
+        (sites (columns (now (bx .entry)) (now (by .entry)) (now (bn .entry)))))
+        (entriesOf count (results (now (distance .entry)) (now (first .entry)) (now (second .entry))))
+        ⌝ }
+{
+    let mut i = 0;
+    while i < count {
+        let e = entry::entry_at(distance, first, second, i);
+        if !fits(e, ax, ay, an, bx, by, bn, first_ends, second_ends, marks) {
+            return false;
+        }
+        i += 1;
+    }
+    true
+}
+
+// Whether K, the ends and the marks of a campaign have no fault, for lists of `n` and `m` sites.
+fn sound_plan(c: Campaign, n: usize, m: usize) -> bool
+    ensures { λ r. ⌜ r ≡ soundPlan c n m ⌝ }
+{
+    let rows = c.first_strips as usize;
+    let cols = c.second_strips as usize;
+    let first_ends = c.first_ends;
+    let second_ends = c.second_ends;
+    let marks = c.marks;
+    if !lawful_k(c.k) {
+        return false;
+    }
+    if 32 < rows {
+        return false;
+    }
+    if 32 < cols {
+        return false;
+    }
+    if !ends::lawful(n, &first_ends[..rows]) {
+        return false;
+    }
+    if !ends::lawful(m, &second_ends[..cols]) {
+        return false;
+    }
+    marks::lawful(rows, cols, &marks)
+}
+
+// How many jobs of a sound plan are settled, and how many pairs they have.
+pub fn settled(c: Campaign) -> Settled
+    requires { ⌜ SoundPlan c ⌝ }
+    ensures { λ r. ⌜
+        Tally (firstEnds c) (secondEnds c) (settledJobs (c .marks) (c .«first_strips») (c .«second_strips»)) r
+        ⌝ }
+{
+    let rows = c.first_strips as usize;
+    let cols = c.second_strips as usize;
+    let first_ends = c.first_ends;
+    let second_ends = c.second_ends;
+    let marks = c.marks;
+    marks::tally(&marks, &first_ends[..rows], &second_ends[..cols])
+}
+
+// Whether the entry count is the lesser of K and the settled jobs' pair total.
+fn right_count(c: Campaign) -> bool
+    requires { ⌜ SoundPlan c ⌝ }
+    ensures { λ r. ⌜ r ≡ eqb (c .entries) (min (c .k) (settledTotal c)) ⌝ }
+{
+    let total = settled(c).pairs;
+    if (c.k as u64) <= total {
+        c.entries == c.k
+    } else {
+        (c.entries as u64) == total
+    }
+}
+
+// Whether the entries stand in order and have no fault.
+fn sound_entries(
+    c: Campaign,
+    ax: &[i32],
+    ay: &[i32],
+    an: &[u32],
+    bx: &[i32],
+    by: &[i32],
+    bn: &[u32],
+    distance: &[u64],
+    first: &[u32],
+    second: &[u32],
+) -> bool
+    requires { ⌜ Accepted (columns (now ax) (now ay) (now an)) (columns (now bx) (now by) (now bn)) ⌝ }
+    requires { ⌜ SoundPlan c ⌝ }
+    requires { ⌜ Room (c .k) (c .entries) (results (now distance) (now first) (now second)) ⌝ }
+    ensures { λ r. ⌜
+        r ≡ entriesSound c (sites (columns (now (ax .entry)) (now (ay .entry)) (now (an .entry))))
+        (sites (columns (now (bx .entry)) (now (by .entry)) (now (bn .entry))))
+        (results (now (distance .entry)) (now (first .entry)) (now (second .entry)))
+        ⌝ }
+{
+    let count = c.entries as usize;
+    let rows = c.first_strips as usize;
+    let cols = c.second_strips as usize;
+    let first_ends = c.first_ends;
+    let second_ends = c.second_ends;
+    let marks = c.marks;
+    if !in_order(distance, first, second, count) {
+        return false;
+    }
+    all_fit(
+        distance,
+        first,
+        second,
+        count,
+        ax,
+        ay,
+        an,
+        bx,
+        by,
+        bn,
+        &first_ends[..rows],
+        &second_ends[..cols],
+        &marks,
+    )
+}
+
+// Whether a campaign and the result columns have no fault, for lists that were accepted.
+fn sound(
+    c: Campaign,
+    ax: &[i32],
+    ay: &[i32],
+    an: &[u32],
+    bx: &[i32],
+    by: &[i32],
+    bn: &[u32],
+    distance: &[u64],
+    first: &[u32],
+    second: &[u32],
+) -> bool
+    requires { ⌜ Accepted (columns (now ax) (now ay) (now an)) (columns (now bx) (now by) (now bn)) ⌝ }
+    ensures { λ r. ⌜
+        r ≡ sound c (sites (columns (now (ax .entry)) (now (ay .entry)) (now (an .entry))))
+        (sites (columns (now (bx .entry)) (now (by .entry)) (now (bn .entry))))
+        (results (now (distance .entry)) (now (first .entry)) (now (second .entry)))
+        ⌝ }
+{
+    if !sound_plan(c, ax.len(), bx.len()) {
+        return false;
+    }
+    if !room(c.k as usize, distance, first, second) {
+        return false;
+    }
+    if !right_count(c) {
+        return false;
+    }
+    sound_entries(c, ax, ay, an, bx, by, bn, distance, first, second)
+}
+
+// The refusal of two lists, the first before the second; 0 for none.
+pub fn lists_refusal(ax: &[i32], ay: &[i32], an: &[u32], bx: &[i32], by: &[i32], bn: &[u32]) -> u32
+    ensures { λ r. ⌜
+        r ≡ listsRefusal (columns (now (ax .entry)) (now (ay .entry)) (now (an .entry)))
+        (columns (now (bx .entry)) (now (by .entry)) (now (bn .entry)))
+        ⌝ }
+{
+    let refused = site::list_refusal(ax, ay, an);
+    if refused != 0 {
+        return refused;
+    }
+    site::list_refusal(bx, by, bn)
+}
+
+// The refusal of a campaign, its lists and its columns; 0 for none.
+pub fn refusal(
+    c: Campaign,
+    ax: &[i32],
+    ay: &[i32],
+    an: &[u32],
+    bx: &[i32],
+    by: &[i32],
+    bn: &[u32],
+    distance: &[u64],
+    first: &[u32],
+    second: &[u32],
+) -> u32
+    ensures { λ r. ⌜
+        r ≡ campaignRefusal c (columns (now (ax .entry)) (now (ay .entry)) (now (an .entry)))
+        (columns (now (bx .entry)) (now (by .entry)) (now (bn .entry)))
+        (results (now (distance .entry)) (now (first .entry)) (now (second .entry)))
+        ⌝ }
+{
+    let refused = lists_refusal(ax, ay, an, bx, by, bn);
+    if refused != 0 {
+        return refused;
+    }
+    if sound(c, ax, ay, an, bx, by, bn, distance, first, second) {
+        0
+    } else {
+        7
+    }
+}

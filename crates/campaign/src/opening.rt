@@ -1,0 +1,82 @@
+// Opening a campaign.
+use super::Campaign;
+use super::ends;
+use super::keeper;
+ghost use mathlib.Core.Path.{_≡_};
+ghost use Prim.Native.Nat.{_≤_};
+ghost use lib.ListN.{length};
+ghost use Rattle.site.specs.SiteList.{columns};
+ghost use Rattle.entry.specs.Results.{results};
+ghost use Rattle.campaign.specs.Calls.{openRefusal, newCampaign, noCampaign};
+
+// The refusal of an opening; 0 for none.
+pub fn refusal(
+    ax: &[i32],
+    ay: &[i32],
+    an: &[u32],
+    bx: &[i32],
+    by: &[i32],
+    bn: &[u32],
+    k: u32,
+    first_ends: &[u32],
+    second_ends: &[u32],
+    distance: &[u64],
+    first: &[u32],
+    second: &[u32],
+) -> u32
+    ensures { λ r. ⌜
+        r ≡ openRefusal (columns (now (ax .entry)) (now (ay .entry)) (now (an .entry)))
+        (columns (now (bx .entry)) (now (by .entry)) (now (bn .entry))) k (now («first_ends» .entry))
+        (now («second_ends» .entry)) (results (now (distance .entry)) (now (first .entry)) (now (second .entry)))
+        ⌝ }
+{
+    let refused = keeper::lists_refusal(ax, ay, an, bx, by, bn);
+    if refused != 0 {
+        return refused;
+    }
+    if !keeper::lawful_k(k) {
+        return 4;
+    }
+    if !ends::lawful(ax.len(), first_ends) {
+        return 5;
+    }
+    if !ends::lawful(bx.len(), second_ends) {
+        return 5;
+    }
+    if keeper::room(k as usize, distance, first, second) {
+        0
+    } else {
+        6
+    }
+}
+
+// A campaign with no job settled.
+pub fn new(k: u32, first_ends: &[u32], second_ends: &[u32]) -> Campaign
+    requires { ⌜ (length (now «first_ends») ≤ 32) × (length (now «second_ends») ≤ 32) ⌝ }
+    ensures { λ r. ⌜ r ≡ newCampaign k (now («first_ends» .entry)) (now («second_ends» .entry)) ⌝ }
+{
+    Campaign {
+        k,
+        entries: 0,
+        first_strips: first_ends.len() as u32,
+        second_strips: second_ends.len() as u32,
+        first_ends: ends::in_slots(first_ends),
+        second_ends: ends::in_slots(second_ends),
+        marks: [0; 1024],
+    }
+}
+
+// What a refused opening leaves in the place of a campaign.
+pub fn none() -> Campaign
+    ensures { λ r. ⌜ r ≡ noCampaign ⌝ }
+{
+    Campaign {
+        k: 0,
+        entries: 0,
+        first_strips: 0,
+        second_strips: 0,
+        first_ends: [0; 32],
+        second_ends: [0; 32],
+        marks: [0; 1024],
+    }
+}
