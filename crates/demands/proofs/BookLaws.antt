@@ -1,0 +1,93 @@
+-- Laws of the book's settled jobs.
+use mathlib.Core.Path.{_≡_, refl, sym, ap}
+use mathlib.Core.Logic.{⊎-elim}
+use mathlib.Core.Bool.{Bool, true, false, _&&_, _||_, or-true, and-eq-true-iff}
+use mathlib.Core.List.{List, [], _∷_, _++_, List·Memᴰ, List·Memᴰ·head, List·Memᴰ·tail, List·Memᴰ·not-nil, List·Memᴰ·cases-cons, List·Memᴰ·eq-of-singleton, Memᴰ·cast, List·Permᴰ, List·Permᴰ·trans, Permᴰ·symm}
+use Prim.Native.Nat.{ℕ}
+use lib.Dec.{eqb}
+use lib.ListN.{length}
+use borrow.Author.Tests.{eqb-true, eq-eqb}
+use Rattle.order.specs.Lists.{all, keep, All, Distinct}
+use Rattle.order.proofs.Order.{byTest, never-both}
+use Rattle.order.proofs.Lists.{all-holds, keep-whole, all-append, all-cons, all-nil, distinct-append}
+use Rattle.order.proofs.Best.{best-perm}
+use Rattle.site.specs.declared.Site.{Site}
+use Rattle.entry.specs.Entry.{bestK}
+use Rattle.entry.proofs.Rank.{rank-order}
+use Rattle.pairs.specs.KList.{kList}
+use Rattle.campaign.specs.Grid.{Job, jobs, jobsPairs}
+use Rattle.campaign.proofs.CutLaws.{Cut}
+use Rattle.campaign.proofs.GridLaws.{InGrid, same-job, kept-jobs, jobs-pairs-perm, jobs-pairs-distinct, grid-pairs}
+use Rattle.demands.specs.Book.{Book, isDone, bookEntries, noneOpen}
+
+-- ---- a job among some
+
+pub done-mem : (j : Job) (l : List Job) → isDone j l ≡ true → List·Memᴰ j l
+unfolding isDone
+done-mem j [] h = never-both h refl
+done-mem j (i ∷ l) h =
+    byTest (eqb (j .first) (i .first) && eqb (j .second) (i .second))
+    (λ t.
+    let w = and-eq-true-iff (eqb (j .first) (i .first)) (eqb (j .second) (i .second)) .0 t in
+    List·Memᴰ·head (same-job j i (eqb-true (j .first) (i .first) (w .0), eqb-true (j .second) (i .second) (w .1))))
+    (λ f. List·Memᴰ·tail (done-mem j l (rw f at h)))
+
+pub mem-done : (j : Job) (l : List Job) → List·Memᴰ j l → isDone j l ≡ true
+unfolding isDone
+mem-done j [] m = absurd (List·Memᴰ·not-nil m)
+mem-done j (i ∷ l) m =
+    ⊎-elim
+    (λ (e : j ≡ i). simp (eq-eqb (j .first) (i .first) (ap (λ (x : Job). x .first) e), eq-eqb (j .second) (i .second) (ap (λ (x : Job). x .second) e)))
+    (λ (n : List·Memᴰ j l). rw (mem-done j l n) (or-true (eqb (j .first) (i .first) && eqb (j .second) (i .second))))
+    (List·Memᴰ·cases-cons m)
+
+-- A job more changes nothing for any other.
+pub done-other : (j i : Job) (l : List Job) → isDone j (i ∷ []) ≡ false → isDone j (l ++ (i ∷ [])) ≡ isDone j l
+unfolding isDone
+done-other j i [] h = h
+done-other j i (x ∷ l) h = ap (λ (b : Bool). (eqb (j .first) (x .first) && eqb (j .second) (x .second)) || b) (done-other j i l h)
+
+-- ---- the settled jobs of a grid
+
+module _ (rows cols : ℕ) where
+  -- A job not yet settled joins them.
+  pub once-more : (j : Job) (l : List Job) → Distinct l → isDone j l ≡ false → Distinct (l ++ (j ∷ []))
+  unfolding Distinct All
+  once-more j l d h =
+      distinct-append l (j ∷ []) d (tt, tt) (λ x m n. never-both (mem-done j l (Memᴰ·cast (sym (List·Memᴰ·eq-of-singleton n)) m)) h)
+
+  pub inside-more : (j : Job) (l : List Job) → InGrid rows cols j → All (InGrid rows cols) l → All (InGrid rows cols) (l ++ (j ∷ []))
+  inside-more j l g h = all-append (InGrid rows cols) l (j ∷ []) h (all-cons (InGrid rows cols) j [] g (all-nil (InGrid rows cols)))
+
+  module _ (l : List Job) (once : Distinct l) (inside : All (InGrid rows cols) l) where
+    -- They are the jobs of the grid that the book has.
+    pub done-kept : List·Permᴰ l (keep (λ j. isDone j l) (jobs rows cols))
+    done-kept = kept-jobs rows cols (λ j. isDone j l) l once inside (λ j h. done-mem j l h) (λ j m. mem-done j l m)
+
+    -- Where none is open they are all jobs.
+    pub all-done : all (λ j. isDone j l) (jobs rows cols) ≡ true → List·Permᴰ l (jobs rows cols)
+    all-done h = rw (keep-whole (λ j. isDone j l) (jobs rows cols) (all-holds (λ j. isDone j l) (jobs rows cols) h)) at done-kept
+
+-- ---- the book's entries
+
+-- A book of two lists: lawful ends, and each settled job once and inside the grid.
+pub record Ledger (a b : List Site) (book : Book) : Type 0 where
+  pub cut : Cut (length a) (book .ends)
+  pub cut' : Cut (length b) (book .ends')
+  pub once : Distinct (book .done)
+  pub inside : All (InGrid (length (book .ends)) (length (book .ends'))) (book .done)
+
+module _ (a b : List Site) (book : Book) (o : Ledger a b book) where
+  pub settled-pairs-distinct : Distinct (jobsPairs (book .ends) (book .ends') a b (book .done))
+  settled-pairs-distinct =
+      jobs-pairs-distinct (book .ends) (book .ends') a b (o .cut) (o .cut') (λ j. isDone j (book .done)) (book .done)
+      (done-kept (length (book .ends)) (length (book .ends')) (book .done) (o .once) (o .inside))
+
+  -- Whenever no job is open, the book's entries are the K list.
+  pub book-finished : noneOpen book ≡ true → bookEntries a b book ≡ kList (book .k) a b
+  unfolding noneOpen bookEntries kList bestK
+  book-finished h =
+      best-perm rank-order (book .k)
+      (List·Permᴰ·trans
+      (jobs-pairs-perm (book .ends) (book .ends') a b (all-done (length (book .ends)) (length (book .ends')) (book .done) (o .once) (o .inside) h))
+      (Permᴰ·symm (grid-pairs (book .ends) (book .ends') a b (o .cut) (o .cut'))))

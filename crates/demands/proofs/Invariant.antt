@@ -1,0 +1,170 @@
+-- What holds of B and the book between any two calls, and what follows from it: B's campaign passes every test for 7.
+use mathlib.Core.Path.{_≡_, sym, ap, ap₂, _∙_}
+use mathlib.Core.Bool.{Bool, true, cond, _&&_, and-eq-true-iff}
+use mathlib.Core.List.{List·Memᴰ, List·Permᴰ}
+use Prim.Native.Nat.{ℕ, min}
+use native.Mathlib.Omega.{arith}
+use lib.Dec.{ltb}
+use lib.ListN.{length}
+use borrow.Author.Tests.{le-leb, lt-ltb, eq-eqb, ltb-true}
+use Rattle.order.specs.Order.{ascending}
+use Rattle.order.specs.Lists.{all, keep, All, Distinct}
+use Rattle.order.proofs.Order.{byTest}
+use Rattle.order.proofs.Lists.{mem-all, all-mem, holds-all, perm-length, perm-all}
+use Rattle.order.proofs.Best.{length-best}
+use Rattle.order.proofs.Sorted.{mem-best, ascends-best, ascends-ascending}
+use Rattle.site.specs.Told.{answered, orElse}
+use Rattle.site.specs.SiteList.{Columns, sites}
+use Rattle.site.specs.Refusal.{listsRefusal}
+use Rattle.entry.specs.declared.Entry.{Entry}
+use Rattle.entry.specs.Entry.{rankBefore, bestK}
+use Rattle.entry.specs.Results.{entriesOf, roomFor}
+use Rattle.entry.proofs.Rank.{rank-order}
+use Rattle.pairs.specs.KList.{lawfulK}
+use Rattle.campaign.specs.Grid.{lawfulEnds, Job, jobs, settled, settledJobs, lawfulMarks, jobsPairs}
+use Rattle.campaign.specs.Keeper.{firstEnds, secondEnds, soundEnds, soundEntry, settledTotal, sound, campaignRefusal}
+use Rattle.campaign.specs.Calls.{jobRefusal, statusTold}
+use Rattle.campaign.proofs.Gathered.{keep-same}
+use Rattle.campaign.proofs.CutLaws.{lawful-cut}
+use Rattle.campaign.proofs.GridLaws.{InGrid, jobs-in-grid, jobs-entry, jobs-pairs-perm, pair-total}
+use Rattle.demands.specs.Book.{Book, isDone, bookRefusal, bookEntries, bookStatus}
+use Rattle.demands.specs.History.{Bench}
+use Rattle.demands.proofs.Answers.{tell-none, or-else-none}
+use Rattle.demands.proofs.BookLaws.{Ledger, mem-done, done-kept, settled-pairs-distinct}
+
+-- Both strip numbers are below the strip counts.
+pub in-grid : (rows cols : ℕ) (j : Job) → (ltb (j .first) rows && ltb (j .second) cols) ≡ true → InGrid rows cols j
+in-grid rows cols j h =
+    let w = and-eq-true-iff (ltb (j .first) rows) (ltb (j .second) cols) .0 h in
+    record { row = ltb-true (j .first) rows (w .0); column = ltb-true (j .second) cols (w .1) }
+
+-- B's lists, campaign and result columns beside the book.
+pub record Kept (a b : Columns) (bench : Bench) (book : Book) : Type 0 where
+  pub lists : listsRefusal a b ≡ 0
+  pub lawful : lawfulK (book .k) ≡ true
+  pub ends : lawfulEnds (length (sites a)) (book .ends) ≡ true
+  pub ends' : lawfulEnds (length (sites b)) (book .ends') ≡ true
+  pub once : Distinct (book .done)
+  pub inside : All (InGrid (length (book .ends)) (length (book .ends'))) (book .done)
+  pub k : bench .campaign .k ≡ book .k
+  pub rows : bench .campaign .«first_strips» ≡ length (book .ends)
+  pub columns : bench .campaign .«second_strips» ≡ length (book .ends')
+  pub firsts : firstEnds (bench .campaign) ≡ book .ends
+  pub seconds : secondEnds (bench .campaign) ≡ book .ends'
+  pub size : length (bench .campaign .marks) ≡ 1024
+  pub marks : lawfulMarks (length (book .ends)) (length (book .ends')) 0 (bench .campaign .marks) ≡ true
+  pub settles :
+      (j : Job)
+      → InGrid (length (book .ends)) (length (book .ends')) j
+      → settled (bench .campaign .marks) j ≡ isDone j (book .done)
+  pub room : roomFor (book .k) (bench .results) ≡ true
+  pub count : bench .campaign .entries ≡ length (bookEntries (sites a) (sites b) book)
+  pub entries : entriesOf (bench .campaign .entries) (bench .results) ≡ bookEntries (sites a) (sites b) book
+
+module _ (a b : Columns) (bench : Bench) (book : Book) (i : Kept a b bench book) where
+  pub ledger : Ledger (sites a) (sites b) book
+  ledger = record {
+    cut = lawful-cut (length (sites a)) (book .ends) (i .ends);
+    cut' = lawful-cut (length (sites b)) (book .ends') (i .ends');
+    once = i .once;
+    inside = i .inside;
+  }
+
+  -- The marks tell the settled jobs of the book.
+  pub settled-done : List·Permᴰ (book .done) (settledJobs (bench .campaign .marks) (length (book .ends)) (length (book .ends')))
+  unfolding settledJobs
+  settled-done =
+      let rows = length (book .ends) in
+      let cols = length (book .ends') in
+      let same : keep (settled (bench .campaign .marks)) (jobs rows cols) ≡ keep (λ j. isDone j (book .done)) (jobs rows cols) =
+      keep-same (settled (bench .campaign .marks)) (λ j. isDone j (book .done)) (jobs rows cols)
+      (λ j m. i .settles j (jobs-in-grid rows cols j m)) in
+      rw same (done-kept rows cols (book .done) (i .once) (i .inside))
+
+  kept-ends : soundEnds (bench .campaign) (length (sites a)) (length (sites b)) ≡ true
+  unfolding soundEnds
+  kept-ends =
+      let few = le-leb (bench .campaign .«first_strips») 32 (omega (arith, i .rows, ledger .cut .few)) in
+      let few' = le-leb (bench .campaign .«second_strips») 32 (omega (arith, i .columns, ledger .cut' .few)) in
+      simp (few, few', i .firsts, i .seconds, i .ends, i .ends')
+
+  kept-marks : lawfulMarks (bench .campaign .«first_strips») (bench .campaign .«second_strips») 0 (bench .campaign .marks) ≡ true
+  kept-marks = rw (i .rows, i .columns) (i .marks)
+
+  kept-order : ascending rankBefore (entriesOf (bench .campaign .entries) (bench .results)) ≡ true
+  unfolding bookEntries bestK
+  kept-order =
+      rw (i .entries)
+      (ascends-ascending rank-order _ (ascends-best rank-order (book .k) _ (settled-pairs-distinct (sites a) (sites b) book ledger)))
+
+  -- An entry is of a settled job.
+  kept-entry : (e : Entry) → List·Memᴰ e (entriesOf (bench .campaign .entries) (bench .results))
+      → soundEntry (bench .campaign) (sites a) (sites b) e ≡ true
+  unfolding soundEntry bookEntries bestK
+  kept-entry e m =
+      let pairs = jobsPairs (book .ends) (book .ends') (sites a) (sites b) (book .done) in
+      let n : List·Memᴰ e pairs = mem-best rankBefore (book .k) pairs (rw (i .entries) at m) in
+      let w = jobs-entry (book .ends) (book .ends') (sites a) (sites b) (ledger .cut) (ledger .cut') (book .done) (i .inside) e n in
+      let j = w .0 in
+      let o = w .2 in
+      let done : settled (bench .campaign .marks) j ≡ true =
+      i .settles j (all-mem (InGrid (length (book .ends)) (length (book .ends'))) (i .inside) (w .1)) ∙ mem-done j (book .done) (w .1) in
+      simp (
+        lt-ltb (e .first) (length (sites a)) (o .first),
+        lt-ltb (e .second) (length (sites b)) (o .second),
+        eq-eqb _ _ (o .distance),
+        i .firsts,
+        i .seconds,
+        o .holding,
+        o .holding',
+      ) done
+
+  -- The pair total of the settled jobs.
+  kept-total : settledTotal (bench .campaign) ≡ length (jobsPairs (book .ends) (book .ends') (sites a) (sites b) (book .done))
+  unfolding settledTotal
+  kept-total =
+      let rows = length (book .ends) in
+      let cols = length (book .ends') in
+      let found = settledJobs (bench .campaign .marks) rows cols in
+      rw (i .firsts, i .seconds, i .rows, i .columns)
+      (pair-total (book .ends) (book .ends') (sites a) (sites b) (ledger .cut) (ledger .cut') found
+      (perm-all (InGrid rows cols) settled-done (i .inside))
+      ∙ sym (perm-length (jobs-pairs-perm (book .ends) (book .ends') (sites a) (sites b) settled-done)))
+
+  kept-count : bench .campaign .entries ≡ min (bench .campaign .k) (settledTotal (bench .campaign))
+  unfolding bookEntries bestK
+  kept-count =
+      i .count
+      ∙ length-best rankBefore (book .k) (jobsPairs (book .ends) (book .ends') (sites a) (sites b) (book .done))
+      ∙ ap₂ min (sym (i .k)) (sym kept-total)
+
+  pub kept-sound : sound (bench .campaign) (sites a) (sites b) (bench .results) ≡ true
+  unfolding sound
+  kept-sound =
+      let l = entriesOf (bench .campaign .entries) (bench .results) in
+      let lawful : lawfulK (bench .campaign .k) ≡ true = rw (i .k) (i .lawful) in
+      let room : roomFor (bench .campaign .k) (bench .results) ≡ true = rw (i .k) (i .room) in
+      let entries : all (soundEntry (bench .campaign) (sites a) (sites b)) l ≡ true =
+      holds-all (soundEntry (bench .campaign) (sites a) (sites b)) l
+      (mem-all (λ e. soundEntry (bench .campaign) (sites a) (sites b) e ≡ true) l kept-entry) in
+      simp (lawful, kept-ends, kept-marks, room, kept-order, entries, eq-eqb _ _ kept-count)
+
+  -- Never 7, and never 1, 2 or 3.
+  pub kept-passes : campaignRefusal (bench .campaign) a b (bench .results) ≡ 0
+  unfolding campaignRefusal
+  kept-passes = or-else-none (listsRefusal a b) _ (i .lists) ∙ rw kept-sound
+
+  -- "its job refusals .. are those of document 01's book".
+  pub kept-refusal : (j : Job) → jobRefusal (bench .campaign) a b (bench .results) j ≡ bookRefusal book j
+  unfolding jobRefusal bookRefusal orElse
+  kept-refusal j =
+      or-else-none (campaignRefusal (bench .campaign) a b (bench .results)) _ kept-passes
+      ∙ rw (i .rows, i .columns)
+      (byTest (ltb (j .first) (length (book .ends)) && ltb (j .second) (length (book .ends')))
+      (λ t. rw t (ap (λ (s : Bool). cond s 9 0) (i .settles j (in-grid (length (book .ends)) (length (book .ends')) j t))))
+      (λ f. rw f))
+
+  -- "and status answers".
+  pub kept-status : statusTold (bench .campaign) a b (bench .results) ≡ answered (bookStatus (sites a) (sites b) book)
+  unfolding statusTold bookStatus
+  kept-status = tell-none (campaignRefusal (bench .campaign) a b (bench .results)) _ kept-passes ∙ rw (i .rows, i .columns, ← perm-length settled-done, i .count, i .k)

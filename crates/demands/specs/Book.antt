@@ -1,0 +1,59 @@
+-- "a book kept from the calls, never from the campaign or its result columns."
+use mathlib.Core.Bool.{Bool, false, not, _&&_, _||_}
+use mathlib.Core.List.{List, [], _∷_, _++_}
+use Prim.Native.Nat.{ℕ, _*_}
+use lib.Dec.{ltb, eqb}
+use lib.ListN.{length}
+use Rattle.order.specs.Lists.{all}
+use Rattle.site.specs.declared.Site.{Site}
+use Rattle.site.specs.Told.{unlessRefused, refuseIf, orElse}
+use Rattle.entry.specs.declared.Entry.{Entry}
+use Rattle.entry.specs.Entry.{bestK}
+use Rattle.campaign.specs.Grid.{Job, jobs, jobsPairs}
+use Rattle.campaign.specs.Calls.{StatusValues}
+
+-- K and the cut ends of the opening, and the settled jobs in the sequence in which they were settled.
+pub record Book : Type 0 where
+  pub k : ℕ
+  pub ends : List ℕ
+  pub ends' : List ℕ
+  pub done : List Job
+
+-- "It starts at an accepted opening, with its lists, K and cut ends, and no job settled."
+unfoldable pub openBook : ℕ → List ℕ → List ℕ → Book
+openBook k ends ends' = record { k = k; ends = ends; ends' = ends'; done = [] }
+
+unfoldable pub isDone : Job → List Job → Bool
+isDone j [] = false
+isDone j (i ∷ l) = (eqb (j .first) (i .first) && eqb (j .second) (i .second)) || isDone j l
+
+-- "gets 8 if a strip number isn't below its list's strip count, else 9 if its job is settled in the book."
+unfoldable pub bookRefusal : Book → Job → ℕ
+bookRefusal book j =
+    orElse
+    (refuseIf (not (ltb (j .first) (length (book .ends)) && ltb (j .second) (length (book .ends')))) 8)
+    (refuseIf (isDone j (book .done)) 9)
+
+-- "otherwise it is accepted and settles its job, swept or skipped."
+unfoldable pub bookAfter : Book → Job → Book
+bookAfter book j =
+    unlessRefused (bookRefusal book j) book
+    (record { k = book .k; ends = book .ends; ends' = book .ends'; done = book .done ++ (j ∷ []) })
+
+-- "the first K by rank of the settled jobs' pairs, or all where there are fewer, in rank order."
+unfoldable pub bookEntries : List Site → List Site → Book → List Entry
+bookEntries a b book = bestK (book .k) (jobsPairs (book .ends) (book .ends') a b (book .done))
+
+-- "the number of settled jobs, the product of the strip counts, the number of book entries, and K."
+unfoldable pub bookStatus : List Site → List Site → Book → StatusValues
+bookStatus a b book =
+    record {
+      settled = length (book .done);
+      jobs = length (book .ends) * length (book .ends');
+      entries = length (bookEntries a b book);
+      k = book .k;
+    }
+
+-- "A job not settled is open": there is none.
+unfoldable pub noneOpen : Book → Bool
+noneOpen book = all (λ j. isDone j (book .done)) (jobs (length (book .ends)) (length (book .ends')))

@@ -1,0 +1,6 @@
+-- The users' demands 2 and 3, the book, and the fixed examples. The proofs are in `proofs/`.
+pub mod Book
+pub mod History
+pub mod Demand2
+pub mod Demand3
+pub mod Examples
