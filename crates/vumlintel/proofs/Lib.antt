@@ -1,0 +1,2 @@
+-- What the proofs of several exported calls use.
+pub mod Crossing

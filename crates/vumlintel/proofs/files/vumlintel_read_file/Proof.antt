@@ -1,0 +1,35 @@
+-- `vumlintel_read_file` meets its contract: each arm returns and writes what its case of the answer tells.
+use borrow.Author.Needs.{needs}
+use mathlib.Core.Path.{ap}
+use Rattle.site_file.specs.Calls.{fileReadTold}
+use Rattle.vumlintel.specs.Crossing.{numberOf, afterwards}
+use Rattle.vumlintel.proofs.Crossing.{in-case, leaves}
+use Rattle.vumlintel.proofs.files.vumlintel_read_file.Statement.{statement}
+use Rattle.vumlintel.proofs.files.vumlintel_read_file.Tie as tie
+
+read-requires : tie.Need-read-requires
+read-requires c κs = search needs
+
+enum-known-answer : tie.Need-enum-known-answer
+enum-known-answer c = search needs
+
+enum-known-answer-2 : tie.Need-enum-known-answer-2
+enum-known-answer-2 c = search needs
+
+returns : tie.Need-returns
+unfolding fileReadTold numberOf afterwards
+returns c =
+    let a = c .before .before .before .before .before .args in
+    let told = in-case fileReadTold (c .before .answer .given .1) (c .before .before .before .read .ensures) in
+    (ap numberOf told, (leaves (λ v. v .first) (a .first .now) told, leaves (λ v. v .second) (a .second .now) told))
+
+returns-2 : tie.Need-returns-2
+unfolding fileReadTold numberOf afterwards
+returns-2 c =
+    let a = c .before .before .before .before .before .args in
+    let told = in-case fileReadTold (c .before .answer2 .given .1) (c .before .before .before .read .ensures) in
+    (ap numberOf told, (leaves (λ v. v .first) (a .first .now) told, leaves (λ v. v .second) (a .second .now) told))
+
+pub vumlintel-read-file-spec : {M : Type 1} → statement M
+vumlintel-read-file-spec =
+    tie.close (tie.spec read-requires enum-known-answer enum-known-answer-2 returns returns-2)

@@ -1,0 +1,49 @@
+-- `vumlintel_write_file` meets its contract: each arm returns and writes what its case of the answer tells.
+use borrow.Author.Needs.{needs}
+use mathlib.Core.Path.{ap}
+use Rattle.site_file.specs.Calls.{writtenTold}
+use Rattle.vumlintel.specs.Crossing.{numberOf, afterwards}
+use Rattle.vumlintel.proofs.Crossing.{in-case, leaves}
+use Rattle.vumlintel.proofs.files.vumlintel_write_file.Statement.{statement}
+use Rattle.vumlintel.proofs.files.vumlintel_write_file.Tie as tie
+
+write-requires : tie.Need-write-requires
+write-requires c κs = search needs
+
+enum-known-answer : tie.Need-enum-known-answer
+enum-known-answer c = search needs
+
+enum-known-answer-2 : tie.Need-enum-known-answer-2
+enum-known-answer-2 c = search needs
+
+same-length : tie.Need-same-length
+same-length c = search needs
+
+returns : tie.Need-returns
+unfolding writtenTold numberOf afterwards
+returns c =
+    let call = c .before .before .before .before .before in
+    let told = in-case writtenTold (c .before .answer .given .1) (call .write .ensures .0) in
+    (ap numberOf told, (call .write .ensures .1, leaves (λ n. n) (call .before .before .before .before .before .args .length .now) told))
+
+same-length-2 : tie.Need-same-length-2
+same-length-2 c = search needs
+
+returns-2 : tie.Need-returns-2
+unfolding writtenTold numberOf afterwards
+returns-2 c =
+    let call = c .before .before .before .before .before in
+    let told = in-case writtenTold (c .before .answer2 .given .1) (call .write .ensures .0) in
+    (ap numberOf told, (call .write .ensures .1, leaves (λ n. n) (call .before .before .before .before .before .args .length .now) told))
+
+pub vumlintel-write-file-spec : {M : Type 1} → statement M
+vumlintel-write-file-spec =
+    tie.close
+    (tie.spec
+    write-requires
+    enum-known-answer
+    enum-known-answer-2
+    same-length
+    returns
+    same-length-2
+    returns-2)

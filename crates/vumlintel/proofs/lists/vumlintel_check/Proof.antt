@@ -1,0 +1,33 @@
+-- `vumlintel_check` meets its contract: each arm returns and writes what its case of the answer tells.
+use borrow.Author.Needs.{needs}
+use mathlib.Core.Path.{ap}
+use Rattle.site.specs.Refusal.{checkedTold}
+use Rattle.vumlintel.specs.Crossing.{numberOf, afterwards}
+use Rattle.vumlintel.proofs.Crossing.{in-case, leaves}
+use Rattle.vumlintel.proofs.lists.vumlintel_check.Statement.{statement}
+use Rattle.vumlintel.proofs.lists.vumlintel_check.Tie as tie
+
+check-requires : tie.Need-check-requires
+check-requires c κs = search needs
+
+enum-known-answer : tie.Need-enum-known-answer
+enum-known-answer c = search needs
+
+enum-known-answer-2 : tie.Need-enum-known-answer-2
+enum-known-answer-2 c = search needs
+
+returns : tie.Need-returns
+unfolding checkedTold numberOf afterwards
+returns c =
+    let told = in-case checkedTold (c .before .answer .given .1) (c .before .before .before .check .ensures) in
+    (ap numberOf told, leaves (λ n. n) (c .before .before .before .before .before .args .count .now) told)
+
+returns-2 : tie.Need-returns-2
+unfolding checkedTold numberOf afterwards
+returns-2 c =
+    let told = in-case checkedTold (c .before .answer2 .given .1) (c .before .before .before .check .ensures) in
+    (ap numberOf told, leaves (λ n. n) (c .before .before .before .before .before .args .count .now) told)
+
+pub vumlintel-check-spec : {M : Type 1} → statement M
+vumlintel-check-spec =
+    tie.close (tie.spec check-requires enum-known-answer enum-known-answer-2 returns returns-2)

@@ -1,0 +1,67 @@
+-- `vumlintel_distance_list` meets its contract: each arm returns and writes what its case of the answer tells.
+use borrow.Author.Needs.{needs}
+use mathlib.Core.Path.{ap}
+use Rattle.pairs.specs.DistanceList.{withinTold}
+use Rattle.vumlintel.specs.Crossing.{numberOf, afterwards}
+use Rattle.vumlintel.proofs.Crossing.{in-case, leaves}
+use Rattle.vumlintel.proofs.pair_lists.vumlintel_distance_list.Statement.{statement}
+use Rattle.vumlintel.proofs.pair_lists.vumlintel_distance_list.Tie as tie
+
+distance-list-requires : tie.Need-distance-list-requires
+distance-list-requires c κs = search needs
+
+enum-known-answer : tie.Need-enum-known-answer
+enum-known-answer c = search needs
+
+enum-known-answer-2 : tie.Need-enum-known-answer-2
+enum-known-answer-2 c = search needs
+
+same-length : tie.Need-same-length
+same-length c = search needs
+
+same-length-2 : tie.Need-same-length-2
+same-length-2 c = search needs
+
+returns : tie.Need-returns
+unfolding withinTold numberOf afterwards
+returns c =
+    let call = c .before .before .before .before .before .before .before in
+    let told = in-case withinTold (c .before .answer .given .1) (call .distance-list .ensures .0) in (
+      ap numberOf told,
+      (
+        call .distance-list .ensures .1 .0,
+        (call .distance-list .ensures .1 .1, leaves (λ n. n) (call .before .before .before .before .before .before .before .args .count .now) told),
+      ),
+    )
+
+same-length-3 : tie.Need-same-length-3
+same-length-3 c = search needs
+
+same-length-4 : tie.Need-same-length-4
+same-length-4 c = search needs
+
+returns-2 : tie.Need-returns-2
+unfolding withinTold numberOf afterwards
+returns-2 c =
+    let call = c .before .before .before .before .before .before .before in
+    let told = in-case withinTold (c .before .answer2 .given .1) (call .distance-list .ensures .0) in (
+      ap numberOf told,
+      (
+        call .distance-list .ensures .1 .0,
+        (call .distance-list .ensures .1 .1, leaves (λ n. n) (call .before .before .before .before .before .before .before .args .count .now) told),
+      ),
+    )
+
+pub vumlintel-distance-list-spec : {M : Type 1} → statement M
+vumlintel-distance-list-spec =
+    tie.close
+    (tie.spec
+    distance-list-requires
+    enum-known-answer
+    enum-known-answer-2
+    same-length
+    same-length-2
+    returns
+    same-length-3
+    same-length-4
+    returns-2)

@@ -1,0 +1,332 @@
+// Opening a campaign, its jobs and its status. A campaign crosses in its parts, each behind a reference.
+ghost use mathlib.Core.Path.{_≡_};
+ghost use mathlib.Core.Bool.{cond};
+ghost use Rattle.site.specs.SiteList.{columns};
+ghost use Rattle.entry.specs.Results.{results};
+ghost use Rattle.sweep.specs.declared.Way.the-variants.{Classic, ReverseRun};
+ghost use Rattle.campaign.specs.Grid.{jobOf};
+ghost use Rattle.campaign.specs.Calls.{openTold, jobTold, jobCampaign, jobResults, jobDoneTold, statusTold};
+ghost use Rattle.vumlintel.specs.Crossing.{numberOf, afterwards};
+ghost use Rattle.vumlintel.specs.Parts.{campaignOf};
+use campaign::Campaign;
+use campaign::JobDone;
+use campaign::Outcome;
+use campaign::Status;
+use sweep::Way;
+
+// A campaign into its parts.
+fn put(
+    c: Campaign,
+    campaign_k: &mut u32,
+    campaign_entries: &mut u32,
+    first_strips: &mut u32,
+    second_strips: &mut u32,
+    first_ends: &mut [u32; 32],
+    second_ends: &mut [u32; 32],
+    marks: &mut [u8; 1024],
+)
+    ensures { λ _. ⌜ campaignOf (now («campaign_k» .exit)) (now («campaign_entries» .exit)) (now («first_strips» .exit)) (now («second_strips» .exit)) (now («first_ends» .exit)) (now («second_ends» .exit)) (now (marks .exit)) ≡ c ⌝ }
+{
+    let first_cut = c.first_ends;
+    let second_cut = c.second_ends;
+    let marked = c.marks;
+    *campaign_k = c.k;
+    *campaign_entries = c.entries;
+    *first_strips = c.first_strips;
+    *second_strips = c.second_strips;
+    *first_ends = first_cut;
+    *second_ends = second_cut;
+    *marks = marked;
+}
+
+// What a job answers beside the campaign, across the boundary: 1 for swept and 0 for skipped.
+fn cross_done(done: JobDone, swept: &mut u32, looks: &mut u64, distances: &mut u64) -> u32
+    ensures { λ r. ⌜ r ≡ numberOf (jobDoneTold done) ⌝ }
+    ensures { λ _. ⌜ now (swept .exit) ≡ afterwards (λ v. cond (v .swept) 1 0) (jobDoneTold done) (now (swept .entry)) ⌝ }
+    ensures { λ _. ⌜ now (looks .exit) ≡ afterwards (λ v. v .looks) (jobDoneTold done) (now (looks .entry)) ⌝ }
+    ensures { λ _. ⌜ now (distances .exit) ≡ afterwards (λ v. v .distances) (jobDoneTold done) (now (distances .entry)) ⌝ }
+{
+    let outcome = done.outcome;
+    match outcome {
+        Outcome::Swept {
+            looks: l,
+            distances: d,
+        } => {
+            *swept = 1;
+            *looks = l.0;
+            *distances = d.0;
+            0
+        }
+        Outcome::Skipped => {
+            *swept = 0;
+            *looks = 0;
+            *distances = 0;
+            0
+        }
+        Outcome::Refused(n) => n,
+    }
+}
+
+// Opening: the campaign.
+#[no_mangle]
+pub extern "C" fn vumlintel_open(
+    ax: &[i32],
+    ay: &[i32],
+    an: &[u32],
+    bx: &[i32],
+    by: &[i32],
+    bn: &[u32],
+    k: u32,
+    first_cuts: &[u32],
+    second_cuts: &[u32],
+    distance: &[u64],
+    first: &[u32],
+    second: &[u32],
+    campaign_k: &mut u32,
+    campaign_entries: &mut u32,
+    first_strips: &mut u32,
+    second_strips: &mut u32,
+    first_ends: &mut [u32; 32],
+    second_ends: &mut [u32; 32],
+    marks: &mut [u8; 1024],
+) -> u32
+    ensures { λ r. ⌜ r ≡ numberOf (openTold (columns (now (ax .entry)) (now (ay .entry)) (now (an .entry))) (columns (now (bx .entry)) (now (by .entry)) (now (bn .entry))) k (now («first_cuts» .entry)) (now («second_cuts» .entry)) (results (now (distance .entry)) (now (first .entry)) (now (second .entry)))) ⌝ }
+    ensures { λ _. ⌜ campaignOf (now («campaign_k» .exit)) (now («campaign_entries» .exit)) (now («first_strips» .exit)) (now («second_strips» .exit)) (now («first_ends» .exit)) (now («second_ends» .exit)) (now (marks .exit)) ≡ afterwards (λ c. c) (openTold (columns (now (ax .entry)) (now (ay .entry)) (now (an .entry))) (columns (now (bx .entry)) (now (by .entry)) (now (bn .entry))) k (now («first_cuts» .entry)) (now («second_cuts» .entry)) (results (now (distance .entry)) (now (first .entry)) (now (second .entry)))) (campaignOf (now («campaign_k» .entry)) (now («campaign_entries» .entry)) (now («first_strips» .entry)) (now («second_strips» .entry)) (now («first_ends» .entry)) (now («second_ends» .entry)) (now (marks .entry))) ⌝ }
+{
+    let opened = campaign::calls::open(
+        ax,
+        ay,
+        an,
+        bx,
+        by,
+        bn,
+        k,
+        first_cuts,
+        second_cuts,
+        distance,
+        first,
+        second,
+    );
+    let refusal = opened.refusal;
+    if refusal != 0 {
+        return refusal;
+    }
+    let c = opened.campaign;
+    put(
+        c,
+        campaign_k,
+        campaign_entries,
+        first_strips,
+        second_strips,
+        first_ends,
+        second_ends,
+        marks,
+    );
+    0
+}
+
+// A job by the classic sweep: the campaign, whether it was swept, the looks and the distances.
+#[no_mangle]
+pub extern "C" fn vumlintel_job_classic(
+    campaign_k: &mut u32,
+    campaign_entries: &mut u32,
+    first_strips: &mut u32,
+    second_strips: &mut u32,
+    first_ends: &mut [u32; 32],
+    second_ends: &mut [u32; 32],
+    marks: &mut [u8; 1024],
+    ax: &[i32],
+    ay: &[i32],
+    an: &[u32],
+    bx: &[i32],
+    by: &[i32],
+    bn: &[u32],
+    distance: &mut [u64],
+    first: &mut [u32],
+    second: &mut [u32],
+    first_strip: u32,
+    second_strip: u32,
+    swept: &mut u32,
+    looks: &mut u64,
+    distances: &mut u64,
+) -> u32
+    ensures { λ r. ⌜ r ≡ numberOf (jobTold Classic (campaignOf (now («campaign_k» .entry)) (now («campaign_entries» .entry)) (now («first_strips» .entry)) (now («second_strips» .entry)) (now («first_ends» .entry)) (now («second_ends» .entry)) (now (marks .entry))) (columns (now (ax .entry)) (now (ay .entry)) (now (an .entry))) (columns (now (bx .entry)) (now (by .entry)) (now (bn .entry))) (results (now (distance .entry)) (now (first .entry)) (now (second .entry))) (jobOf «first_strip» «second_strip»)) ⌝ }
+    ensures { λ _. ⌜ campaignOf (now («campaign_k» .exit)) (now («campaign_entries» .exit)) (now («first_strips» .exit)) (now («second_strips» .exit)) (now («first_ends» .exit)) (now («second_ends» .exit)) (now (marks .exit)) ≡ jobCampaign (campaignOf (now («campaign_k» .entry)) (now («campaign_entries» .entry)) (now («first_strips» .entry)) (now («second_strips» .entry)) (now («first_ends» .entry)) (now («second_ends» .entry)) (now (marks .entry))) (columns (now (ax .entry)) (now (ay .entry)) (now (an .entry))) (columns (now (bx .entry)) (now (by .entry)) (now (bn .entry))) (results (now (distance .entry)) (now (first .entry)) (now (second .entry))) (jobOf «first_strip» «second_strip») ⌝ }
+    ensures { λ _. ⌜ results (now (distance .exit)) (now (first .exit)) (now (second .exit)) ≡ jobResults (campaignOf (now («campaign_k» .entry)) (now («campaign_entries» .entry)) (now («first_strips» .entry)) (now («second_strips» .entry)) (now («first_ends» .entry)) (now («second_ends» .entry)) (now (marks .entry))) (columns (now (ax .entry)) (now (ay .entry)) (now (an .entry))) (columns (now (bx .entry)) (now (by .entry)) (now (bn .entry))) (results (now (distance .entry)) (now (first .entry)) (now (second .entry))) (jobOf «first_strip» «second_strip») ⌝ }
+    ensures { λ _. ⌜ now (swept .exit) ≡ afterwards (λ v. cond (v .swept) 1 0) (jobTold Classic (campaignOf (now («campaign_k» .entry)) (now («campaign_entries» .entry)) (now («first_strips» .entry)) (now («second_strips» .entry)) (now («first_ends» .entry)) (now («second_ends» .entry)) (now (marks .entry))) (columns (now (ax .entry)) (now (ay .entry)) (now (an .entry))) (columns (now (bx .entry)) (now (by .entry)) (now (bn .entry))) (results (now (distance .entry)) (now (first .entry)) (now (second .entry))) (jobOf «first_strip» «second_strip»)) (now (swept .entry)) ⌝ }
+    ensures { λ _. ⌜ now (looks .exit) ≡ afterwards (λ v. v .looks) (jobTold Classic (campaignOf (now («campaign_k» .entry)) (now («campaign_entries» .entry)) (now («first_strips» .entry)) (now («second_strips» .entry)) (now («first_ends» .entry)) (now («second_ends» .entry)) (now (marks .entry))) (columns (now (ax .entry)) (now (ay .entry)) (now (an .entry))) (columns (now (bx .entry)) (now (by .entry)) (now (bn .entry))) (results (now (distance .entry)) (now (first .entry)) (now (second .entry))) (jobOf «first_strip» «second_strip»)) (now (looks .entry)) ⌝ }
+    ensures { λ _. ⌜ now (distances .exit) ≡ afterwards (λ v. v .distances) (jobTold Classic (campaignOf (now («campaign_k» .entry)) (now («campaign_entries» .entry)) (now («first_strips» .entry)) (now («second_strips» .entry)) (now («first_ends» .entry)) (now («second_ends» .entry)) (now (marks .entry))) (columns (now (ax .entry)) (now (ay .entry)) (now (an .entry))) (columns (now (bx .entry)) (now (by .entry)) (now (bn .entry))) (results (now (distance .entry)) (now (first .entry)) (now (second .entry))) (jobOf «first_strip» «second_strip»)) (now (distances .entry)) ⌝ }
+{
+    let first_cut = *first_ends;
+    let second_cut = *second_ends;
+    let marked = *marks;
+    let c = Campaign {
+        k: *campaign_k,
+        entries: *campaign_entries,
+        first_strips: *first_strips,
+        second_strips: *second_strips,
+        first_ends: first_cut,
+        second_ends: second_cut,
+        marks: marked,
+    };
+    let done = campaign::calls::job(
+        c,
+        ax,
+        ay,
+        an,
+        bx,
+        by,
+        bn,
+        distance,
+        first,
+        second,
+        first_strip,
+        second_strip,
+        Way::Classic,
+    );
+    let after = done.campaign;
+    put(
+        after,
+        campaign_k,
+        campaign_entries,
+        first_strips,
+        second_strips,
+        first_ends,
+        second_ends,
+        marks,
+    );
+    cross_done(done, swept, looks, distances)
+}
+
+// A job by Reverse Run: the campaign, whether it was swept, the looks and the distances.
+#[no_mangle]
+pub extern "C" fn vumlintel_job_reverse_run(
+    campaign_k: &mut u32,
+    campaign_entries: &mut u32,
+    first_strips: &mut u32,
+    second_strips: &mut u32,
+    first_ends: &mut [u32; 32],
+    second_ends: &mut [u32; 32],
+    marks: &mut [u8; 1024],
+    ax: &[i32],
+    ay: &[i32],
+    an: &[u32],
+    bx: &[i32],
+    by: &[i32],
+    bn: &[u32],
+    distance: &mut [u64],
+    first: &mut [u32],
+    second: &mut [u32],
+    first_strip: u32,
+    second_strip: u32,
+    swept: &mut u32,
+    looks: &mut u64,
+    distances: &mut u64,
+) -> u32
+    ensures { λ r. ⌜ r ≡ numberOf (jobTold ReverseRun (campaignOf (now («campaign_k» .entry)) (now («campaign_entries» .entry)) (now («first_strips» .entry)) (now («second_strips» .entry)) (now («first_ends» .entry)) (now («second_ends» .entry)) (now (marks .entry))) (columns (now (ax .entry)) (now (ay .entry)) (now (an .entry))) (columns (now (bx .entry)) (now (by .entry)) (now (bn .entry))) (results (now (distance .entry)) (now (first .entry)) (now (second .entry))) (jobOf «first_strip» «second_strip»)) ⌝ }
+    ensures { λ _. ⌜ campaignOf (now («campaign_k» .exit)) (now («campaign_entries» .exit)) (now («first_strips» .exit)) (now («second_strips» .exit)) (now («first_ends» .exit)) (now («second_ends» .exit)) (now (marks .exit)) ≡ jobCampaign (campaignOf (now («campaign_k» .entry)) (now («campaign_entries» .entry)) (now («first_strips» .entry)) (now («second_strips» .entry)) (now («first_ends» .entry)) (now («second_ends» .entry)) (now (marks .entry))) (columns (now (ax .entry)) (now (ay .entry)) (now (an .entry))) (columns (now (bx .entry)) (now (by .entry)) (now (bn .entry))) (results (now (distance .entry)) (now (first .entry)) (now (second .entry))) (jobOf «first_strip» «second_strip») ⌝ }
+    ensures { λ _. ⌜ results (now (distance .exit)) (now (first .exit)) (now (second .exit)) ≡ jobResults (campaignOf (now («campaign_k» .entry)) (now («campaign_entries» .entry)) (now («first_strips» .entry)) (now («second_strips» .entry)) (now («first_ends» .entry)) (now («second_ends» .entry)) (now (marks .entry))) (columns (now (ax .entry)) (now (ay .entry)) (now (an .entry))) (columns (now (bx .entry)) (now (by .entry)) (now (bn .entry))) (results (now (distance .entry)) (now (first .entry)) (now (second .entry))) (jobOf «first_strip» «second_strip») ⌝ }
+    ensures { λ _. ⌜ now (swept .exit) ≡ afterwards (λ v. cond (v .swept) 1 0) (jobTold ReverseRun (campaignOf (now («campaign_k» .entry)) (now («campaign_entries» .entry)) (now («first_strips» .entry)) (now («second_strips» .entry)) (now («first_ends» .entry)) (now («second_ends» .entry)) (now (marks .entry))) (columns (now (ax .entry)) (now (ay .entry)) (now (an .entry))) (columns (now (bx .entry)) (now (by .entry)) (now (bn .entry))) (results (now (distance .entry)) (now (first .entry)) (now (second .entry))) (jobOf «first_strip» «second_strip»)) (now (swept .entry)) ⌝ }
+    ensures { λ _. ⌜ now (looks .exit) ≡ afterwards (λ v. v .looks) (jobTold ReverseRun (campaignOf (now («campaign_k» .entry)) (now («campaign_entries» .entry)) (now («first_strips» .entry)) (now («second_strips» .entry)) (now («first_ends» .entry)) (now («second_ends» .entry)) (now (marks .entry))) (columns (now (ax .entry)) (now (ay .entry)) (now (an .entry))) (columns (now (bx .entry)) (now (by .entry)) (now (bn .entry))) (results (now (distance .entry)) (now (first .entry)) (now (second .entry))) (jobOf «first_strip» «second_strip»)) (now (looks .entry)) ⌝ }
+    ensures { λ _. ⌜ now (distances .exit) ≡ afterwards (λ v. v .distances) (jobTold ReverseRun (campaignOf (now («campaign_k» .entry)) (now («campaign_entries» .entry)) (now («first_strips» .entry)) (now («second_strips» .entry)) (now («first_ends» .entry)) (now («second_ends» .entry)) (now (marks .entry))) (columns (now (ax .entry)) (now (ay .entry)) (now (an .entry))) (columns (now (bx .entry)) (now (by .entry)) (now (bn .entry))) (results (now (distance .entry)) (now (first .entry)) (now (second .entry))) (jobOf «first_strip» «second_strip»)) (now (distances .entry)) ⌝ }
+{
+    let first_cut = *first_ends;
+    let second_cut = *second_ends;
+    let marked = *marks;
+    let c = Campaign {
+        k: *campaign_k,
+        entries: *campaign_entries,
+        first_strips: *first_strips,
+        second_strips: *second_strips,
+        first_ends: first_cut,
+        second_ends: second_cut,
+        marks: marked,
+    };
+    let done = campaign::calls::job(
+        c,
+        ax,
+        ay,
+        an,
+        bx,
+        by,
+        bn,
+        distance,
+        first,
+        second,
+        first_strip,
+        second_strip,
+        Way::ReverseRun,
+    );
+    let after = done.campaign;
+    put(
+        after,
+        campaign_k,
+        campaign_entries,
+        first_strips,
+        second_strips,
+        first_ends,
+        second_ends,
+        marks,
+    );
+    cross_done(done, swept, looks, distances)
+}
+
+// Status: the jobs settled, the jobs in all, the entries and K.
+#[no_mangle]
+pub extern "C" fn vumlintel_status(
+    campaign_k: &u32,
+    campaign_entries: &u32,
+    first_strips: &u32,
+    second_strips: &u32,
+    first_ends: &[u32; 32],
+    second_ends: &[u32; 32],
+    marks: &[u8; 1024],
+    ax: &[i32],
+    ay: &[i32],
+    an: &[u32],
+    bx: &[i32],
+    by: &[i32],
+    bn: &[u32],
+    distance: &[u64],
+    first: &[u32],
+    second: &[u32],
+    settled: &mut u32,
+    jobs: &mut u32,
+    entries: &mut u32,
+    k: &mut u32,
+) -> u32
+    ensures { λ r. ⌜ r ≡ numberOf (statusTold (campaignOf (now («campaign_k» .entry)) (now («campaign_entries» .entry)) (now («first_strips» .entry)) (now («second_strips» .entry)) (now («first_ends» .entry)) (now («second_ends» .entry)) (now (marks .entry))) (columns (now (ax .entry)) (now (ay .entry)) (now (an .entry))) (columns (now (bx .entry)) (now (by .entry)) (now (bn .entry))) (results (now (distance .entry)) (now (first .entry)) (now (second .entry)))) ⌝ }
+    ensures { λ _. ⌜ now (settled .exit) ≡ afterwards (λ v. v .settled) (statusTold (campaignOf (now («campaign_k» .entry)) (now («campaign_entries» .entry)) (now («first_strips» .entry)) (now («second_strips» .entry)) (now («first_ends» .entry)) (now («second_ends» .entry)) (now (marks .entry))) (columns (now (ax .entry)) (now (ay .entry)) (now (an .entry))) (columns (now (bx .entry)) (now (by .entry)) (now (bn .entry))) (results (now (distance .entry)) (now (first .entry)) (now (second .entry)))) (now (settled .entry)) ⌝ }
+    ensures { λ _. ⌜ now (jobs .exit) ≡ afterwards (λ v. v .jobs) (statusTold (campaignOf (now («campaign_k» .entry)) (now («campaign_entries» .entry)) (now («first_strips» .entry)) (now («second_strips» .entry)) (now («first_ends» .entry)) (now («second_ends» .entry)) (now (marks .entry))) (columns (now (ax .entry)) (now (ay .entry)) (now (an .entry))) (columns (now (bx .entry)) (now (by .entry)) (now (bn .entry))) (results (now (distance .entry)) (now (first .entry)) (now (second .entry)))) (now (jobs .entry)) ⌝ }
+    ensures { λ _. ⌜ now (entries .exit) ≡ afterwards (λ v. v .entries) (statusTold (campaignOf (now («campaign_k» .entry)) (now («campaign_entries» .entry)) (now («first_strips» .entry)) (now («second_strips» .entry)) (now («first_ends» .entry)) (now («second_ends» .entry)) (now (marks .entry))) (columns (now (ax .entry)) (now (ay .entry)) (now (an .entry))) (columns (now (bx .entry)) (now (by .entry)) (now (bn .entry))) (results (now (distance .entry)) (now (first .entry)) (now (second .entry)))) (now (entries .entry)) ⌝ }
+    ensures { λ _. ⌜ now (k .exit) ≡ afterwards (λ v. v .k) (statusTold (campaignOf (now («campaign_k» .entry)) (now («campaign_entries» .entry)) (now («first_strips» .entry)) (now («second_strips» .entry)) (now («first_ends» .entry)) (now («second_ends» .entry)) (now (marks .entry))) (columns (now (ax .entry)) (now (ay .entry)) (now (an .entry))) (columns (now (bx .entry)) (now (by .entry)) (now (bn .entry))) (results (now (distance .entry)) (now (first .entry)) (now (second .entry)))) (now (k .entry)) ⌝ }
+{
+    let first_cut = *first_ends;
+    let second_cut = *second_ends;
+    let marked = *marks;
+    let c = Campaign {
+        k: *campaign_k,
+        entries: *campaign_entries,
+        first_strips: *first_strips,
+        second_strips: *second_strips,
+        first_ends: first_cut,
+        second_ends: second_cut,
+        marks: marked,
+    };
+    let answer = campaign::calls::status(c, ax, ay, an, bx, by, bn, distance, first, second);
+    match answer {
+        Status::Counts {
+            settled: s,
+            jobs: j,
+            entries: e,
+            k: n,
+        } => {
+            *settled = s;
+            *jobs = j;
+            *entries = e;
+            *k = n;
+            0
+        }
+        Status::Refused(n) => n,
+    }
+}

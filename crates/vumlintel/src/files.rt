@@ -1,0 +1,120 @@
+// The site file: writing one, reading one, and its sites.
+ghost use mathlib.Core.Path.{_≡_};
+ghost use lib.ListN.{length};
+ghost use Rattle.site.specs.SiteList.{columns};
+ghost use Rattle.site_file.specs.declared.Which.the-variants.{First, Second};
+ghost use Rattle.site_file.specs.Calls.{writeTold, writeBuffer, readTold, siteTold, siteReadTold};
+ghost use Rattle.vumlintel.specs.Crossing.{numberOf, afterwards};
+use site_file::FileRead;
+use site_file::SiteRead;
+use site_file::Which;
+use site_file::Written;
+
+// Writing two lists as a site file: its length.
+#[no_mangle]
+pub extern "C" fn vumlintel_write_file(
+    ax: &[i32],
+    ay: &[i32],
+    an: &[u32],
+    bx: &[i32],
+    by: &[i32],
+    bn: &[u32],
+    buffer: &mut [u8],
+    length: &mut u32,
+) -> u32
+    ensures { λ r.
+        ⌜ r
+        ≡ numberOf (writeTold (columns (now (ax .entry)) (now (ay .entry)) (now (an .entry))) (columns (now (bx .entry)) (now (by .entry)) (now (bn .entry))) (lib.ListN.length (now (buffer .entry)))) ⌝ }
+    ensures { λ _.
+        ⌜ now (buffer .exit)
+        ≡ writeBuffer (columns (now (ax .entry)) (now (ay .entry)) (now (an .entry))) (columns (now (bx .entry)) (now (by .entry)) (now (bn .entry))) (now (buffer .entry)) ⌝ }
+    ensures { λ _.
+        ⌜ now (length .exit)
+        ≡ afterwards (λ n. n) (writeTold (columns (now (ax .entry)) (now (ay .entry)) (now (an .entry))) (columns (now (bx .entry)) (now (by .entry)) (now (bn .entry))) (lib.ListN.length (now (buffer .entry)))) (now (length .entry)) ⌝ }
+{
+    let answer = site_file::write(ax, ay, an, bx, by, bn, buffer);
+    match answer {
+        Written::Bytes(n) => {
+            *length = n;
+            0
+        }
+        Written::Refused(n) => n,
+    }
+}
+
+// Reading a site file: both site counts.
+#[no_mangle]
+pub extern "C" fn vumlintel_read_file(file: &[u8], first: &mut u32, second: &mut u32) -> u32
+    ensures { λ r. ⌜ r ≡ numberOf (readTold (now (file .entry))) ⌝ }
+    ensures { λ _. ⌜ now (first .exit) ≡ afterwards (λ v. v .first) (readTold (now (file .entry))) (now (first .entry)) ⌝ }
+    ensures { λ _. ⌜ now (second .exit) ≡ afterwards (λ v. v .second) (readTold (now (file .entry))) (now (second .entry)) ⌝ }
+{
+    let answer = site_file::read(file);
+    match answer {
+        FileRead::Counts {
+            first: n,
+            second: m,
+        } => {
+            *first = n;
+            *second = m;
+            0
+        }
+        FileRead::Refused(n) => n,
+    }
+}
+
+// What a site of a file answers, across the boundary.
+fn cross_site(answer: SiteRead, x: &mut i32, y: &mut i32, number: &mut u32) -> u32
+    ensures { λ r. ⌜ r ≡ numberOf (siteReadTold answer) ⌝ }
+    ensures { λ _. ⌜ now (x .exit) ≡ afterwards (λ s. s .x) (siteReadTold answer) (now (x .entry)) ⌝ }
+    ensures { λ _. ⌜ now (y .exit) ≡ afterwards (λ s. s .y) (siteReadTold answer) (now (y .entry)) ⌝ }
+    ensures { λ _. ⌜ now (number .exit) ≡ afterwards (λ s. s .number) (siteReadTold answer) (now (number .entry)) ⌝ }
+{
+    match answer {
+        SiteRead::Found(s) => {
+            let site_x = s.x;
+            let site_y = s.y;
+            *x = site_x;
+            *y = site_y;
+            *number = s.number;
+            0
+        }
+        SiteRead::Refused(n) => n,
+    }
+}
+
+// A site of a file's first list.
+#[no_mangle]
+pub extern "C" fn vumlintel_file_site_first(
+    file: &[u8],
+    place: u32,
+    x: &mut i32,
+    y: &mut i32,
+    number: &mut u32,
+) -> u32
+    ensures { λ r. ⌜ r ≡ numberOf (siteTold (now (file .entry)) First place) ⌝ }
+    ensures { λ _. ⌜ now (x .exit) ≡ afterwards (λ s. s .x) (siteTold (now (file .entry)) First place) (now (x .entry)) ⌝ }
+    ensures { λ _. ⌜ now (y .exit) ≡ afterwards (λ s. s .y) (siteTold (now (file .entry)) First place) (now (y .entry)) ⌝ }
+    ensures { λ _. ⌜ now (number .exit) ≡ afterwards (λ s. s .number) (siteTold (now (file .entry)) First place) (now (number .entry)) ⌝ }
+{
+    let answer = site_file::site_of(file, Which::First, place);
+    cross_site(answer, x, y, number)
+}
+
+// A site of a file's second list.
+#[no_mangle]
+pub extern "C" fn vumlintel_file_site_second(
+    file: &[u8],
+    place: u32,
+    x: &mut i32,
+    y: &mut i32,
+    number: &mut u32,
+) -> u32
+    ensures { λ r. ⌜ r ≡ numberOf (siteTold (now (file .entry)) Second place) ⌝ }
+    ensures { λ _. ⌜ now (x .exit) ≡ afterwards (λ s. s .x) (siteTold (now (file .entry)) Second place) (now (x .entry)) ⌝ }
+    ensures { λ _. ⌜ now (y .exit) ≡ afterwards (λ s. s .y) (siteTold (now (file .entry)) Second place) (now (y .entry)) ⌝ }
+    ensures { λ _. ⌜ now (number .exit) ≡ afterwards (λ s. s .number) (siteTold (now (file .entry)) Second place) (now (number .entry)) ⌝ }
+{
+    let answer = site_file::site_of(file, Which::Second, place);
+    cross_site(answer, x, y, number)
+}
