@@ -1,0 +1,168 @@
+/*
+ * Vumlintel: pairs of sites of two lists, by rank or by distance, whole or in strip jobs.
+ *
+ * Every call answers a refusal number, 0 for success. A refused call writes nothing at all: no answer, no column, no buffer,
+ * no part of a campaign. A success writes its answers through the pointers at the end of its parameters.
+ *
+ *   VUMLINTEL_LIST_SIZE       1  columns of unequal length, more than 65,535 sites, or (adding) a count in use above the length
+ *   VUMLINTEL_LIMITS          2  a coordinate below -1,000,000,000 or above 1,000,000,000
+ *   VUMLINTEL_ORDER           3  sites not strictly ascending by x, then y, then number
+ *   VUMLINTEL_K               4  K is 0 or above 4,096
+ *   VUMLINTEL_CUT_ENDS        5  cut ends unlawful: at most 32, strictly ascending, each above 0, the last the list's length
+ *   VUMLINTEL_ROOM            6  a result column shorter than K, too few elements for the pairs found, a buffer shorter than
+ *                                the file, or no room for one more site
+ *   VUMLINTEL_CAMPAIGN        7  the campaign or its result columns do not fit each other or the lists
+ *   VUMLINTEL_RANGE           8  a strip number not below the strip count, or a place not below the list's count
+ *   VUMLINTEL_SETTLED         9  the job is settled already
+ *   VUMLINTEL_FILE           10  the file's contents or length are wrong
+ *   VUMLINTEL_PRESENT        11  the same x, y and number is in the list already
+ *
+ * Order: the first list's 1, 2, 3, then the second list's, then the rest by number. Adding tests the new site (2) after the
+ * list. A file below 16 bytes gets 10; any other is tested for 1 (counts), then 10, then its lists for 2 and 3.
+ *
+ * A list is three columns: x, y and number, each a pointer and an element count. A site's place is its index from 0. A pair is
+ * a place in the first list and a place in the second. Pairs are ranked by squared distance, then first place, then second.
+ *
+ * What the caller owes: each pointer is aligned and not null, also with a count of 0, and leads to as many elements as its
+ * count says; what a call writes overlaps nothing else that it is lent; nobody else writes what is lent until the call is back.
+ */
+#ifndef VUMLINTEL_H
+#define VUMLINTEL_H
+
+#include <stddef.h>
+#include <stdint.h>
+
+#ifdef __cplusplus
+extern "C" {
+#endif
+
+enum {
+    VUMLINTEL_OK = 0,
+    VUMLINTEL_LIST_SIZE = 1,
+    VUMLINTEL_LIMITS = 2,
+    VUMLINTEL_ORDER = 3,
+    VUMLINTEL_K = 4,
+    VUMLINTEL_CUT_ENDS = 5,
+    VUMLINTEL_ROOM = 6,
+    VUMLINTEL_CAMPAIGN = 7,
+    VUMLINTEL_RANGE = 8,
+    VUMLINTEL_SETTLED = 9,
+    VUMLINTEL_FILE = 10,
+    VUMLINTEL_PRESENT = 11
+};
+
+/* Checks a list: how many sites it has, or 1, 2, 3. */
+uint32_t vumlintel_check(const int32_t *x, size_t xs, const int32_t *y, size_t ys, const uint32_t *number, size_t numbers,
+                         uint32_t *count);
+
+/*
+ * Adds a site to the first `in_use` sites of three columns, at its place; later ones move up by one. Answers the place and the
+ * new count in use, or 1, 2, 3 for the sites in use, 2 for the site, 6, 11.
+ */
+uint32_t vumlintel_add(int32_t *x, size_t xs, int32_t *y, size_t ys, uint32_t *number, size_t numbers, uint32_t in_use,
+                       int32_t site_x, int32_t site_y, uint32_t site_number, uint32_t *place, uint32_t *count);
+
+/*
+ * The K list of two lists, by the classic sweep or by Reverse Run: the first K pairs by rank, or all where there are fewer, in
+ * rank order in three columns: squared distance, first place, second place. Answers the entry count and the sweep's looks and
+ * distances, or 1, 2, 3 for each list, 4, 6. Elements past the entries stay.
+ */
+uint32_t vumlintel_k_list_classic(const int32_t *ax, size_t axs, const int32_t *ay, size_t ays, const uint32_t *an, size_t ans,
+                                  const int32_t *bx, size_t bxs, const int32_t *by, size_t bys, const uint32_t *bn, size_t bns,
+                                  uint32_t k, uint64_t *distance, size_t distance_length, uint32_t *first, size_t first_length,
+                                  uint32_t *second, size_t second_length, uint32_t *entries, uint64_t *looks,
+                                  uint64_t *distances);
+
+uint32_t vumlintel_k_list_reverse_run(const int32_t *ax, size_t axs, const int32_t *ay, size_t ays, const uint32_t *an,
+                                      size_t ans, const int32_t *bx, size_t bxs, const int32_t *by, size_t bys,
+                                      const uint32_t *bn, size_t bns, uint32_t k, uint64_t *distance, size_t distance_length,
+                                      uint32_t *first, size_t first_length, uint32_t *second, size_t second_length,
+                                      uint32_t *entries, uint64_t *looks, uint64_t *distances);
+
+/*
+ * The distance list of two lists: all pairs with a squared distance of at most e * e, by first place and then second, in two
+ * columns. Answers their count, or 1, 2, 3 for each list, or 6 where the shorter column has fewer elements. Elements past the
+ * pairs stay.
+ */
+uint32_t vumlintel_distance_list(const int32_t *ax, size_t axs, const int32_t *ay, size_t ays, const uint32_t *an, size_t ans,
+                                 const int32_t *bx, size_t bxs, const int32_t *by, size_t bys, const uint32_t *bn, size_t bns,
+                                 uint32_t e, uint32_t *first, size_t first_length, uint32_t *second, size_t second_length,
+                                 uint64_t *count);
+
+/* A campaign. It may be kept anywhere between calls; its result columns, which hold its entries, belong to it. */
+typedef struct vumlintel_campaign {
+    uint32_t k;
+    uint32_t entries;
+    uint32_t first_strips;
+    uint32_t second_strips;
+    uint32_t first_ends[32];
+    uint32_t second_ends[32];
+    uint8_t marks[1024]; /* job (a, b) is mark 32 * a + b; 1 means settled */
+} vumlintel_campaign;
+
+/* The parts of a campaign, as the calls below take them. */
+#define VUMLINTEL_PARTS(c)                                                                                                     \
+    &(c)->k, &(c)->entries, &(c)->first_strips, &(c)->second_strips, (c)->first_ends, (c)->second_ends, (c)->marks
+
+/*
+ * Opens a campaign: K, and the cut ends of both lists. Strip s of a list runs from end s - 1 (or 0) up to, not including, end
+ * s. The result columns are not written. Answers the campaign, with no entry and no job settled, or 1, 2, 3 for each list, 4,
+ * 5, 6.
+ */
+uint32_t vumlintel_open(const int32_t *ax, size_t axs, const int32_t *ay, size_t ays, const uint32_t *an, size_t ans,
+                        const int32_t *bx, size_t bxs, const int32_t *by, size_t bys, const uint32_t *bn, size_t bns, uint32_t k,
+                        const uint32_t *first_cuts, size_t first_cuts_length, const uint32_t *second_cuts,
+                        size_t second_cuts_length, const uint64_t *distance, size_t distance_length, const uint32_t *first,
+                        size_t first_length, const uint32_t *second, size_t second_length, uint32_t *campaign_k,
+                        uint32_t *campaign_entries, uint32_t *first_strips, uint32_t *second_strips, uint32_t first_ends[32],
+                        uint32_t second_ends[32], uint8_t marks[1024]);
+
+/*
+ * Does the job of a strip of each list, by the classic sweep or by Reverse Run. Answers the campaign, whether the job was swept
+ * (1) or skipped (0), and looks and distances, both 0 when skipped; or 1, 2, 3 for each list, 7, 8, 9.
+ */
+uint32_t vumlintel_job_classic(uint32_t *campaign_k, uint32_t *campaign_entries, uint32_t *first_strips, uint32_t *second_strips,
+                               uint32_t first_ends[32], uint32_t second_ends[32], uint8_t marks[1024], const int32_t *ax,
+                               size_t axs, const int32_t *ay, size_t ays, const uint32_t *an, size_t ans, const int32_t *bx,
+                               size_t bxs, const int32_t *by, size_t bys, const uint32_t *bn, size_t bns, uint64_t *distance,
+                               size_t distance_length, uint32_t *first, size_t first_length, uint32_t *second,
+                               size_t second_length, uint32_t first_strip, uint32_t second_strip, uint32_t *swept,
+                               uint64_t *looks, uint64_t *distances);
+
+uint32_t vumlintel_job_reverse_run(uint32_t *campaign_k, uint32_t *campaign_entries, uint32_t *first_strips,
+                                   uint32_t *second_strips, uint32_t first_ends[32], uint32_t second_ends[32],
+                                   uint8_t marks[1024], const int32_t *ax, size_t axs, const int32_t *ay, size_t ays,
+                                   const uint32_t *an, size_t ans, const int32_t *bx, size_t bxs, const int32_t *by, size_t bys,
+                                   const uint32_t *bn, size_t bns, uint64_t *distance, size_t distance_length, uint32_t *first,
+                                   size_t first_length, uint32_t *second, size_t second_length, uint32_t first_strip,
+                                   uint32_t second_strip, uint32_t *swept, uint64_t *looks, uint64_t *distances);
+
+/* Answers the jobs settled, the jobs in all, the entries and K; or 1, 2, 3 for each list, 7. Writes nothing else. */
+uint32_t vumlintel_status(const uint32_t *campaign_k, const uint32_t *campaign_entries, const uint32_t *first_strips,
+                          const uint32_t *second_strips, const uint32_t first_ends[32], const uint32_t second_ends[32],
+                          const uint8_t marks[1024], const int32_t *ax, size_t axs, const int32_t *ay, size_t ays,
+                          const uint32_t *an, size_t ans, const int32_t *bx, size_t bxs, const int32_t *by, size_t bys,
+                          const uint32_t *bn, size_t bns, const uint64_t *distance, size_t distance_length,
+                          const uint32_t *first, size_t first_length, const uint32_t *second, size_t second_length,
+                          uint32_t *settled, uint32_t *jobs, uint32_t *entries, uint32_t *k);
+
+/* Writes two lists as a site file from the start of a buffer on. Answers its length, or 1, 2, 3 for each list, 6. */
+uint32_t vumlintel_write_file(const int32_t *ax, size_t axs, const int32_t *ay, size_t ays, const uint32_t *an, size_t ans,
+                              const int32_t *bx, size_t bxs, const int32_t *by, size_t bys, const uint32_t *bn, size_t bns,
+                              uint8_t *buffer, size_t buffer_length, uint32_t *length);
+
+/* Tests a site file. Answers both site counts, or 10, 1, 10, then 2, 3 for each list. */
+uint32_t vumlintel_read_file(const uint8_t *file, size_t file_length, uint32_t *first, uint32_t *second);
+
+/* A site of the file's first or second list, as it lies: 10, 1, 10 and 8 are tested, 2 and 3 are not. */
+uint32_t vumlintel_file_site_first(const uint8_t *file, size_t file_length, uint32_t place, int32_t *x, int32_t *y,
+                                   uint32_t *number);
+
+uint32_t vumlintel_file_site_second(const uint8_t *file, size_t file_length, uint32_t place, int32_t *x, int32_t *y,
+                                    uint32_t *number);
+
+#ifdef __cplusplus
+}
+#endif
+
+#endif

@@ -1,0 +1,306 @@
+//! The exported calls, safe, with all that is lent between fences: a write outside a lent buffer is seen, and so is a
+//! changed element of what is lent to be read only, and an answer written by a refused call.
+
+use crate::model::{Campaign, Columns, Counters, Results, Site, Status, Way};
+use crate::raw;
+
+const FENCE: usize = 8;
+
+/// A lent buffer with a fence on either side.
+struct Lent<T> {
+    all: Vec<T>,
+    fence: T,
+}
+
+impl<T: Copy + PartialEq> Lent<T> {
+    fn new(elements: &[T], fence: T) -> Lent<T> {
+        let mut all = vec![fence; FENCE];
+        all.extend_from_slice(elements);
+        all.extend(vec![fence; FENCE]);
+        Lent { all, fence }
+    }
+
+    fn len(&self) -> usize {
+        self.all.len() - 2 * FENCE
+    }
+
+    fn shared(&self) -> *const T {
+        self.all[FENCE..].as_ptr()
+    }
+
+    fn exclusive(&mut self) -> *mut T {
+        self.all[FENCE..].as_mut_ptr()
+    }
+
+    /// The elements afterwards.
+    fn back(&self) -> &[T] {
+        let (low, rest) = self.all.split_at(FENCE);
+        let (elements, high) = rest.split_at(self.len());
+        assert!(low.iter().chain(high).all(|f| *f == self.fence), "a fence was written");
+        elements
+    }
+
+    fn unchanged(&self, elements: &[T]) {
+        assert!(self.back() == elements, "what was lent to be read was written");
+    }
+}
+
+const I: i32 = -0x5eed_5eed;
+const U: u32 = 0xfe9c_e0fe;
+const L: u64 = 0xfe9c_e0fe_9ce0_fe9c;
+const B: u8 = 0xa5;
+
+/// A list lent to be read.
+struct LentList {
+    x: Lent<i32>,
+    y: Lent<i32>,
+    n: Lent<u32>,
+}
+
+impl LentList {
+    fn new(c: &Columns) -> LentList {
+        LentList { x: Lent::new(&c.x, I), y: Lent::new(&c.y, I), n: Lent::new(&c.number, U) }
+    }
+
+    fn unchanged(&self, c: &Columns) {
+        self.x.unchanged(&c.x);
+        self.y.unchanged(&c.y);
+        self.n.unchanged(&c.number);
+    }
+}
+
+/// Result columns.
+struct LentResults {
+    distance: Lent<u64>,
+    first: Lent<u32>,
+    second: Lent<u32>,
+}
+
+impl LentResults {
+    fn new(r: &Results) -> LentResults {
+        LentResults {
+            distance: Lent::new(&r.distance, L),
+            first: Lent::new(&r.first, U),
+            second: Lent::new(&r.second, U),
+        }
+    }
+
+    fn back(&self) -> Results {
+        Results {
+            distance: self.distance.back().to_vec(),
+            first: self.first.back().to_vec(),
+            second: self.second.back().to_vec(),
+        }
+    }
+}
+
+/// The answer: the values where the number is 0; where it is not, no value may have been written.
+fn told<T: PartialEq + std::fmt::Debug>(number: u32, values: T, before: T) -> Result<T, u32> {
+    if number == 0 {
+        return Ok(values);
+    }
+    assert_eq!(values, before, "a call refused with {number} wrote an answer");
+    Err(number)
+}
+
+pub fn check(c: &Columns) -> Result<u32, u32> {
+    let l = LentList::new(c);
+    let mut count = U;
+    let number = unsafe {
+        raw::vumlintel_check(
+            l.x.shared(), l.x.len(), l.y.shared(), l.y.len(), l.n.shared(), l.n.len(),
+            &mut count,
+        )
+    };
+    l.unchanged(c);
+    told(number, count, U)
+}
+
+/// The place and the new count; the columns are changed in place.
+pub fn add(c: &mut Columns, in_use: u32, s: Site) -> Result<(u32, u32), u32> {
+    let mut l = LentList::new(c);
+    let (mut place, mut count) = (U, U);
+    let number = unsafe {
+        raw::vumlintel_add(
+            l.x.exclusive(), l.x.len(), l.y.exclusive(), l.y.len(), l.n.exclusive(), l.n.len(),
+            in_use, s.x, s.y, s.number,
+            &mut place, &mut count,
+        )
+    };
+    *c = Columns { x: l.x.back().to_vec(), y: l.y.back().to_vec(), number: l.n.back().to_vec() };
+    told(number, (place, count), (U, U))
+}
+
+/// The entry count and the counters.
+pub fn k_list(way: Way, a: &Columns, b: &Columns, k: u32, r: &mut Results) -> Result<(u32, Counters), u32> {
+    let (p, q) = (LentList::new(a), LentList::new(b));
+    let mut l = LentResults::new(r);
+    let (mut entries, mut looks, mut distances) = (U, L, L);
+    let call = match way {
+        Way::Classic => raw::vumlintel_k_list_classic,
+        Way::ReverseRun => raw::vumlintel_k_list_reverse_run,
+    };
+    let number = unsafe {
+        call(
+            p.x.shared(), p.x.len(), p.y.shared(), p.y.len(), p.n.shared(), p.n.len(),
+            q.x.shared(), q.x.len(), q.y.shared(), q.y.len(), q.n.shared(), q.n.len(),
+            k,
+            l.distance.exclusive(), l.distance.len(),
+            l.first.exclusive(), l.first.len(),
+            l.second.exclusive(), l.second.len(),
+            &mut entries, &mut looks, &mut distances,
+        )
+    };
+    p.unchanged(a);
+    q.unchanged(b);
+    *r = l.back();
+    told(number, (entries, Counters { looks, distances }), (U, Counters { looks: L, distances: L }))
+}
+
+/// The count of pairs.
+pub fn distance_list(a: &Columns, b: &Columns, e: u32, first: &mut Vec<u32>, second: &mut Vec<u32>) -> Result<u64, u32> {
+    let (p, q) = (LentList::new(a), LentList::new(b));
+    let (mut f, mut s) = (Lent::new(first, U), Lent::new(second, U));
+    let mut count = L;
+    let number = unsafe {
+        raw::vumlintel_distance_list(
+            p.x.shared(), p.x.len(), p.y.shared(), p.y.len(), p.n.shared(), p.n.len(),
+            q.x.shared(), q.x.len(), q.y.shared(), q.y.len(), q.n.shared(), q.n.len(),
+            e,
+            f.exclusive(), f.len(), s.exclusive(), s.len(),
+            &mut count,
+        )
+    };
+    p.unchanged(a);
+    q.unchanged(b);
+    *first = f.back().to_vec();
+    *second = s.back().to_vec();
+    told(number, count, L)
+}
+
+/// The campaign is written in place by an accepted opening.
+pub fn open(
+    a: &Columns,
+    b: &Columns,
+    k: u32,
+    first_cut: &[u32],
+    second_cut: &[u32],
+    r: &Results,
+    c: &mut Campaign,
+) -> Result<(), u32> {
+    let (p, q) = (LentList::new(a), LentList::new(b));
+    let (f, s) = (Lent::new(first_cut, U), Lent::new(second_cut, U));
+    let l = LentResults::new(r);
+    let number = unsafe {
+        raw::vumlintel_open(
+            p.x.shared(), p.x.len(), p.y.shared(), p.y.len(), p.n.shared(), p.n.len(),
+            q.x.shared(), q.x.len(), q.y.shared(), q.y.len(), q.n.shared(), q.n.len(),
+            k,
+            f.shared(), f.len(), s.shared(), s.len(),
+            l.distance.shared(), l.distance.len(), l.first.shared(), l.first.len(), l.second.shared(), l.second.len(),
+            &mut c.k, &mut c.entries, &mut c.first_strips, &mut c.second_strips,
+            &mut c.first_ends, &mut c.second_ends, &mut c.marks,
+        )
+    };
+    p.unchanged(a);
+    q.unchanged(b);
+    f.unchanged(first_cut);
+    s.unchanged(second_cut);
+    assert!(l.back() == *r, "opening wrote a result column");
+    told(number, (), ())
+}
+
+/// Whether the job was swept, and the counters; the campaign and the columns are changed in place.
+pub fn job(
+    way: Way,
+    c: &mut Campaign,
+    a: &Columns,
+    b: &Columns,
+    r: &mut Results,
+    first_strip: u32,
+    second_strip: u32,
+) -> Result<(u32, Counters), u32> {
+    let (p, q) = (LentList::new(a), LentList::new(b));
+    let mut l = LentResults::new(r);
+    let (mut swept, mut looks, mut distances) = (U, L, L);
+    let call = match way {
+        Way::Classic => raw::vumlintel_job_classic,
+        Way::ReverseRun => raw::vumlintel_job_reverse_run,
+    };
+    let number = unsafe {
+        call(
+            &mut c.k, &mut c.entries, &mut c.first_strips, &mut c.second_strips,
+            &mut c.first_ends, &mut c.second_ends, &mut c.marks,
+            p.x.shared(), p.x.len(), p.y.shared(), p.y.len(), p.n.shared(), p.n.len(),
+            q.x.shared(), q.x.len(), q.y.shared(), q.y.len(), q.n.shared(), q.n.len(),
+            l.distance.exclusive(), l.distance.len(),
+            l.first.exclusive(), l.first.len(),
+            l.second.exclusive(), l.second.len(),
+            first_strip, second_strip,
+            &mut swept, &mut looks, &mut distances,
+        )
+    };
+    p.unchanged(a);
+    q.unchanged(b);
+    *r = l.back();
+    told(number, (swept, Counters { looks, distances }), (U, Counters { looks: L, distances: L }))
+}
+
+pub fn status(c: &Campaign, a: &Columns, b: &Columns, r: &Results) -> Result<Status, u32> {
+    let (p, q) = (LentList::new(a), LentList::new(b));
+    let l = LentResults::new(r);
+    let before = c.clone();
+    let (mut settled, mut jobs, mut entries, mut k) = (U, U, U, U);
+    let number = unsafe {
+        raw::vumlintel_status(
+            &c.k, &c.entries, &c.first_strips, &c.second_strips,
+            &c.first_ends, &c.second_ends, &c.marks,
+            p.x.shared(), p.x.len(), p.y.shared(), p.y.len(), p.n.shared(), p.n.len(),
+            q.x.shared(), q.x.len(), q.y.shared(), q.y.len(), q.n.shared(), q.n.len(),
+            l.distance.shared(), l.distance.len(), l.first.shared(), l.first.len(), l.second.shared(), l.second.len(),
+            &mut settled, &mut jobs, &mut entries, &mut k,
+        )
+    };
+    p.unchanged(a);
+    q.unchanged(b);
+    assert!(*c == before && l.back() == *r, "status wrote the campaign or a result column");
+    told(number, Status { settled, jobs, entries, k }, Status { settled: U, jobs: U, entries: U, k: U })
+}
+
+/// The file's length; the buffer is changed in place.
+pub fn write_file(a: &Columns, b: &Columns, buffer: &mut Vec<u8>) -> Result<u32, u32> {
+    let (p, q) = (LentList::new(a), LentList::new(b));
+    let mut l = Lent::new(buffer, B);
+    let mut length = U;
+    let number = unsafe {
+        raw::vumlintel_write_file(
+            p.x.shared(), p.x.len(), p.y.shared(), p.y.len(), p.n.shared(), p.n.len(),
+            q.x.shared(), q.x.len(), q.y.shared(), q.y.len(), q.n.shared(), q.n.len(),
+            l.exclusive(), l.len(),
+            &mut length,
+        )
+    };
+    p.unchanged(a);
+    q.unchanged(b);
+    *buffer = l.back().to_vec();
+    told(number, length, U)
+}
+
+/// Both site counts.
+pub fn read_file(file: &[u8]) -> Result<(u32, u32), u32> {
+    let l = Lent::new(file, B);
+    let (mut first, mut second) = (U, U);
+    let number = unsafe { raw::vumlintel_read_file(l.shared(), l.len(), &mut first, &mut second) };
+    l.unchanged(file);
+    told(number, (first, second), (U, U))
+}
+
+/// A site of the first list (0) or the second (1).
+pub fn file_site(file: &[u8], list: usize, place: u32) -> Result<Site, u32> {
+    let l = Lent::new(file, B);
+    let (mut x, mut y, mut number) = (I, I, U);
+    let call = if list == 0 { raw::vumlintel_file_site_first } else { raw::vumlintel_file_site_second };
+    let refusal = unsafe { call(l.shared(), l.len(), place, &mut x, &mut y, &mut number) };
+    l.unchanged(file);
+    told(refusal, Site { x, y, number }, Site { x: I, y: I, number: U })
+}

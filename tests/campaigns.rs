@@ -1,0 +1,410 @@
+//! Opening, jobs and status beside the brute force, and whole histories beside the book.
+
+use crate::calls;
+use crate::harness::{Harness, progress};
+use crate::lists::{MAX, damaged, even, f, lawful};
+use crate::model::{self, Book, Campaign, Columns, Counters, Results, Status, WAYS, Way, site};
+use crate::random::Random;
+use std::collections::BTreeMap;
+
+/// All that a campaign's calls are lent.
+#[derive(Clone)]
+struct Bench {
+    a: Columns,
+    b: Columns,
+    r: Results,
+    c: Campaign,
+}
+
+fn results(r: &mut Random, lengths: [usize; 3]) -> Results {
+    Results {
+        distance: (0..lengths[0]).map(|_| r.next()).collect(),
+        first: (0..lengths[1]).map(|_| r.next() as u32).collect(),
+        second: (0..lengths[2]).map(|_| r.next() as u32).collect(),
+    }
+}
+
+/// A campaign that holds anything, as before an opening.
+fn anything(r: &mut Random) -> Campaign {
+    let mut c = model::blank_campaign();
+    c.k = r.next() as u32;
+    c.entries = r.next() as u32;
+    c.first_strips = r.next() as u32;
+    c.second_strips = r.next() as u32;
+    c.first_ends = [0; 32].map(|_: u32| r.next() as u32);
+    c.second_ends = [0; 32].map(|_: u32| r.next() as u32);
+    c.marks = [0; 1024].map(|_: u8| r.next() as u8);
+    c
+}
+
+fn same_open(bench: &mut Bench, k: u32, first: &[u32], second: &[u32]) -> Result<(), u32> {
+    let expected = model::open(&bench.a, &bench.b, k, first, second, &bench.r);
+    let before = bench.c.clone();
+    let answer = calls::open(&bench.a, &bench.b, k, first, second, &bench.r, &mut bench.c);
+    match expected {
+        Ok(campaign) => {
+            assert_eq!(answer, Ok(()), "k {k} {first:?} {second:?}");
+            assert!(bench.c == campaign, "the campaign differs: {:?}", bench.c);
+        }
+        Err(refusal) => {
+            assert_eq!(answer, Err(refusal), "k {k} {first:?} {second:?}");
+            assert!(bench.c == before, "a refused opening changed the campaign");
+        }
+    }
+    answer
+}
+
+fn same_job(way: Way, bench: &mut Bench, s: u32, t: u32) -> Result<bool, u32> {
+    let before = bench.clone();
+    let expected = model::job(way, &before.c, &before.a, &before.b, &before.r, s, t);
+    let answer = calls::job(way, &mut bench.c, &bench.a, &bench.b, &mut bench.r, s, t);
+    match expected {
+        Ok(done) => {
+            assert_eq!(answer, Ok((done.swept as u32, done.counters)), "{way:?} job {s} {t}");
+            assert!(bench.c == done.campaign, "{way:?} job {s} {t}: the campaign differs");
+            assert!(bench.r == done.results, "{way:?} job {s} {t}: a column differs");
+            assert!(done.swept || done.counters == Counters::default());
+            Ok(done.swept)
+        }
+        Err(refusal) => {
+            assert_eq!(answer, Err(refusal), "{way:?} job {s} {t}");
+            assert!(bench.c == before.c && bench.r == before.r, "a refused job changed something");
+            Err(refusal)
+        }
+    }
+}
+
+fn same_status(bench: &Bench) -> Result<Status, u32> {
+    let answer = calls::status(&bench.c, &bench.a, &bench.b, &bench.r);
+    assert_eq!(answer, model::status(&bench.c, &bench.a, &bench.b, &bench.r));
+    answer
+}
+
+/// Lawful cut ends of a list, at random places.
+fn cuts(r: &mut Random, sites: usize) -> Vec<u32> {
+    if sites == 0 {
+        return Vec::new();
+    }
+    let wanted = 1 + r.below(sites.min(32));
+    let mut ends: Vec<u32> = (0..wanted).map(|_| 1 + r.below(sites) as u32).collect();
+    ends.push(sites as u32);
+    ends.sort();
+    ends.dedup();
+    if ends.len() > 32 {
+        ends.drain(..ends.len() - 32);
+    }
+    ends
+}
+
+/// A strip number, now and then one that is not below the count.
+fn strip_number(r: &mut Random, strips: usize) -> u32 {
+    if strips == 0 || r.once_in(12) {
+        return [strips as u32, 32, u32::MAX][r.below(3)];
+    }
+    r.below(strips) as u32
+}
+
+fn fixed_example() {
+    let r = &mut Random::new(50);
+    let (a, b) = f();
+    for ways in [[Way::Classic; 4], [Way::ReverseRun; 4], [Way::Classic, Way::ReverseRun, Way::ReverseRun, Way::Classic]] {
+        let mut bench = Bench { a: Columns::of(&a), b: Columns::of(&b), r: results(r, [2, 3, 4]), c: anything(r) };
+        same_open(&mut bench, 2, &[2, 3], &[1, 3]).unwrap();
+        let jobs = [(0, 0, true), (1, 0, false), (0, 1, true), (1, 1, true)];
+        for (way, (s, t, swept)) in ways.into_iter().zip(jobs) {
+            assert_eq!(same_job(way, &mut bench, s, t), Ok(swept));
+            assert_eq!(same_job(way, &mut bench, s, t), Err(9));
+            assert_eq!(same_job(way, &mut bench, 2, t), Err(8));
+            assert_eq!(same_job(way, &mut bench, s, 2), Err(8));
+            same_status(&bench).unwrap();
+        }
+        assert_eq!((&bench.r.first[..2], &bench.r.second[..2]), (&[2, 1][..], &[2, 1][..]));
+    }
+}
+
+fn opening_refusals() {
+    let r = &mut Random::new(51);
+    let (a, b) = f();
+    let (a, b) = (Columns::of(&a), Columns::of(&b));
+    let bench = Bench { a, b, r: results(r, [5, 5, 5]), c: anything(r) };
+    let lawful: &[u32] = &[1, 3];
+    let unlawful: [&[u32]; 10] =
+        [&[], &[0], &[0, 3], &[1], &[4], &[1, 4], &[2, 1, 3], &[1, 1, 3], &[3, 3], &[u32::MAX, 3]];
+    for ends in unlawful {
+        assert_eq!(same_open(&mut bench.clone(), 5, ends, lawful), Err(5));
+        assert_eq!(same_open(&mut bench.clone(), 5, lawful, ends), Err(5));
+        // 4 before 5, 5 before 6
+        assert_eq!(same_open(&mut bench.clone(), 0, ends, lawful), Err(4));
+        assert_eq!(same_open(&mut bench.clone(), 4_097, lawful, ends), Err(4));
+        assert_eq!(same_open(&mut bench.clone(), 6, ends, lawful), Err(5));
+    }
+    assert_eq!(same_open(&mut bench.clone(), 6, lawful, lawful), Err(6));
+    for ends in [&[3][..], &[1, 3], &[2, 3], &[1, 2, 3]] {
+        assert_eq!(same_open(&mut bench.clone(), 5, ends, lawful), Ok(()));
+        assert_eq!(same_open(&mut bench.clone(), 5, lawful, ends), Ok(()));
+    }
+    for k in [1usize, 5, 4_096] {
+        for lengths in [[k - 1, k, k], [k, k - 1, k], [k, k, k - 1], [k, k, k]] {
+            let mut one = Bench { r: results(r, lengths), ..bench.clone() };
+            let answer = if lengths == [k, k, k] { Ok(()) } else { Err(6) };
+            assert_eq!(same_open(&mut one, k as u32, lawful, lawful), answer);
+        }
+    }
+    // empty lists have no ends, and every job of theirs gets 8
+    let mut one = Bench { a: Columns::default(), ..bench.clone() };
+    assert_eq!(same_open(&mut one, 5, &[0], lawful), Err(5));
+    assert_eq!(same_open(&mut one, 5, &[], lawful), Ok(()));
+    assert_eq!(same_job(Way::Classic, &mut one, 0, 0), Err(8));
+    assert_eq!(same_status(&one), Ok(Status { settled: 0, jobs: 0, entries: 0, k: 5 }));
+    // 32 ends are taken, 33 are not
+    let sites: Vec<_> = (0..40).map(|x| site(x, 0, 0)).collect();
+    let mut one = Bench { a: Columns::of(&sites), ..bench.clone() };
+    let ends: Vec<u32> = (9..=40).collect();
+    assert_eq!(same_open(&mut one, 5, &ends, lawful), Ok(()));
+    let ends: Vec<u32> = (8..=40).collect();
+    assert_eq!(same_open(&mut one, 5, &ends, lawful), Err(5));
+    // lists before everything, the first before the second
+    let high = Columns::of(&[site(0, MAX + 1, 0)]);
+    let falling = Columns::of(&[site(1, 0, 0), site(0, 0, 0)]);
+    let mut one = Bench { a: falling.clone(), b: high.clone(), ..bench.clone() };
+    assert_eq!(same_open(&mut one, 0, &[], &[]), Err(3));
+    one.a = bench.a.clone();
+    assert_eq!(same_open(&mut one, 0, &[], &[]), Err(2));
+    one.b.y.pop();
+    assert_eq!(same_open(&mut one, 0, &[], &[]), Err(1));
+}
+
+/// A number beside this one, or one of these.
+fn other_than(r: &mut Random, number: u32, others: &[u32]) -> u32 {
+    match r.below(others.len() + 2) {
+        0 => number.wrapping_add(1),
+        1 => number.wrapping_sub(1),
+        i => others[i - 2],
+    }
+}
+
+/// Changes one thing of what a campaign's calls are lent.
+fn tamper(r: &mut Random, bench: &mut Bench) {
+    let c = &mut bench.c;
+    let (first, second) = (c.first_strips.min(31) as usize, c.second_strips.min(31) as usize);
+    let entries = bench.r.shortest().min(c.entries as usize);
+    let places = |l: &Columns| l.x.len().min(l.y.len()).min(l.number.len());
+    let (n, m) = (places(&bench.a), places(&bench.b));
+    match r.below(22) {
+        0 => c.k = other_than(r, c.k, &[0, 4_097, u32::MAX]),
+        1 => c.entries = other_than(r, c.entries, &[u32::MAX, c.k, 0]),
+        2 => c.first_strips = other_than(r, c.first_strips, &[33, u32::MAX, 0]),
+        3 => c.second_strips = other_than(r, c.second_strips, &[33, u32::MAX, 0]),
+        4 => c.first_ends[r.below(32)] = [0, 1, 5, u32::MAX, r.next() as u32][r.below(5)],
+        5 => c.second_ends[r.below(32)] = [0, 1, 5, u32::MAX, r.next() as u32][r.below(5)],
+        6 => c.marks[r.below(1024)] = [0, 1, 2, 255][r.below(4)],
+        7 => c.marks[32 * r.below(first + 1) + r.below(second + 1)] ^= 1,
+        8 => c.marks[32 * r.below(first + 1) + r.below(second + 1)] = 2,
+        9 => bench.r.distance.truncate((c.k as usize).saturating_sub(1)),
+        10 => bench.r.first.truncate((c.k as usize).saturating_sub(1)),
+        11 => bench.r.second.truncate((c.k as usize).saturating_sub(1)),
+        12 => bench.a = damaged(r, &bench.a),
+        13 => bench.b = damaged(r, &bench.b),
+        14 => std::mem::swap(&mut bench.a, &mut bench.b),
+        15 => {
+            // a lawful list of as many sites, moved up
+            for y in &mut bench.a.y {
+                *y = y.saturating_add(1).min(MAX);
+            }
+        }
+        _ if entries == 0 => bench.r = results(r, [4_100, 4_100, 4_100]),
+        16 => bench.r.distance[r.below(entries)] ^= 1 << r.below(64),
+        17 => bench.r.first[r.below(entries)] = [u32::MAX, bench.a.x.len() as u32, 0][r.below(3)],
+        18 => bench.r.second[r.below(entries)] = [u32::MAX, bench.b.x.len() as u32, 0][r.below(3)],
+        19 => {
+            let (i, j) = (r.below(entries), r.below(entries));
+            bench.r.distance.swap(i, j);
+            bench.r.first.swap(i, j);
+            bench.r.second.swap(i, j);
+        }
+        20 => {
+            // an entry twice
+            let i = r.below(entries);
+            let j = (i + 1) % entries;
+            bench.r.distance[j] = bench.r.distance[i];
+            bench.r.first[j] = bench.r.first[i];
+            bench.r.second[j] = bench.r.second[i];
+        }
+        _ if n == 0 || m == 0 => bench.b.x.clear(),
+        _ => {
+            // another pair with its true squared distance: settled or not, in order or not
+            let (p, q) = (r.below(n), r.below(m));
+            let at = if r.once_in(3) { r.below(entries) } else { entries - 1 };
+            let (s, t) = (bench.a.sites(p + 1)[p], bench.b.sites(q + 1)[q]);
+            bench.r.distance[at] = model::squared_distance(s, t);
+            bench.r.first[at] = p as u32;
+            bench.r.second[at] = q as u32;
+        }
+    }
+}
+
+/// What a history showed: refusals, faults of refusal 7, and tampered campaigns that passed.
+#[derive(Default)]
+struct Seen {
+    refusals: BTreeMap<u32, u32>,
+    faults: BTreeMap<&'static str, u32>,
+    swept: u32,
+    skipped: u32,
+    passed: u32,
+    complete: u32,
+}
+
+impl Seen {
+    fn told<T>(&mut self, answer: Result<T, u32>) {
+        *self.refusals.entry(answer.err().unwrap_or(0)).or_default() += 1;
+    }
+}
+
+/// Calls on a campaign that somebody tampered with: each as the brute force says, whatever it is.
+fn tampered_calls(r: &mut Random, bench: &Bench, seen: &mut Seen) {
+    let mut other = bench.clone();
+    for _ in 0..1 + r.below(2) {
+        tamper(r, &mut other);
+    }
+    if let Ok((a, b)) = model::lists(&other.a, &other.b) {
+        match other.c.fault(&a, &b, &other.r) {
+            Some(fault) => *seen.faults.entry(fault).or_default() += 1,
+            None => seen.passed += 1,
+        }
+    }
+    seen.told(same_status(&other));
+    for way in WAYS {
+        let s = r.below(other.c.first_strips.min(32) as usize + 1) as u32;
+        let t = r.below(other.c.second_strips.min(32) as usize + 1) as u32;
+        seen.told(same_job(way, &mut other, s, t));
+    }
+}
+
+/// One history: an opening, then calls of every kind, each held to the brute force and to the book.
+fn history(r: &mut Random, kind: usize, seen: &mut Seen) {
+    let (n, m) = ([0, 1, 3, 10, 40][r.below(5)], [1, 2, 3, 10, 40][r.below(5)]);
+    let (a, b) = (Columns::of(&lawful(r, kind, n)), Columns::of(&lawful(r, kind, m)));
+    let k = [1, 2, 5, 1 + r.below(30) as u32, 4_096][r.below(5)];
+    let lengths = [0; 3].map(|_| k as usize + r.below(3));
+    let (first, second) = (cuts(r, a.x.len()), cuts(r, b.x.len()));
+    let mut bench = Bench { a, b, r: results(r, lengths), c: anything(r) };
+    same_open(&mut bench, k, &first, &second).unwrap();
+    let mut book = Book::opened(&bench.a, &bench.b, k, &first, &second);
+    let jobs = first.len() * second.len();
+    for _ in 0..6 + 2 * jobs.min(60) {
+        match r.below(12) {
+            0 => tampered_calls(r, &bench, seen),
+            1 => seen.told(same_status(&bench)),
+            2 => {
+                // a refused opening leaves the campaign
+                let ends: &[u32] = &[9, 8];
+                let answer = same_open(&mut bench, k, ends, &second);
+                assert!(answer.is_err());
+                seen.told(answer);
+            }
+            _ => {
+                let (s, t) = (strip_number(r, first.len()), strip_number(r, second.len()));
+                let answer = same_job(WAYS[r.below(2)], &mut bench, s, t);
+                assert_eq!(answer.err().unwrap_or(0), book.job(s, t), "the book answers otherwise");
+                match answer {
+                    Ok(true) => seen.swept += 1,
+                    Ok(false) => seen.skipped += 1,
+                    Err(_) => {}
+                }
+                seen.told(answer);
+            }
+        }
+        let status = book.status();
+        assert_eq!(calls::status(&bench.c, &bench.a, &bench.b, &bench.r), Ok(status));
+        assert_eq!(bench.r.entries(status.entries as usize), book.entries(), "the book holds other entries");
+    }
+    if !book.no_open_job() {
+        return;
+    }
+    seen.complete += 1;
+    let mut whole = results(r, lengths);
+    let (count, _) = calls::k_list(Way::Classic, &bench.a, &bench.b, k, &mut whole).unwrap();
+    assert_eq!(count, bench.c.entries);
+    assert_eq!(whole.entries(count as usize), bench.r.entries(count as usize));
+}
+
+fn histories(r: &mut Random) {
+    let mut seen = Seen::default();
+    let rounds = 2_500;
+    for round in 0..rounds {
+        progress(round, rounds);
+        history(r, round, &mut seen);
+    }
+    for number in [0, 1, 2, 3, 5, 7, 8, 9] {
+        assert!(seen.refusals.get(&number).is_some_and(|n| *n > 50), "{:?}", seen.refusals);
+    }
+    let faults = [
+        "K", "strip count", "ends", "mark above 1", "mark outside the jobs", "column", "entry count", "place",
+        "squared distance", "unsettled job", "rank order",
+    ];
+    for fault in faults {
+        assert!(seen.faults.get(fault).is_some_and(|n| *n > 5), "{fault}: {:?}", seen.faults);
+    }
+    assert!(seen.swept > 1_000 && seen.skipped > 1_000 && seen.passed > 50 && seen.complete > 50);
+}
+
+/// The full grid of 32 strips a list, all 1,024 jobs in a random sequence.
+fn full_grid(r: &mut Random) {
+    let (a, b) = (lawful(r, 2, 200), lawful(r, 2, 200));
+    let cut = |n: usize| (1..=32).map(|s| (n * s / 32) as u32).collect::<Vec<_>>();
+    for k in [1, 50, 4_096] {
+        let lengths = [k as usize; 3];
+        let mut bench = Bench { a: Columns::of(&a), b: Columns::of(&b), r: results(r, lengths), c: anything(r) };
+        same_open(&mut bench, k, &cut(a.len()), &cut(b.len())).unwrap();
+        let mut jobs: Vec<u32> = (0..1_024).collect();
+        for i in (1..jobs.len()).rev() {
+            jobs.swap(i, r.below(i + 1));
+        }
+        for job in jobs {
+            same_job(WAYS[r.below(2)], &mut bench, job / 32, job % 32).unwrap();
+        }
+        assert_eq!(same_status(&bench).unwrap().settled, 1_024);
+        let mut whole = results(r, lengths);
+        let (count, _) = calls::k_list(Way::Classic, &bench.a, &bench.b, k, &mut whole).unwrap();
+        assert_eq!(whole.entries(count as usize), bench.r.entries(bench.c.entries as usize));
+    }
+}
+
+/// A list of 65,535 sites in 32 strips beside a short one.
+fn long_list(r: &mut Random) {
+    let (a, b) = (even(r, 65_535), lawful(r, 2, 9));
+    let ends: Vec<u32> = (1..=32).map(|s| (65_535 * s / 32) as u32).collect();
+    let lengths = [300; 3];
+    let mut bench = Bench { a: Columns::of(&a), b: Columns::of(&b), r: results(r, lengths), c: anything(r) };
+    same_open(&mut bench, 300, &ends, &[4, b.len() as u32]).unwrap();
+    for s in 0..32 {
+        for t in 0..2 {
+            same_job(WAYS[(s + t) as usize % 2], &mut bench, s, t).unwrap();
+        }
+    }
+    let mut whole = results(r, lengths);
+    calls::k_list(Way::Classic, &bench.a, &bench.b, 300, &mut whole).unwrap();
+    assert_eq!(whole.entries(300), bench.r.entries(300));
+}
+
+/// A skip needs a gap squared above the last squared distance: equal is swept. The gap is that of the sites, not of the cuts.
+fn skips_at_the_limit() {
+    let r = &mut Random::new(56);
+    for (x, swept) in [(5, true), (6, false)] {
+        let a = Columns::of(&[site(0, 0, 0)]);
+        let b = Columns::of(&[site(0, 5, 0), site(x, 0, 0)]);
+        let mut bench = Bench { a, b, r: results(r, [1, 1, 1]), c: anything(r) };
+        same_open(&mut bench, 1, &[1], &[1, 2]).unwrap();
+        assert_eq!(same_job(Way::Classic, &mut bench, 0, 0), Ok(true));
+        assert_eq!(same_job(Way::Classic, &mut bench, 0, 1), Ok(swept));
+    }
+}
+
+pub fn run(h: &mut Harness) {
+    h.test("campaign: the fixed example", fixed_example);
+    h.test("campaign: refused openings in their order", opening_refusals);
+    h.test("campaign: a skip at the limit", skips_at_the_limit);
+    h.test("campaign: random histories beside the book, with tampering", || histories(&mut Random::new(52)));
+    h.test("campaign: all 1,024 jobs", || full_grid(&mut Random::new(53)));
+    h.test("campaign: 65,535 sites", || long_list(&mut Random::new(54)));
+}

@@ -1,0 +1,106 @@
+//! The brute force itself, held to document 01's fixed examples and to some of our own.
+
+use crate::harness::Harness;
+use crate::lists::f;
+use crate::model::*;
+
+fn results(n: usize) -> Results {
+    Results { distance: vec![0; n], first: vec![0; n], second: vec![0; n] }
+}
+
+/// The places of the entries, and looks and distances.
+fn listed(way: Way, a: &[Site], b: &[Site], k: u32) -> (Vec<(u32, u32)>, u64, u64) {
+    let (a, b) = (Columns::of(a), Columns::of(b));
+    let (entries, counters) = k_list(way, &a, &b, k, &results(k as usize)).unwrap();
+    (entries.iter().map(|e| (e.first, e.second)).collect(), counters.looks, counters.distances)
+}
+
+/// What the sweep itself leaves is what the brute force finds.
+fn sweeps_agree(a: &[Site], b: &[Site], k: u32) {
+    for way in WAYS {
+        let (p, q) = (Strip::whole(a), Strip::whole(b));
+        assert_eq!(sweep(way, k, p, q, Vec::new()).0, best(k, pairs(p, q)));
+    }
+}
+
+fn m1_to_m3_and_m9() {
+    let (a, b) = f();
+    let places = vec![(2, 2), (1, 1), (0, 1)];
+    assert_eq!(listed(Way::Classic, &a, &b, 3), (places.clone(), 9, 6));
+    assert_eq!(listed(Way::ReverseRun, &a, &b, 3), (places, 7, 5));
+    for way in WAYS {
+        assert_eq!(listed(way, &a, &b, 9).0.len(), 9);
+        assert_eq!(listed(way, &a, &b, 4_096).0.len(), 9);
+    }
+    for k in 1..10 {
+        sweeps_agree(&a, &b, k);
+    }
+}
+
+fn m4_and_m5() {
+    let (a, b) = f();
+    let (a, b) = (Columns::of(&a), Columns::of(&b));
+    assert_eq!(distance_list(&a, &b, 5, 9).unwrap(), [(0, 0), (0, 1), (1, 0), (1, 1), (2, 2)]);
+    assert_eq!(distance_list(&a, &b, 4, 9).unwrap(), [(0, 1), (1, 1), (2, 2)]);
+}
+
+fn m6() {
+    let (a, b) = f();
+    let (a, b) = (Columns::of(&a), Columns::of(&b));
+    for way in WAYS {
+        let mut r = results(2);
+        let mut c = open(&a, &b, 2, &[2, 3], &[1, 3], &r).unwrap();
+        let mut swept = Vec::new();
+        for (s, t) in [(0, 0), (1, 0), (0, 1), (1, 1)] {
+            let done = job(way, &c, &a, &b, &r, s, t).unwrap();
+            (c, r) = (done.campaign, done.results);
+            swept.push(done.swept);
+        }
+        assert_eq!(swept, [true, false, true, true]);
+        assert_eq!((&r.first[..], &r.second[..]), (&[2, 1][..], &[2, 1][..]));
+        assert_eq!(status(&c, &a, &b, &r), Ok(Status { settled: 4, jobs: 4, entries: 2, k: 2 }));
+    }
+}
+
+fn m7_m8_and_m10() {
+    let (a, b) = (vec![site(0, 0, 1), site(5, 5, 2)], vec![site(5, 0, 3)]);
+    for way in WAYS {
+        assert_eq!(listed(way, &a, &b, 1).0, [(0, 0)]);
+        assert_eq!(listed(way, &[], &b, 1), (vec![], 0, 0));
+        assert_eq!(listed(way, &a, &[], 1), (vec![], 0, 0));
+    }
+    let c = open(&Columns::of(&[]), &Columns::of(&b), 1, &[], &[1], &results(1)).unwrap();
+    let counts = status(&c, &Columns::of(&[]), &Columns::of(&b), &results(1)).unwrap();
+    assert_eq!((counts.jobs, counts.entries), (0, 0));
+    let corner = 1_000_000_000;
+    assert_eq!(squared_distance(site(-corner, -corner, 0), site(corner, corner, 0)), 8_000_000_000_000_000_000);
+}
+
+fn own_examples() {
+    let sites = |l: &[(i32, i32)]| l.iter().map(|(x, y)| site(*x, *y, 0)).collect::<Vec<_>>();
+    // a stop at equality makes 2 and 1
+    assert_eq!(listed(Way::Classic, &sites(&[(0, 0)]), &sites(&[(3, 4), (5, 0)]), 1), (vec![(0, 0)], 2, 2));
+    // a limit place that is looked at again makes 3 and 1
+    let b = sites(&[(3, 2), (4, 1), (6, 1)]);
+    assert_eq!(listed(Way::ReverseRun, &sites(&[(1, 0)]), &b, 1), (vec![(0, 0)], 2, 1));
+}
+
+fn case_listing() {
+    let (a, b) = f();
+    let mut input = 3u32.to_le_bytes().to_vec();
+    input.extend(encode(&a, &b));
+    assert_eq!(listing(&input), "pairs 3 of 9\n1 5 13 23\n2 9 12 22\n3 16 11 22\n");
+    input[0] = 0;
+    assert_eq!(listing(&input), "refused 4\n");
+    assert_eq!(listing(&input[..3]), "refused 10\n");
+    assert_eq!(listing(&[0; 48_021]), "refused 6\n");
+}
+
+pub fn run(h: &mut Harness) {
+    h.test("model: M1, M2, M3, M9", m1_to_m3_and_m9);
+    h.test("model: M4, M5", m4_and_m5);
+    h.test("model: M6", m6);
+    h.test("model: M7, M8, M10", m7_m8_and_m10);
+    h.test("model: own examples", own_examples);
+    h.test("model: case listing", case_listing);
+}

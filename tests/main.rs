@@ -1,0 +1,30 @@
+//! Tests of the exported calls beside a brute force of document 01.
+
+mod c_program;
+mod calls;
+mod campaigns;
+mod case_listing;
+mod examples;
+mod harness;
+mod lists;
+mod model;
+mod pair_lists;
+mod random;
+mod raw;
+mod site_files;
+mod site_lists;
+
+fn main() {
+    let mut h = harness::Harness::default();
+    examples::run(&mut h);
+    site_lists::run_check(&mut h);
+    site_lists::run_add(&mut h);
+    pair_lists::run_k_list(&mut h);
+    pair_lists::run_distance_list(&mut h);
+    campaigns::run(&mut h);
+    site_files::run(&mut h);
+    case_listing::run(&mut h);
+    c_program::run(&mut h);
+    println!("{} passed, {} failed", h.passed, h.failed);
+    std::process::exit((h.failed > 0) as i32);
+}

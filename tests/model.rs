@@ -1,0 +1,700 @@
+//! Document 01 in plain Rust, by brute force: what each call must answer and leave behind.
+
+pub const LIMIT: i64 = 1_000_000_000;
+pub const MOST_SITES: usize = 65_535;
+pub const MOST_K: u32 = 4_096;
+pub const MOST_STRIPS: usize = 32;
+
+#[derive(Clone, Copy, Debug, PartialEq, Eq, PartialOrd, Ord)]
+pub struct Site {
+    pub x: i32,
+    pub y: i32,
+    pub number: u32,
+}
+
+pub fn site(x: i32, y: i32, number: u32) -> Site {
+    Site { x, y, number }
+}
+
+/// Three lent columns, of whatever lengths.
+#[derive(Clone, Debug, PartialEq, Eq, Default)]
+pub struct Columns {
+    pub x: Vec<i32>,
+    pub y: Vec<i32>,
+    pub number: Vec<u32>,
+}
+
+impl Columns {
+    pub fn of(sites: &[Site]) -> Columns {
+        Columns {
+            x: sites.iter().map(|s| s.x).collect(),
+            y: sites.iter().map(|s| s.y).collect(),
+            number: sites.iter().map(|s| s.number).collect(),
+        }
+    }
+
+    pub fn equal(&self) -> bool {
+        self.x.len() == self.y.len() && self.x.len() == self.number.len()
+    }
+
+    /// The first `n` sites; the columns have as many.
+    pub fn sites(&self, n: usize) -> Vec<Site> {
+        (0..n).map(|i| site(self.x[i], self.y[i], self.number[i])).collect()
+    }
+}
+
+// Site lists.
+
+fn outside(c: i32) -> bool {
+    (c as i64) < -LIMIT || (c as i64) > LIMIT
+}
+
+/// 2 and 3, in that order; 0 for neither.
+pub fn content_refusal(sites: &[Site]) -> u32 {
+    if sites.iter().any(|s| outside(s.x) || outside(s.y)) {
+        return 2;
+    }
+    if sites.windows(2).any(|w| (w[0].x, w[0].y, w[0].number) >= (w[1].x, w[1].y, w[1].number)) {
+        return 3;
+    }
+    0
+}
+
+pub fn check(c: &Columns) -> Result<u32, u32> {
+    if !c.equal() || c.x.len() > MOST_SITES {
+        return Err(1);
+    }
+    match content_refusal(&c.sites(c.x.len())) {
+        0 => Ok(c.x.len() as u32),
+        refusal => Err(refusal),
+    }
+}
+
+/// The first list's refusal, then the second's; the sites where there is none.
+pub fn lists(a: &Columns, b: &Columns) -> Result<(Vec<Site>, Vec<Site>), u32> {
+    let n = check(a)?;
+    let m = check(b)?;
+    Ok((a.sites(n as usize), b.sites(m as usize)))
+}
+
+/// The place and the new count, and the columns afterwards.
+pub fn add(c: &Columns, in_use: u32, s: Site) -> Result<(u32, u32, Columns), u32> {
+    let used = in_use as usize;
+    if !c.equal() || used > MOST_SITES || used > c.x.len() {
+        return Err(1);
+    }
+    let sites = c.sites(used);
+    let refusal = content_refusal(&sites);
+    if refusal != 0 {
+        return Err(refusal);
+    }
+    if outside(s.x) || outside(s.y) {
+        return Err(2);
+    }
+    if used == c.x.len() || used == MOST_SITES {
+        return Err(6);
+    }
+    if sites.contains(&s) {
+        return Err(11);
+    }
+    let mut after = sites;
+    after.push(s);
+    after.sort();
+    let place = after.iter().position(|t| *t == s).unwrap();
+    let mut columns = c.clone();
+    for (i, t) in after.iter().enumerate() {
+        columns.x[i] = t.x;
+        columns.y[i] = t.y;
+        columns.number[i] = t.number;
+    }
+    Ok((place as u32, in_use + 1, columns))
+}
+
+// Pairs.
+
+/// An entry; the derived order is the rank.
+#[derive(Clone, Copy, Debug, PartialEq, Eq, PartialOrd, Ord)]
+pub struct Entry {
+    pub distance: u64,
+    pub first: u32,
+    pub second: u32,
+}
+
+pub fn squared_distance(s: Site, t: Site) -> u64 {
+    let dx = s.x as i128 - t.x as i128;
+    let dy = s.y as i128 - t.y as i128;
+    u64::try_from(dx * dx + dy * dy).unwrap()
+}
+
+/// A range of places of a list.
+#[derive(Clone, Copy)]
+pub struct Strip<'a> {
+    pub sites: &'a [Site],
+    pub from: usize,
+    pub to: usize,
+}
+
+impl<'a> Strip<'a> {
+    pub fn whole(sites: &'a [Site]) -> Strip<'a> {
+        Strip { sites, from: 0, to: sites.len() }
+    }
+}
+
+fn entry(a: &[Site], i: usize, b: &[Site], j: usize) -> Entry {
+    Entry { distance: squared_distance(a[i], b[j]), first: i as u32, second: j as u32 }
+}
+
+/// All pairs of two strips, by first place and then second.
+pub fn pairs(a: Strip, b: Strip) -> Vec<Entry> {
+    let mut all = Vec::new();
+    for i in a.from..a.to {
+        for j in b.from..b.to {
+            all.push(entry(a.sites, i, b.sites, j));
+        }
+    }
+    all
+}
+
+/// The first `k` by rank.
+pub fn best(k: u32, mut entries: Vec<Entry>) -> Vec<Entry> {
+    let k = k as usize;
+    if entries.len() > 4 * k && k > 0 {
+        entries.select_nth_unstable(k - 1);
+        entries.truncate(k);
+    }
+    entries.sort();
+    entries.truncate(k);
+    entries
+}
+
+// Sweeps.
+
+#[derive(Clone, Copy, Debug, PartialEq, Eq)]
+pub enum Way {
+    Classic,
+    ReverseRun,
+}
+
+pub const WAYS: [Way; 2] = [Way::Classic, Way::ReverseRun];
+
+#[derive(Clone, Copy, Debug, PartialEq, Eq, Default)]
+pub struct Counters {
+    pub looks: u64,
+    pub distances: u64,
+}
+
+struct Sweep<'a> {
+    k: usize,
+    a: &'a [Site],
+    b: &'a [Site],
+    entries: Vec<Entry>,
+    counters: Counters,
+}
+
+impl Sweep<'_> {
+    /// One look at the pair (i, j); false where it stops the scan.
+    fn look(&mut self, i: usize, j: usize) -> bool {
+        self.counters.looks += 1;
+        let dx = self.a[i].x as i128 - self.b[j].x as i128;
+        if self.entries.len() == self.k && dx * dx > self.entries[self.k - 1].distance as i128 {
+            return false;
+        }
+        self.counters.distances += 1;
+        let e = entry(self.a, i, self.b, j);
+        let at = self.entries.partition_point(|f| *f < e);
+        if at < self.k {
+            self.entries.insert(at, e);
+            self.entries.truncate(self.k);
+        }
+        true
+    }
+
+    fn classic(&mut self, a: Strip, b: Strip) {
+        let (mut i, mut j) = (a.from, b.from);
+        while i < a.to && j < b.to {
+            if self.a[i].x <= self.b[j].x {
+                let _ = (j..b.to).all(|other| self.look(i, other));
+                i += 1;
+            } else {
+                let _ = (i..a.to).all(|other| self.look(other, j));
+                j += 1;
+            }
+        }
+    }
+
+    fn reverse_run(&mut self, a: Strip, b: Strip) {
+        // every site with its list, in the order in which references are taken
+        let mut references: Vec<(i32, usize, usize)> = Vec::new();
+        references.extend((a.from..a.to).map(|i| (self.a[i].x, 0, i)));
+        references.extend((b.from..b.to).map(|j| (self.b[j].x, 1, j)));
+        references.sort();
+        // of each list: the sites taken, and the place from which on they are still looked at
+        let mut taken: [Vec<usize>; 2] = [Vec::new(), Vec::new()];
+        let mut from = [a.from, b.from];
+        for (_, list, place) in references {
+            let other = 1 - list;
+            for &p in taken[other].iter().rev() {
+                if p < from[other] {
+                    break;
+                }
+                let on = if list == 0 { self.look(place, p) } else { self.look(p, place) };
+                if !on {
+                    from[other] = p + 1;
+                    break;
+                }
+            }
+            taken[list].push(place);
+        }
+    }
+}
+
+/// The entries and counters after a sweep of two strips from a list that may hold entries already.
+pub fn sweep(way: Way, k: u32, a: Strip, b: Strip, entries: Vec<Entry>) -> (Vec<Entry>, Counters) {
+    let mut s = Sweep { k: k as usize, a: a.sites, b: b.sites, entries, counters: Counters::default() };
+    match way {
+        Way::Classic => s.classic(a, b),
+        Way::ReverseRun => s.reverse_run(a, b),
+    }
+    (s.entries, s.counters)
+}
+
+// Lists of pairs.
+
+/// The three result columns.
+#[derive(Clone, Debug, PartialEq, Eq, Default)]
+pub struct Results {
+    pub distance: Vec<u64>,
+    pub first: Vec<u32>,
+    pub second: Vec<u32>,
+}
+
+impl Results {
+    pub fn shortest(&self) -> usize {
+        self.distance.len().min(self.first.len()).min(self.second.len())
+    }
+
+    /// The columns with these entries from their start on.
+    pub fn holding(&self, entries: &[Entry]) -> Results {
+        let mut r = self.clone();
+        for (i, e) in entries.iter().enumerate() {
+            r.distance[i] = e.distance;
+            r.first[i] = e.first;
+            r.second[i] = e.second;
+        }
+        r
+    }
+
+    /// The first `n` entries; the columns have as many.
+    pub fn entries(&self, n: usize) -> Vec<Entry> {
+        (0..n)
+            .map(|i| Entry { distance: self.distance[i], first: self.first[i], second: self.second[i] })
+            .collect()
+    }
+}
+
+fn k_refusal(k: u32) -> Result<(), u32> {
+    if k == 0 || k > MOST_K { Err(4) } else { Ok(()) }
+}
+
+fn room_refusal(k: u32, r: &Results) -> Result<(), u32> {
+    if r.shortest() < k as usize { Err(6) } else { Ok(()) }
+}
+
+/// The entries of a K list, by brute force, and the counters of the sweep.
+pub fn k_list(way: Way, a: &Columns, b: &Columns, k: u32, r: &Results) -> Result<(Vec<Entry>, Counters), u32> {
+    let (a, b) = lists(a, b)?;
+    k_refusal(k)?;
+    room_refusal(k, r)?;
+    let (a, b) = (Strip::whole(&a), Strip::whole(&b));
+    let (_, counters) = sweep(way, k, a, b, Vec::new());
+    Ok((best(k, pairs(a, b)), counters))
+}
+
+/// The pairs of a distance list, by first place and then second.
+pub fn distance_list(a: &Columns, b: &Columns, e: u32, shorter: usize) -> Result<Vec<(u32, u32)>, u32> {
+    let (a, b) = lists(a, b)?;
+    let limit = e as u128 * e as u128;
+    let mut found = Vec::new();
+    for (i, s) in a.iter().enumerate() {
+        for (j, t) in b.iter().enumerate() {
+            if squared_distance(*s, *t) as u128 <= limit {
+                found.push((i as u32, j as u32));
+            }
+        }
+    }
+    if found.len() > shorter { Err(6) } else { Ok(found) }
+}
+
+// Campaigns.
+
+#[repr(C)]
+#[derive(Clone, Debug, PartialEq, Eq)]
+pub struct Campaign {
+    pub k: u32,
+    pub entries: u32,
+    pub first_strips: u32,
+    pub second_strips: u32,
+    pub first_ends: [u32; 32],
+    pub second_ends: [u32; 32],
+    pub marks: [u8; 1024],
+}
+
+pub fn blank_campaign() -> Campaign {
+    Campaign {
+        k: 0,
+        entries: 0,
+        first_strips: 0,
+        second_strips: 0,
+        first_ends: [0; 32],
+        second_ends: [0; 32],
+        marks: [0; 1024],
+    }
+}
+
+/// "at most 32 per list, strictly ascending, each above 0, the last equal to the list's length; an empty list has none."
+pub fn lawful_ends(sites: usize, ends: &[u32]) -> bool {
+    if sites == 0 {
+        return ends.is_empty();
+    }
+    !ends.is_empty()
+        && ends.len() <= MOST_STRIPS
+        && ends.iter().all(|e| *e > 0)
+        && ends.windows(2).all(|w| w[0] < w[1])
+        && ends[ends.len() - 1] as usize == sites
+}
+
+pub fn open(
+    a: &Columns,
+    b: &Columns,
+    k: u32,
+    first_ends: &[u32],
+    second_ends: &[u32],
+    r: &Results,
+) -> Result<Campaign, u32> {
+    let (a, b) = lists(a, b)?;
+    k_refusal(k)?;
+    if !lawful_ends(a.len(), first_ends) || !lawful_ends(b.len(), second_ends) {
+        return Err(5);
+    }
+    room_refusal(k, r)?;
+    let mut c = blank_campaign();
+    c.k = k;
+    c.first_strips = first_ends.len() as u32;
+    c.second_strips = second_ends.len() as u32;
+    c.first_ends[..first_ends.len()].copy_from_slice(first_ends);
+    c.second_ends[..second_ends.len()].copy_from_slice(second_ends);
+    Ok(c)
+}
+
+/// The places of a strip.
+pub fn strip_range(ends: &[u32], s: usize) -> (usize, usize) {
+    (if s == 0 { 0 } else { ends[s - 1] as usize }, ends[s] as usize)
+}
+
+/// The strip that holds a place.
+fn strip_of(ends: &[u32], place: usize) -> usize {
+    (0..ends.len()).find(|s| place < ends[*s] as usize).unwrap()
+}
+
+/// "the x-difference between them, 0 where their x ranges touch or overlap."
+pub fn strip_gap(a: Strip, b: Strip) -> i64 {
+    let range = |s: Strip| {
+        let xs = s.sites[s.from..s.to].iter().map(|t| t.x as i64);
+        (xs.clone().min().unwrap(), xs.max().unwrap())
+    };
+    let (p, q) = (range(a), range(b));
+    (q.0 - p.1).max(p.0 - q.1).max(0)
+}
+
+impl Campaign {
+    fn first_cut(&self) -> &[u32] {
+        &self.first_ends[..self.first_strips as usize]
+    }
+
+    fn second_cut(&self) -> &[u32] {
+        &self.second_ends[..self.second_strips as usize]
+    }
+
+    fn settled(&self, s: usize, t: usize) -> bool {
+        self.marks[32 * s + t] == 1
+    }
+
+    /// The fault that refusal 7 names first in the paper, or none.
+    pub fn fault(&self, a: &[Site], b: &[Site], r: &Results) -> Option<&'static str> {
+        if self.k == 0 || self.k > MOST_K {
+            return Some("K");
+        }
+        if self.first_strips > 32 || self.second_strips > 32 {
+            return Some("strip count");
+        }
+        if !lawful_ends(a.len(), self.first_cut()) || !lawful_ends(b.len(), self.second_cut()) {
+            return Some("ends");
+        }
+        let (rows, cols) = (self.first_strips as usize, self.second_strips as usize);
+        for (i, m) in self.marks.iter().enumerate() {
+            if *m > 1 {
+                return Some("mark above 1");
+            }
+            if *m == 1 && (i / 32 >= rows || i % 32 >= cols) {
+                return Some("mark outside the jobs");
+            }
+        }
+        if r.shortest() < self.k as usize {
+            return Some("column");
+        }
+        let mut total = 0u128;
+        for s in 0..rows {
+            for t in 0..cols {
+                if self.settled(s, t) {
+                    let (p, q) = (strip_range(self.first_cut(), s), strip_range(self.second_cut(), t));
+                    total += (p.1 - p.0) as u128 * (q.1 - q.0) as u128;
+                }
+            }
+        }
+        if self.entries as u128 != total.min(self.k as u128) {
+            return Some("entry count");
+        }
+        let entries = r.entries(self.entries as usize);
+        for e in &entries {
+            if e.first as usize >= a.len() || e.second as usize >= b.len() {
+                return Some("place");
+            }
+            if e.distance != squared_distance(a[e.first as usize], b[e.second as usize]) {
+                return Some("squared distance");
+            }
+            let s = strip_of(self.first_cut(), e.first as usize);
+            let t = strip_of(self.second_cut(), e.second as usize);
+            if !self.settled(s, t) {
+                return Some("unsettled job");
+            }
+        }
+        if entries.windows(2).any(|w| w[0] >= w[1]) {
+            return Some("rank order");
+        }
+        None
+    }
+}
+
+#[derive(Clone, Debug, PartialEq, Eq)]
+pub struct JobDone {
+    pub campaign: Campaign,
+    pub results: Results,
+    pub swept: bool,
+    pub counters: Counters,
+}
+
+pub fn job(
+    way: Way,
+    c: &Campaign,
+    a: &Columns,
+    b: &Columns,
+    r: &Results,
+    first_strip: u32,
+    second_strip: u32,
+) -> Result<JobDone, u32> {
+    let (a, b) = lists(a, b)?;
+    if c.fault(&a, &b, r).is_some() {
+        return Err(7);
+    }
+    if first_strip >= c.first_strips || second_strip >= c.second_strips {
+        return Err(8);
+    }
+    let (s, t) = (first_strip as usize, second_strip as usize);
+    if c.settled(s, t) {
+        return Err(9);
+    }
+    let (p, q) = (strip_range(c.first_cut(), s), strip_range(c.second_cut(), t));
+    let p = Strip { sites: &a, from: p.0, to: p.1 };
+    let q = Strip { sites: &b, from: q.0, to: q.1 };
+    let old = r.entries(c.entries as usize);
+    let gap = strip_gap(p, q) as i128;
+    let full = old.len() == c.k as usize;
+    let skipped = full && gap * gap > old[old.len() - 1].distance as i128;
+    let counters = if skipped { Counters::default() } else { sweep(way, c.k, p, q, old.clone()).1 };
+    let mut all = old;
+    all.extend(pairs(p, q));
+    let entries = best(c.k, all);
+    let mut after = c.clone();
+    after.entries = entries.len() as u32;
+    after.marks[32 * s + t] = 1;
+    Ok(JobDone { campaign: after, results: r.holding(&entries), swept: !skipped, counters })
+}
+
+#[derive(Clone, Copy, Debug, PartialEq, Eq)]
+pub struct Status {
+    pub settled: u32,
+    pub jobs: u32,
+    pub entries: u32,
+    pub k: u32,
+}
+
+pub fn status(c: &Campaign, a: &Columns, b: &Columns, r: &Results) -> Result<Status, u32> {
+    let (a, b) = lists(a, b)?;
+    if c.fault(&a, &b, r).is_some() {
+        return Err(7);
+    }
+    let settled = c.marks.iter().filter(|m| **m == 1).count() as u32;
+    Ok(Status { settled, jobs: c.first_strips * c.second_strips, entries: c.entries, k: c.k })
+}
+
+/// The book: kept from the calls alone.
+pub struct Book {
+    a: Vec<Site>,
+    b: Vec<Site>,
+    k: u32,
+    first_ends: Vec<u32>,
+    second_ends: Vec<u32>,
+    settled: Vec<(u32, u32)>,
+}
+
+impl Book {
+    /// After an accepted opening.
+    pub fn opened(a: &Columns, b: &Columns, k: u32, first_ends: &[u32], second_ends: &[u32]) -> Book {
+        Book {
+            a: a.sites(a.x.len()),
+            b: b.sites(b.x.len()),
+            k,
+            first_ends: first_ends.to_vec(),
+            second_ends: second_ends.to_vec(),
+            settled: Vec::new(),
+        }
+    }
+
+    /// A job call with the campaign's own lists and columns: 8, 9, or 0 and the job is settled.
+    pub fn job(&mut self, s: u32, t: u32) -> u32 {
+        if s as usize >= self.first_ends.len() || t as usize >= self.second_ends.len() {
+            return 8;
+        }
+        if self.settled.contains(&(s, t)) {
+            return 9;
+        }
+        self.settled.push((s, t));
+        0
+    }
+
+    pub fn entries(&self) -> Vec<Entry> {
+        let mut all = Vec::new();
+        for (s, t) in &self.settled {
+            let (p, q) =
+                (strip_range(&self.first_ends, *s as usize), strip_range(&self.second_ends, *t as usize));
+            let p = Strip { sites: &self.a, from: p.0, to: p.1 };
+            let q = Strip { sites: &self.b, from: q.0, to: q.1 };
+            all.extend(pairs(p, q));
+        }
+        best(self.k, all)
+    }
+
+    pub fn status(&self) -> Status {
+        Status {
+            settled: self.settled.len() as u32,
+            jobs: (self.first_ends.len() * self.second_ends.len()) as u32,
+            entries: self.entries().len() as u32,
+            k: self.k,
+        }
+    }
+
+    pub fn no_open_job(&self) -> bool {
+        self.settled.len() == self.first_ends.len() * self.second_ends.len()
+    }
+}
+
+// Site files.
+
+pub fn encode(a: &[Site], b: &[Site]) -> Vec<u8> {
+    let second = 16 + 12 * a.len();
+    let mut file = Vec::new();
+    for number in [16, a.len(), second, b.len()] {
+        file.extend((number as u32).to_le_bytes());
+    }
+    for s in a.iter().chain(b) {
+        file.extend(s.x.to_le_bytes());
+        file.extend(s.y.to_le_bytes());
+        file.extend(s.number.to_le_bytes());
+    }
+    file
+}
+
+fn four(file: &[u8], at: usize) -> [u8; 4] {
+    file[at..at + 4].try_into().unwrap()
+}
+
+/// A list's start and count in the contents.
+fn contents(file: &[u8]) -> Result<[(usize, usize); 2], u32> {
+    if file.len() < 16 {
+        return Err(10);
+    }
+    let word = |at| u32::from_le_bytes(four(file, at)) as usize;
+    let (n, m) = (word(4), word(12));
+    if n > MOST_SITES || m > MOST_SITES {
+        return Err(1);
+    }
+    if word(0) != 16 || word(8) != 16 + 12 * n || file.len() != 16 + 12 * n + 12 * m {
+        return Err(10);
+    }
+    Ok([(16, n), (16 + 12 * n, m)])
+}
+
+fn site_in(file: &[u8], at: usize) -> Site {
+    site(
+        i32::from_le_bytes(four(file, at)),
+        i32::from_le_bytes(four(file, at + 4)),
+        u32::from_le_bytes(four(file, at + 8)),
+    )
+}
+
+/// The two lists of a file.
+pub fn read_file(file: &[u8]) -> Result<[Vec<Site>; 2], u32> {
+    let lists = contents(file)?.map(|(start, n)| (0..n).map(|i| site_in(file, start + 12 * i)).collect::<Vec<_>>());
+    for list in &lists {
+        let refusal = content_refusal(list);
+        if refusal != 0 {
+            return Err(refusal);
+        }
+    }
+    Ok(lists)
+}
+
+/// A site of the first list (0) or the second (1).
+pub fn file_site(file: &[u8], list: usize, place: u32) -> Result<Site, u32> {
+    let (start, n) = contents(file)?[list];
+    if place as usize >= n {
+        return Err(8);
+    }
+    Ok(site_in(file, start + 12 * place as usize))
+}
+
+pub fn write_file(a: &Columns, b: &Columns, room: usize) -> Result<Vec<u8>, u32> {
+    let (a, b) = lists(a, b)?;
+    let file = encode(&a, &b);
+    if file.len() > room { Err(6) } else { Ok(file) }
+}
+
+// The case listing.
+
+fn listing_refusal(input: &[u8]) -> Result<(u32, [Vec<Site>; 2]), u32> {
+    if input.len() > 48_020 {
+        return Err(6);
+    }
+    if input.len() < 4 {
+        return Err(10);
+    }
+    let lists = read_file(&input[4..])?;
+    let k = u32::from_le_bytes(four(input, 0));
+    k_refusal(k)?;
+    Ok((k, lists))
+}
+
+/// What `caselist` prints for an input.
+pub fn listing(input: &[u8]) -> String {
+    let (k, [a, b]) = match listing_refusal(input) {
+        Ok(accepted) => accepted,
+        Err(refusal) => return format!("refused {refusal}\n"),
+    };
+    let entries = best(k, pairs(Strip::whole(&a), Strip::whole(&b)));
+    let mut text = format!("pairs {} of {}\n", entries.len(), a.len() * b.len());
+    for (i, e) in entries.iter().enumerate() {
+        let (s, t) = (a[e.first as usize], b[e.second as usize]);
+        text += &format!("{} {} {} {}\n", i + 1, e.distance, s.number, t.number);
+    }
+    text
+}

@@ -1,0 +1,110 @@
+/* The exported calls from C, over document 01's lists F. */
+#include <stdio.h>
+#include <string.h>
+
+#include "vumlintel.h"
+
+static int failures = 0;
+
+#define EXPECT(fact)                                                                                                           \
+    do {                                                                                                                       \
+        if (!(fact)) {                                                                                                         \
+            printf("line %d: not so: %s\n", __LINE__, #fact);                                                                  \
+            failures++;                                                                                                        \
+        }                                                                                                                      \
+    } while (0)
+
+static const int32_t ax[] = {0, 4, 10}, ay[] = {0, 3, 0}, bx[] = {0, 4, 9}, by[] = {5, 0, 2};
+static const uint32_t an[] = {11, 12, 13}, bn[] = {21, 22, 23};
+
+#define A ax, 3, ay, 3, an, 3
+#define B bx, 3, by, 3, bn, 3
+
+static void check(void)
+{
+    uint32_t count = 99;
+    EXPECT(vumlintel_check(A, &count) == VUMLINTEL_OK && count == 3);
+    count = 99;
+    EXPECT(vumlintel_check(ax, 3, ay, 2, an, 3, &count) == VUMLINTEL_LIST_SIZE && count == 99);
+}
+
+static void add(void)
+{
+    uint32_t count = 99, place = 99;
+    int32_t x[4] = {0, 4, 10, 77}, y[4] = {0, 3, 0, 77};
+    uint32_t number[4] = {11, 12, 13, 77};
+    EXPECT(vumlintel_add(x, 4, y, 4, number, 4, 3, 4, 3, 5, &place, &count) == VUMLINTEL_OK);
+    EXPECT(place == 1 && count == 4);
+    EXPECT(x[1] == 4 && y[1] == 3 && number[1] == 5 && number[2] == 12 && number[3] == 13);
+    EXPECT(vumlintel_add(x, 4, y, 4, number, 4, 4, 4, 3, 5, &place, &count) == VUMLINTEL_ROOM);
+    EXPECT(vumlintel_add(x, 4, y, 4, number, 4, 3, 4, 3, 5, &place, &count) == VUMLINTEL_PRESENT);
+}
+
+static void k_lists(void)
+{
+    uint64_t distance[4] = {7, 7, 7, 7}, looks = 0, distances = 0;
+    uint32_t first[4] = {7, 7, 7, 7}, second[4] = {7, 7, 7, 7}, entries = 0;
+    EXPECT(vumlintel_k_list_classic(A, B, 3, distance, 4, first, 4, second, 4, &entries, &looks, &distances) == VUMLINTEL_OK);
+    EXPECT(entries == 3 && looks == 9 && distances == 6);
+    EXPECT(distance[0] == 5 && distance[1] == 9 && distance[2] == 16 && distance[3] == 7);
+    EXPECT(first[0] == 2 && first[1] == 1 && first[2] == 0 && second[0] == 2 && second[1] == 1 && second[2] == 1);
+    EXPECT(vumlintel_k_list_reverse_run(A, B, 3, distance, 4, first, 4, second, 4, &entries, &looks, &distances) == VUMLINTEL_OK);
+    EXPECT(entries == 3 && looks == 7 && distances == 5);
+    EXPECT(vumlintel_k_list_classic(A, B, 0, distance, 4, first, 4, second, 4, &entries, &looks, &distances) == VUMLINTEL_K);
+}
+
+static void distance_lists(void)
+{
+    uint32_t first[5], second[5];
+    uint64_t count = 0;
+    EXPECT(vumlintel_distance_list(A, B, 4, first, 5, second, 5, &count) == VUMLINTEL_OK && count == 3);
+    EXPECT(first[0] == 0 && second[0] == 1 && first[1] == 1 && second[1] == 1 && first[2] == 2 && second[2] == 2);
+    EXPECT(vumlintel_distance_list(A, B, 5, first, 4, second, 5, &count) == VUMLINTEL_ROOM && count == 3);
+}
+
+static void campaigns(void)
+{
+    const uint32_t first_cuts[] = {2, 3}, second_cuts[] = {1, 3};
+    uint64_t distance[2] = {0, 0}, looks = 0, distances = 0;
+    uint32_t first[2] = {0, 0}, second[2] = {0, 0}, swept = 99, settled, jobs, entries, k;
+    vumlintel_campaign c;
+    memset(&c, 0xff, sizeof c);
+    EXPECT(vumlintel_open(A, B, 2, first_cuts, 2, second_cuts, 2, distance, 2, first, 2, second, 2, VUMLINTEL_PARTS(&c)) ==
+           VUMLINTEL_OK);
+    EXPECT(vumlintel_job_classic(VUMLINTEL_PARTS(&c), A, B, distance, 2, first, 2, second, 2, 0, 0, &swept, &looks,
+                                 &distances) == VUMLINTEL_OK &&
+           swept == 1);
+    EXPECT(vumlintel_job_classic(VUMLINTEL_PARTS(&c), A, B, distance, 2, first, 2, second, 2, 0, 0, &swept, &looks,
+                                 &distances) == VUMLINTEL_SETTLED);
+    EXPECT(vumlintel_job_reverse_run(VUMLINTEL_PARTS(&c), A, B, distance, 2, first, 2, second, 2, 1, 0, &swept, &looks,
+                                     &distances) == VUMLINTEL_OK &&
+           swept == 0 && looks == 0 && distances == 0);
+    EXPECT(vumlintel_status(VUMLINTEL_PARTS(&c), A, B, distance, 2, first, 2, second, 2, &settled, &jobs, &entries, &k) ==
+           VUMLINTEL_OK);
+    EXPECT(settled == 2 && jobs == 4 && entries == 2 && k == 2 && c.marks[0] == 1 && c.marks[32] == 1 && c.marks[1] == 0);
+}
+
+static void site_files(void)
+{
+    uint8_t file[100];
+    uint32_t length = 0, first = 0, second = 0, number = 0;
+    int32_t x = 0, y = 0;
+    EXPECT(vumlintel_write_file(A, B, file, sizeof file, &length) == VUMLINTEL_OK && length == 88);
+    EXPECT(vumlintel_read_file(file, 88, &first, &second) == VUMLINTEL_OK && first == 3 && second == 3);
+    EXPECT(vumlintel_read_file(file, 87, &first, &second) == VUMLINTEL_FILE);
+    EXPECT(vumlintel_file_site_first(file, 88, 1, &x, &y, &number) == VUMLINTEL_OK && x == 4 && y == 3 && number == 12);
+    EXPECT(vumlintel_file_site_second(file, 88, 2, &x, &y, &number) == VUMLINTEL_OK && x == 9 && y == 2 && number == 23);
+    EXPECT(vumlintel_file_site_second(file, 88, 3, &x, &y, &number) == VUMLINTEL_RANGE);
+}
+
+int main(void)
+{
+    check();
+    add();
+    k_lists();
+    distance_lists();
+    campaigns();
+    site_files();
+    printf("%d failures\n", failures);
+    return failures != 0;
+}
