@@ -1,0 +1,324 @@
+//! The exported calls beside the same work in ordinary optimised Rust, in one run.
+
+mod ordinary;
+#[allow(dead_code)]
+#[path = "../tests/random.rs"]
+mod random;
+#[allow(dead_code)]
+#[path = "../tests/raw.rs"]
+mod raw;
+
+use ordinary::{Counters, Entry, Heap, KList, List, Sorted};
+use random::Random;
+use std::hint::black_box;
+use std::time::Instant;
+
+const SITES: usize = 50_000;
+const ROUNDS: usize = 7;
+
+struct Columns {
+    x: Vec<i32>,
+    y: Vec<i32>,
+    number: Vec<u32>,
+}
+
+impl Columns {
+    fn of(mut sites: Vec<(i32, i32, u32)>) -> Columns {
+        sites.sort();
+        Columns {
+            x: sites.iter().map(|s| s.0).collect(),
+            y: sites.iter().map(|s| s.1).collect(),
+            number: sites.iter().map(|s| s.2).collect(),
+        }
+    }
+
+    fn lent(&self) -> List<'_> {
+        List { x: &self.x, y: &self.y, number: &self.number }
+    }
+}
+
+/// Sites spread evenly over the whole range.
+fn even(r: &mut Random) -> Columns {
+    let c = |r: &mut Random| r.from_to(-1_000_000_000, 1_000_000_000) as i32;
+    Columns::of((0..SITES).map(|i| (c(r), c(r), i as u32)).collect())
+}
+
+/// Sites in 100 clusters, dense at their centres. The centres are those of both lists.
+fn clustered(r: &mut Random, centres: &[(i64, i64)]) -> Columns {
+    let mut off = |c: i64| {
+        let spread = (r.from_to(-10_000_000, 10_000_000) + r.from_to(-10_000_000, 10_000_000)) / 2;
+        (c + spread).clamp(-1_000_000_000, 1_000_000_000) as i32
+    };
+    let sites = (0..SITES).map(|i| {
+        let (x, y) = centres[i % centres.len()];
+        (off(x), off(y), i as u32)
+    });
+    Columns::of(sites.collect())
+}
+
+/// The least milliseconds of each piece of work, over rounds that take turns.
+fn least<const N: usize>(mut work: [&mut dyn FnMut(); N]) -> [f64; N] {
+    let mut best = [f64::INFINITY; N];
+    for _ in 0..ROUNDS {
+        for (time, piece) in best.iter_mut().zip(&mut work) {
+            let began = Instant::now();
+            piece();
+            *time = time.min(began.elapsed().as_secs_f64() * 1_000.0);
+        }
+    }
+    best
+}
+
+/// A check of a lawful list.
+fn checked(a: &Columns) {
+    let mut count = 0;
+    let number = unsafe {
+        raw::vumlintel_check(
+            a.x.as_ptr(), a.x.len(), a.y.as_ptr(), a.y.len(), a.number.as_ptr(), a.number.len(),
+            &mut count,
+        )
+    };
+    assert_eq!((number, black_box(count)), (0, SITES as u32));
+}
+
+fn list_check(name: &str, a: &Columns) {
+    let [proved, plain] =
+        least([&mut || checked(a), &mut || assert_eq!(ordinary::check(black_box(a.lent())), 0)]);
+    println!("check {SITES} {name} sites: {proved:.3} ms, Rust {plain:.3} ms, ratio {:.2}", proved / plain);
+}
+
+type Call = unsafe extern "C" fn(
+    *const i32, usize, *const i32, usize, *const u32, usize,
+    *const i32, usize, *const i32, usize, *const u32, usize,
+    u32, *mut u64, usize, *mut u32, usize, *mut u32, usize,
+    *mut u32, *mut u64, *mut u64,
+) -> u32;
+
+/// Result columns of a K list.
+struct Results {
+    distance: Vec<u64>,
+    first: Vec<u32>,
+    second: Vec<u32>,
+}
+
+impl Results {
+    fn new(k: usize) -> Results {
+        Results { distance: vec![0; k], first: vec![0; k], second: vec![0; k] }
+    }
+
+    fn entries(&self) -> Vec<Entry> {
+        (0..self.distance.len())
+            .map(|i| Entry { distance: self.distance[i], first: self.first[i], second: self.second[i] })
+            .collect()
+    }
+}
+
+/// Both lists tested and swept, in ordinary Rust.
+fn plain_k_list(classic: bool, a: List, b: List, mut list: impl KList) -> (Vec<Entry>, Counters) {
+    assert!(ordinary::check(a) == 0 && ordinary::check(b) == 0);
+    let (p, q) = ((0, a.x.len()), (0, b.x.len()));
+    let counters = if classic {
+        ordinary::classic(a, b, p, q, &mut list)
+    } else {
+        ordinary::reverse_run(a, b, p, q, &mut list)
+    };
+    (list.entries(), counters)
+}
+
+fn k_list(name: &str, way: &str, call: Call, a: &Columns, b: &Columns, k: usize) {
+    let mut r = Results::new(k);
+    let mut told = (0, Counters::default());
+    let (mut sorted, mut heaped) = (None, None);
+    let classic = way == "classic";
+    let [proved, by_sorting, by_heap] = least([
+        &mut || {
+            let number = unsafe {
+                call(
+                    a.x.as_ptr(), a.x.len(), a.y.as_ptr(), a.y.len(), a.number.as_ptr(), a.number.len(),
+                    b.x.as_ptr(), b.x.len(), b.y.as_ptr(), b.y.len(), b.number.as_ptr(), b.number.len(),
+                    k as u32,
+                    r.distance.as_mut_ptr(), k, r.first.as_mut_ptr(), k, r.second.as_mut_ptr(), k,
+                    &mut told.0, &mut told.1.looks, &mut told.1.distances,
+                )
+            };
+            assert_eq!(number, 0);
+        },
+        &mut || sorted = Some(plain_k_list(classic, a.lent(), b.lent(), Sorted::new(k))),
+        &mut || heaped = Some(plain_k_list(classic, a.lent(), b.lent(), Heap::new(k))),
+    ]);
+    let answer = Some((r.entries(), told.1));
+    assert!(told.0 as usize == k && answer == sorted && answer == heaped, "the answers differ");
+    let plain = by_sorting.min(by_heap);
+    println!(
+        "K list, {way}, {name}, K {k}: {proved:.2} ms, Rust {by_sorting:.2} ms by insertion, {by_heap:.2} ms by heap, \
+         ratio {:.2}; {} looks, {:.0} million a second",
+        proved / plain,
+        told.1.looks,
+        told.1.looks as f64 / proved / 1_000.0,
+    );
+}
+
+/// An e that has about this many pairs.
+fn limit_for(a: List, b: List, pairs: usize) -> u32 {
+    let (mut low, mut high) = (0, 100_000_000);
+    while high - low > high / 1_000 + 1 {
+        let e = (low + high) / 2;
+        if ordinary::distance_pairs(a, b, e).len() < pairs { low = e } else { high = e }
+    }
+    high
+}
+
+fn distance_list(name: &str, a: &Columns, b: &Columns, wanted: usize) {
+    let e = limit_for(a.lent(), b.lent(), wanted);
+    let found = ordinary::distance_pairs(a.lent(), b.lent(), e).len();
+    let mut ours = (vec![0; found], vec![0; found]);
+    let mut theirs = (vec![0; found], vec![0; found]);
+    let [proved, plain] = least([
+        &mut || {
+            let mut count = 0;
+            let number = unsafe {
+                raw::vumlintel_distance_list(
+                    a.x.as_ptr(), a.x.len(), a.y.as_ptr(), a.y.len(), a.number.as_ptr(), a.number.len(),
+                    b.x.as_ptr(), b.x.len(), b.y.as_ptr(), b.y.len(), b.number.as_ptr(), b.number.len(),
+                    e,
+                    ours.0.as_mut_ptr(), found, ours.1.as_mut_ptr(), found,
+                    &mut count,
+                )
+            };
+            assert_eq!((number, count as usize), (0, found));
+        },
+        &mut || {
+            assert!(ordinary::check(a.lent()) == 0 && ordinary::check(b.lent()) == 0);
+            let count = ordinary::distance_list(a.lent(), b.lent(), e, &mut theirs.0, &mut theirs.1);
+            assert_eq!(count, Some(found));
+        },
+    ]);
+    assert!(ours == theirs, "the answers differ");
+    println!(
+        "distance list, {name}, e {e}, {found} pairs: {proved:.2} ms, Rust {plain:.2} ms, ratio {:.2}",
+        proved / plain
+    );
+}
+
+/// A campaign as the calls take it.
+struct Campaign {
+    numbers: [u32; 4],
+    first_ends: [u32; 32],
+    second_ends: [u32; 32],
+    marks: [u8; 1024],
+}
+
+/// An opening and all 256 jobs of 16 strips a list by mark, one call a job: looks, and jobs skipped.
+fn all_jobs(a: &Columns, b: &Columns, k: usize, c: &mut Campaign, r: &mut Results) -> (u64, u32) {
+    let cuts: Vec<u32> = (1..=16).map(|s| (SITES * s / 16) as u32).collect();
+    let [ck, ce, fs, ss] = &mut c.numbers;
+    let number = unsafe {
+        raw::vumlintel_open(
+            a.x.as_ptr(), a.x.len(), a.y.as_ptr(), a.y.len(), a.number.as_ptr(), a.number.len(),
+            b.x.as_ptr(), b.x.len(), b.y.as_ptr(), b.y.len(), b.number.as_ptr(), b.number.len(),
+            k as u32, cuts.as_ptr(), 16, cuts.as_ptr(), 16,
+            r.distance.as_ptr(), k, r.first.as_ptr(), k, r.second.as_ptr(), k,
+            ck, ce, fs, ss, &mut c.first_ends, &mut c.second_ends, &mut c.marks,
+        )
+    };
+    assert_eq!(number, 0);
+    let (mut looks, mut skips) = (0, 0);
+    for job in 0..256 {
+        let (mut swept, mut seen, mut distances) = (0, 0, 0);
+        let number = unsafe {
+            raw::vumlintel_job_classic(
+                ck, ce, fs, ss, &mut c.first_ends, &mut c.second_ends, &mut c.marks,
+                a.x.as_ptr(), a.x.len(), a.y.as_ptr(), a.y.len(), a.number.as_ptr(), a.number.len(),
+                b.x.as_ptr(), b.x.len(), b.y.as_ptr(), b.y.len(), b.number.as_ptr(), b.number.len(),
+                r.distance.as_mut_ptr(), k, r.first.as_mut_ptr(), k, r.second.as_mut_ptr(), k,
+                job / 16, job % 16,
+                &mut swept, &mut seen, &mut distances,
+            )
+        };
+        assert_eq!(number, 0);
+        looks += seen;
+        skips += 1 - swept;
+    }
+    (looks, skips)
+}
+
+/// A status: the tests of both lists and refusal 7.
+fn status(a: &Columns, b: &Columns, k: usize, c: &Campaign, r: &Results) {
+    let (mut settled, mut jobs, mut entries, mut got) = (0, 0, 0, 0);
+    let [ck, ce, fs, ss] = &c.numbers;
+    let number = unsafe {
+        raw::vumlintel_status(
+            ck, ce, fs, ss, &c.first_ends, &c.second_ends, &c.marks,
+            a.x.as_ptr(), a.x.len(), a.y.as_ptr(), a.y.len(), a.number.as_ptr(), a.number.len(),
+            b.x.as_ptr(), b.x.len(), b.y.as_ptr(), b.y.len(), b.number.as_ptr(), b.number.len(),
+            r.distance.as_ptr(), k, r.first.as_ptr(), k, r.second.as_ptr(), k,
+            &mut settled, &mut jobs, &mut entries, &mut got,
+        )
+    };
+    assert_eq!((number, settled, jobs, got), (0, 256, 256, k as u32));
+}
+
+/// A campaign beside one classic sweep in ordinary Rust, and where its time goes.
+fn campaign(name: &str, a: &Columns, b: &Columns, k: usize) {
+    let mut r = Results::new(k);
+    let mut c = Campaign { numbers: [0; 4], first_ends: [0; 32], second_ends: [0; 32], marks: [0; 1024] };
+    let (mut told, mut whole) = ((0, 0), None);
+    let [jobs, plain] = least([
+        &mut || told = all_jobs(a, b, k, &mut c, &mut r),
+        &mut || whole = Some(plain_k_list(true, a.lent(), b.lent(), Heap::new(k))),
+    ]);
+    assert!(Some(r.entries()) == whole.map(|w| w.0), "the answers differ");
+    let [statuses, checks] = least([
+        &mut || (0..256).for_each(|_| status(a, b, k, &c, &r)),
+        &mut || (0..256).for_each(|_| [a, b].into_iter().for_each(checked)),
+    ]);
+    println!(
+        "campaign, {name}, 256 jobs, K {k}: {jobs:.1} ms, one classic sweep in Rust {plain:.1} ms, ratio {:.2}; \
+         {} skipped, {} looks; list tests {checks:.1} ms, refusal 7 {:.1} ms, the rest {:.1} ms",
+        jobs / plain,
+        told.1,
+        told.0,
+        statuses - checks,
+        jobs - statuses,
+    );
+}
+
+fn main() {
+    let r = &mut Random::new(1);
+    let centres: Vec<(i64, i64)> = (0..100)
+        .map(|_| (r.from_to(-990_000_000, 990_000_000), r.from_to(-990_000_000, 990_000_000)))
+        .collect();
+    let kinds = [
+        ("even", even(r), even(r)),
+        ("clustered", clustered(r, &centres), clustered(r, &centres)),
+    ];
+    for (name, a, _) in &kinds {
+        list_check(name, a);
+    }
+    k_lists(&kinds);
+    distance_lists(&kinds);
+    campaigns(&kinds);
+}
+
+fn k_lists(kinds: &[(&str, Columns, Columns)]) {
+    for (name, a, b) in kinds {
+        for k in [1, 100, 1_000, 4_096] {
+            k_list(name, "classic", raw::vumlintel_k_list_classic, a, b, k);
+            k_list(name, "Reverse Run", raw::vumlintel_k_list_reverse_run, a, b, k);
+        }
+    }
+}
+
+fn distance_lists(kinds: &[(&str, Columns, Columns)]) {
+    for (name, a, b) in kinds {
+        for pairs in [100_000, 1_000_000] {
+            distance_list(name, a, b, pairs);
+        }
+    }
+}
+
+fn campaigns(kinds: &[(&str, Columns, Columns)]) {
+    for (name, a, b) in kinds {
+        campaign(name, a, b, 1_000);
+    }
+}
