@@ -8,7 +8,8 @@ use Rattle.site.specs.Told.{refused, answered}
 use Rattle.sweep.specs.declared.Way.the-variants.{Classic}
 use Rattle.campaign.specs.declared.Campaign.{Campaign}
 use Rattle.order.specs.Best.{insert, inserts, sort, best}
-use Rattle.order.specs.Lists.{all, keep, sum, overwritten}
+use Rattle.order.specs.Lists.{all, keep, sum, last}
+use Rattle.column.specs.Column.{overwritten}
 use Rattle.order.specs.Order.{lex, ascending}
 use Rattle.site.specs.Refusal.{equalLengths, sizeFault, contentRefusal, listRefusal, listsRefusal}
 use Rattle.site.specs.Site.{gap, square, squaredOver, squaredDistance, within, lawfulSite, siteBefore}
@@ -19,7 +20,7 @@ use Rattle.entry.specs.Results.{entriesOf, zipEntries, holding, roomFor, Result
 use Rattle.sweep.specs.Scan.{beyond, looked, offered, scan}
 use Rattle.sweep.specs.Strip.{whole, placedFrom, strip, pair, product, pairs}
 use Rattle.sweep.specs.Sweep.{classicOver, leads, look, start, sweep}
-use Rattle.pairs.specs.KList.{lawfulK}
+use Rattle.entry.specs.Entry.{lawfulK}
 use Rattle.campaign.specs.Calls.{slots, newCampaign, jobRefusal, skips, jobEntries, afterJob, jobValues, jobTold, jobCampaign, jobResults, JobValues}
 use Rattle.campaign.specs.Grid.{lastEnd, lawfulEnds, stripFrom, stripTo, stripAt, stripHolding, countFrom, markOf, settledJobs, lawfulMarks, jobPairs, pairTotal, firstX, lastX, rangeGap, stripGap, Job, jobOf, jobs, settled}
 use Rattle.campaign.specs.Keeper.{firstEnds, secondEnds, soundEnds, siteAt, soundEntry, settledTotal, sound, campaignRefusal}
@@ -63,5 +64,5 @@ keeperFirst =
 told :
     equalGap ∷ ownRanges ∷ keeperFirst ∷ []
     ≡ (100 ∷ 100 ∷ 9 ∷ 8 ∷ 8 ∷ []) ∷ (100 ∷ 200 ∷ 200 ∷ 200 ∷ []) ∷ (7 ∷ 7 ∷ []) ∷ []
-unfolding toldAs toldOf one equalGap ownRanges keeperFirst lex insert inserts sort best ascending all keep sum overwritten gap square squaredOver squaredDistance within lawfulSite siteBefore sites zipSites equalLengths sizeFault contentRefusal listRefusal listsRefusal tell unlessRefused orElse rankBefore bestK offer lastDistance entriesOf zipEntries holding roomFor whole placedFrom strip pair product pairs beyond looked offered scan classicOver leads look start sweep lawfulK lastEnd lawfulEnds stripFrom stripTo stripAt stripHolding countFrom jobs markOf settled settledJobs lawfulMarks jobPairs pairTotal firstX lastX rangeGap stripGap firstEnds secondEnds soundEnds siteAt soundEntry settledTotal sound campaignRefusal slots newCampaign jobRefusal skips jobEntries afterJob jobValues jobTold jobCampaign jobResults
+unfolding toldAs toldOf one equalGap ownRanges keeperFirst lex insert inserts sort best ascending all keep sum overwritten gap square squaredOver squaredDistance within lawfulSite siteBefore sites zipSites equalLengths sizeFault contentRefusal listRefusal listsRefusal tell unlessRefused orElse rankBefore bestK offer lastDistance last entriesOf zipEntries holding roomFor whole placedFrom strip pair product pairs beyond looked offered scan classicOver leads look start sweep lawfulK lastEnd lawfulEnds stripFrom stripTo stripAt stripHolding countFrom jobs markOf settled settledJobs lawfulMarks jobPairs pairTotal firstX lastX rangeGap stripGap firstEnds secondEnds soundEnds siteAt soundEntry settledTotal sound campaignRefusal slots newCampaign jobRefusal skips jobEntries afterJob jobValues jobTold jobCampaign jobResults
 told = refl

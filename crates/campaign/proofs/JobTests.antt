@@ -18,8 +18,9 @@ use Rattle.site.specs.Site.{square, siteBefore, within}
 use Rattle.site.specs.SiteList.{Columns, sites}
 use Rattle.site.specs.Refusal.{listRefusal}
 use Rattle.site.proofs.Cases.{and-first, and-second}
-use Rattle.site.proofs.Answers.{told, told-refused}
-use Rattle.site.proofs.Lawful.{lawful-columns, orElse-first, orElse-second, no-fault}
+use Rattle.site.proofs.Told.{told, told-refused}
+use Rattle.site.proofs.Lawful.{lawful-columns}
+use Rattle.site.proofs.Told.{orElse-first, orElse-second, no-fault}
 use Rattle.entry.specs.declared.Entry.{Entry}
 use Rattle.entry.specs.Entry.{rankBefore, bestK, lastDistance}
 use Rattle.entry.specs.Results.{Results, entriesOf, holding, roomFor}
@@ -30,11 +31,12 @@ use Rattle.sweep.specs.declared.Swept.{Swept}
 use Rattle.sweep.specs.Strip.{Placed, strip, pairs}
 use Rattle.sweep.specs.Scan.{State, beyond}
 use Rattle.sweep.specs.Sweep.{sweep}
-use Rattle.sweep.specs.Terms.{Coordinates, SweepAsked, SweptTo}
+use Rattle.sweep.specs.Terms.{SweepAsked, SweptTo}
+use Rattle.site.specs.SiteList.{Coordinates}
 use Rattle.sweep.proofs.ScanLaws.{beyond-under}
 use Rattle.sweep.proofs.StripLaws.{leftOf, strip-sorted}
 use Rattle.sweep.proofs.SweepLaws.{sweep-sorted}
-use Rattle.pairs.specs.KList.{lawfulK}
+use Rattle.entry.specs.Entry.{lawfulK}
 use Rattle.campaign.specs.declared.Campaign.{Campaign}
 use Rattle.campaign.specs.declared.Outcome.the-variants as outcome
 use Rattle.campaign.specs.declared.JobDone.{JobDone}

@@ -15,7 +15,7 @@ use Rattle.entry.specs.declared.Entry.{Entry}
 use Rattle.entry.specs.Entry.{entry}
 use Rattle.entry.specs.Results.{Results, entriesOf, roomFor}
 use Rattle.entry.proofs.Columns.{length-entries, entry-at}
-use Rattle.pairs.specs.KList.{lawfulK}
+use Rattle.entry.specs.Entry.{lawfulK}
 use Rattle.campaign.specs.Grid.{jobOf, settled, stripHolding}
 use Rattle.campaign.specs.Keeper.{siteAt}
 use Rattle.campaign.specs.Kept.{Accepted, fits}

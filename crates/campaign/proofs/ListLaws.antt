@@ -15,11 +15,11 @@ use Rattle.site.specs.declared.Site.{Site}
 use Rattle.site.specs.Told.{orElse}
 use Rattle.site.specs.Site.{within, lawfulSite, siteBefore, squaredDistance, squaredOver}
 use Rattle.site.specs.SiteList.{Columns, Level, site, sites}
-use Rattle.site.specs.SiteList.{siteAt as columnsAt}
 use Rattle.site.specs.Refusal.{equalLengths, sizeFault, contentRefusal, listRefusal}
 use Rattle.site.proofs.Cases.{and-first, and-second}
-use Rattle.site.proofs.Columns.{sites-length, sites-at}
-use Rattle.site.proofs.Lawful.{lawful-columns, orElse-first, orElse-second, no-fault}
+use Rattle.site.proofs.Columns.{columnsAt, sites-length, sites-at}
+use Rattle.site.proofs.Lawful.{lawful-columns}
+use Rattle.site.proofs.Told.{orElse-first, orElse-second, no-fault}
 use Rattle.campaign.specs.Keeper.{siteAt}
 
 -- What an accepted list is, one by one.

@@ -14,7 +14,7 @@ use Rattle.site.specs.Told.{orElse}
 use Rattle.site.specs.SiteList.{Columns, sites}
 use Rattle.site.specs.Refusal.{listsRefusal}
 use Rattle.site.proofs.Cases.{and-first, and-second}
-use Rattle.site.proofs.Lawful.{orElse-first, orElse-second, no-fault}
+use Rattle.site.proofs.Told.{orElse-first, orElse-second, no-fault}
 use Rattle.entry.specs.Entry.{rankBefore, bestK}
 use Rattle.entry.specs.Results.{Results, entriesOf, roomFor}
 use Rattle.entry.specs.Offered.{Ready}

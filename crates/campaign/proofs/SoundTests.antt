@@ -13,11 +13,11 @@ use Rattle.site.specs.declared.Site.{Site}
 use Rattle.site.specs.Told.{orElse}
 use Rattle.site.specs.SiteList.{Columns, sites}
 use Rattle.site.specs.Refusal.{listRefusal, listsRefusal}
-use Rattle.site.proofs.Lawful.{orElse-first, orElse-second}
+use Rattle.site.proofs.Told.{orElse-first, orElse-second}
 use Rattle.entry.specs.declared.Entry.{Entry}
 use Rattle.entry.specs.Entry.{rankBefore}
 use Rattle.entry.specs.Results.{Results, entriesOf, roomFor}
-use Rattle.pairs.specs.KList.{lawfulK}
+use Rattle.entry.specs.Entry.{lawfulK}
 use Rattle.campaign.specs.declared.Campaign.{Campaign}
 use Rattle.campaign.specs.Grid.{lawfulMarks}
 use Rattle.campaign.specs.Keeper.{firstEnds, secondEnds, soundEnds, soundEntry, settledTotal, sound, campaignRefusal}

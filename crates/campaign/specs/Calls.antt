@@ -15,7 +15,7 @@ use Rattle.entry.specs.Results.{Results, entriesOf, holding, roomFor}
 use Rattle.sweep.specs.declared.Way.{Way}
 use Rattle.sweep.specs.Scan.{State, beyond}
 use Rattle.sweep.specs.Sweep.{sweep}
-use Rattle.pairs.specs.KList.{lawfulK}
+use Rattle.entry.specs.Entry.{lawfulK}
 use Rattle.campaign.specs.declared.Campaign.{Campaign}
 use Rattle.campaign.specs.declared.Opened.{Opened}
 use Rattle.campaign.specs.declared.Outcome.{Outcome}

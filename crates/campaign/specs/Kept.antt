@@ -14,7 +14,7 @@ use Rattle.site.specs.Refusal.{listRefusal}
 use Rattle.entry.specs.declared.Entry.{Entry}
 use Rattle.entry.specs.Entry.{rankBefore}
 use Rattle.entry.specs.Results.{Results, entriesOf, roomFor}
-use Rattle.pairs.specs.KList.{lawfulK}
+use Rattle.entry.specs.Entry.{lawfulK}
 use Rattle.campaign.specs.declared.Campaign.{Campaign}
 use Rattle.campaign.specs.Grid.{stripHolding, jobOf, settled, lawfulMarks}
 use Rattle.campaign.specs.Keeper.{firstEnds, secondEnds, siteAt, soundEnds, soundEntry}

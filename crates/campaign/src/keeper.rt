@@ -17,7 +17,7 @@ ghost use Rattle.site.specs.SiteList.{columns, site, sites};
 ghost use Rattle.site.specs.Refusal.{listsRefusal};
 ghost use Rattle.entry.specs.Entry.{rankBefore};
 ghost use Rattle.entry.specs.Results.{results, entriesOf, roomFor};
-ghost use Rattle.pairs.specs.KList.{lawfulK};
+ghost use Rattle.entry.specs.Entry.{lawfulK};
 ghost use Rattle.campaign.specs.Grid.{jobOf, settledJobs};
 ghost use Rattle.campaign.specs.Tally.{Tally};
 ghost use Rattle.campaign.specs.Keeper.{firstEnds, secondEnds, settledTotal, sound, campaignRefusal};

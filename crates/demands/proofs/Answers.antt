@@ -13,7 +13,8 @@ use Rattle.site.specs.Site.{lawfulSite, siteBefore}
 use Rattle.site.specs.SiteList.{Columns, sites}
 use Rattle.site.specs.Refusal.{equalLengths, sizeFault, contentRefusal, listRefusal, listsRefusal}
 use Rattle.site.proofs.Columns.{sites-length}
-use Rattle.site.proofs.Lawful.{level-by, orElse-first, orElse-second, no-fault}
+use Rattle.site.proofs.Lawful.{level-by}
+use Rattle.site.proofs.Told.{orElse-first, orElse-second, no-fault}
 use Rattle.demands.specs.Demand3.{numberOf}
 
 -- A refusal's number is none or some.

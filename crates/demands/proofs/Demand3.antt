@@ -5,8 +5,8 @@ use mathlib.Core.List.{List, [], _∷_, map}
 use Prim.Native.Nat.{ℕ, _≤_}
 use native.Mathlib.Omega.{arith}
 use lib.ListN.{length, take, length-map}
-use Rattle.order.specs.Lists.{overwritten}
-use Rattle.order.proofs.Lists.{take-overwritten}
+use Rattle.column.specs.Column.{overwritten}
+use Rattle.column.proofs.Overwritten.{take-overwritten}
 use Rattle.order.proofs.Best.{length-best}
 use Rattle.site.specs.SiteList.{Columns, sites}
 use Rattle.entry.specs.declared.Entry.{Entry}

@@ -2,7 +2,8 @@
 use mathlib.Core.Path.{_≡_, refl}
 use mathlib.Core.Bool.{true}
 use Rattle.order.specs.Best.{best, insert, inserts, sort}
-use Rattle.order.specs.Lists.{all, keep, overwritten, sum}
+use Rattle.order.specs.Lists.{all, keep, sum, last}
+use Rattle.column.specs.Column.{overwritten}
 use Rattle.order.specs.Order.{ascending, lex}
 use Rattle.site.specs.Refusal.{contentRefusal, equalLengths, listRefusal, listsRefusal, sizeFault}
 use Rattle.site.specs.Site.{gap, lawfulSite, siteBefore, square, squaredDistance, squaredOver, within}
@@ -14,12 +15,13 @@ use Rattle.sweep.specs.Scan.{beyond, looked, offered, scan}
 use Rattle.sweep.specs.Strip.{pair, pairs, placedFrom, product, strip, whole}
 use Rattle.sweep.specs.Sweep.{classicOver, leads, look, reverseOver, start, sweep}
 use Rattle.pairs.specs.DistanceList.{distanceList}
-use Rattle.pairs.specs.KList.{kList, lawfulK}
+use Rattle.pairs.specs.KList.{kList}
+use Rattle.entry.specs.Entry.{lawfulK}
 use Rattle.campaign.specs.Calls.{jobCampaign, jobEntries, jobRefusal, jobResults, jobTold, jobValues, newCampaign, openRefusal, openTold, skips, slots, statusTold, afterJob}
 use Rattle.campaign.specs.Grid.{countFrom, firstX, jobPairs, jobs, lastEnd, lastX, lawfulEnds, lawfulMarks, markOf, pairTotal, rangeGap, settled, settledJobs, stripAt, stripFrom, stripGap, stripHolding, stripTo}
 use Rattle.campaign.specs.Keeper.{campaignRefusal, firstEnds, secondEnds, settledTotal, siteAt, sound, soundEnds, soundEntry}
 use Rattle.demands.specs.Examples.{blank, campaignEnds, columnsOf, countsAre, examples, holds, sameBool, samePlaces, statusIs, stepsAre, sweptAs}
 
 pub examples-hold : all holds examples ≡ true
-unfolding all ascending best bestK beyond blank campaignEnds campaignRefusal classicOver columnsOf contentRefusal countFrom countsAre distanceList entriesOf equalLengths examples firstEnds firstX gap holding holds insert inserts jobCampaign jobEntries jobPairs jobRefusal jobResults jobTold jobValues jobs kList keep lastDistance lastEnd lastX lawfulEnds lawfulK lawfulMarks lawfulSite leads lex listRefusal listsRefusal look looked markOf newCampaign offer offered openRefusal openTold orElse overwritten pair pairTotal pairs placedFrom product rangeGap rankBefore reverseOver roomFor sameBool samePlaces scan secondEnds settled settledJobs settledTotal siteAt siteBefore sites sizeFault skips slots sort sound soundEnds soundEntry square squaredDistance squaredOver start statusIs statusTold stepsAre strip stripAt stripFrom stripGap stripHolding stripTo sum sweep sweptAs tell unlessRefused whole within zipEntries zipSites afterJob
+unfolding all ascending best bestK beyond blank campaignEnds campaignRefusal classicOver columnsOf contentRefusal countFrom countsAre distanceList entriesOf equalLengths examples firstEnds firstX gap holding holds insert inserts jobCampaign jobEntries jobPairs jobRefusal jobResults jobTold jobValues jobs kList keep lastDistance last lastEnd lastX lawfulEnds lawfulK lawfulMarks lawfulSite leads lex listRefusal listsRefusal look looked markOf newCampaign offer offered openRefusal openTold orElse overwritten pair pairTotal pairs placedFrom product rangeGap rankBefore reverseOver roomFor sameBool samePlaces scan secondEnds settled settledJobs settledTotal siteAt siteBefore sites sizeFault skips slots sort sound soundEnds soundEntry square squaredDistance squaredOver start statusIs statusTold stepsAre strip stripAt stripFrom stripGap stripHolding stripTo sum sweep sweptAs tell unlessRefused whole within zipEntries zipSites afterJob
 examples-hold = refl

@@ -20,7 +20,7 @@ use Rattle.entry.specs.declared.Entry.{Entry}
 use Rattle.entry.specs.Entry.{rankBefore, bestK}
 use Rattle.entry.specs.Results.{entriesOf, roomFor}
 use Rattle.entry.proofs.Rank.{rank-order}
-use Rattle.pairs.specs.KList.{lawfulK}
+use Rattle.entry.specs.Entry.{lawfulK}
 use Rattle.campaign.specs.Grid.{lawfulEnds, Job, jobs, settled, settledJobs, lawfulMarks, jobsPairs}
 use Rattle.campaign.specs.Keeper.{firstEnds, secondEnds, soundEnds, soundEntry, settledTotal, sound, campaignRefusal}
 use Rattle.campaign.specs.Calls.{jobRefusal, statusTold}

@@ -15,13 +15,13 @@ use Rattle.order.proofs.Best.{length-best, best-nil}
 use Rattle.order.proofs.Sorted.{best-of-best}
 use Rattle.site.specs.SiteList.{Columns, sites}
 use Rattle.site.specs.Refusal.{listsRefusal}
-use Rattle.site.proofs.Lawful.{orElse-first, orElse-second, no-fault}
+use Rattle.site.proofs.Told.{orElse-first, orElse-second, no-fault}
 use Rattle.entry.specs.declared.Entry.{Entry}
 use Rattle.entry.specs.Entry.{rankBefore, bestK}
 use Rattle.entry.specs.Results.{Results, entriesOf, holding, roomFor}
 use Rattle.entry.proofs.Rank.{rank-order}
 use Rattle.entry.proofs.Columns.{entries-holding, room-holding}
-use Rattle.pairs.specs.KList.{lawfulK}
+use Rattle.entry.specs.Entry.{lawfulK}
 use Rattle.campaign.specs.Grid.{lawfulEnds, Job, markOf, settled, jobPairs, jobsPairs}
 use Rattle.campaign.specs.Keeper.{firstEnds, secondEnds}
 use Rattle.campaign.specs.Calls.{slots, newCampaign, openRefusal, jobRefusal, jobEntries, afterJob, jobCampaign, jobResults}

@@ -7,32 +7,13 @@ use native.Mathlib.Omega.{arith}
 use lib.Dec.{leb}
 use lib.ListN.{length, take, drop, getD, length-append, length-take, length-drop, length-map, take-append-drop}
 use lib.Seq.{take-append-seam, length-take-le, getD-take, drop-append-add, drop-drop}
-use borrow.Author.Tests.{leb-true, le-leb}
-use Rattle.order.specs.Lists.{overwritten}
-use Rattle.order.proofs.Lists.{length-overwritten}
+use borrow.Author.Tests.{leb-true, le-leb, lt-leb}
+use Rattle.column.specs.Column.{overwritten}
+use Rattle.column.proofs.Overwritten.{length-overwritten, overwritten-again, overwritten-self}
 use Rattle.entry.specs.declared.Entry.{Entry}
 use Rattle.entry.specs.Entry.{entry, lastDistance}
 use Rattle.entry.specs.Results.{Results, results, zipEntries, entriesOf, holding, roomFor}
 use Rattle.entry.proofs.Rank.{last-distance}
-
--- ---- one column, any element
-
-module _ {A : Type 0} where
-  -- Written again, at least as far.
-  pub overwritten-again : (v w c : List A) → length v ≤ length w → overwritten w (overwritten v c) ≡ overwritten w c
-  unfolding overwritten
-  overwritten-again v w c h =
-      let split : length w ≡ length v + (length w - length v) = omega arith in
-      ap (λ (r : List A). w ++ r)
-      (ap (λ (n : ℕ). drop n (v ++ drop (length v) c)) split
-      ∙ drop-append-add v (drop (length v) c) (length w - length v)
-      ∙ drop-drop (length w - length v) (length v) c
-      ∙ ap (λ (n : ℕ). drop n c) (sym split))
-
-  -- Its own first elements written: nothing changes.
-  pub overwritten-self : (n : ℕ) (c : List A) → n ≤ length c → overwritten (take n c) c ≡ c
-  unfolding overwritten
-  overwritten-self n c h = rw (length-take-le n c h) (take-append-drop n c)
 
 -- ---- room
 
@@ -43,6 +24,19 @@ module _ (k : ℕ) (r : Results) where
       let p = and-eq-true-iff (leb k (length (r .distance))) (leb k (length (r .first)) && leb k (length (r .second))) .0 h in
       let q = and-eq-true-iff (leb k (length (r .first))) (leb k (length (r .second))) .0 (p .1) in
       (leb-true k (length (r .distance)) (p .0), leb-true k (length (r .first)) (q .0), leb-true k (length (r .second)) (q .1))
+
+  -- One column after the other.
+  pub no-room-distance : length (r .distance) < k → false ≡ roomFor k r
+  unfolding roomFor
+  no-room-distance h = simp (lt-leb k (length (r .distance)) h)
+
+  pub no-room-first : k ≤ length (r .distance) → length (r .first) < k → false ≡ roomFor k r
+  unfolding roomFor
+  no-room-first g h = simp (le-leb k (length (r .distance)) g, lt-leb k (length (r .first)) h)
+
+  pub room-second : k ≤ length (r .distance) → k ≤ length (r .first) → leb k (length (r .second)) ≡ roomFor k r
+  unfolding roomFor
+  room-second g h = simp (le-leb k (length (r .distance)) g, le-leb k (length (r .first)) h)
 
   pub lengths-room : k ≤ length (r .distance) → k ≤ length (r .first) → k ≤ length (r .second) → roomFor k r ≡ true
   unfolding roomFor

@@ -1,7 +1,6 @@
 -- The laws of entries and result columns.
 pub mod Examples
 pub mod Rank
-pub mod Inserted
 pub mod Columns
 pub mod Search
 pub mod Offering

@@ -4,13 +4,12 @@ use mathlib.Core.List.{List, _∷_, _++_, map}
 use Prim.Native.Nat.{ℕ, suc, _+_, _-_, _≤_, _<_, min}
 use native.Mathlib.Omega.{arith}
 use lib.ListN.{length, take, drop}
-use Rattle.order.specs.Lists.{overwritten}
-use Rattle.site.specs.Add.{inserted}
+use Rattle.column.specs.Column.{overwritten, inserted}
 use Rattle.entry.specs.declared.Entry.{Entry}
 use Rattle.entry.specs.Entry.{entry, rankBefore, offer}
 use Rattle.entry.specs.Results.{Results, results, entriesOf, holding, roomFor}
 use Rattle.entry.specs.Offered.{Ready, Holds, PlaceOf}
-use Rattle.entry.proofs.Inserted.{inserted-key}
+use Rattle.column.proofs.Inserted.{inserted-key}
 use Rattle.entry.proofs.Rank.{length-offer, offer-split, offer-full}
 use Rattle.entry.proofs.Columns.{room-lengths, lengths-room, length-entries, entries-columns, holding-self}
 

@@ -13,7 +13,7 @@ use Rattle.order.specs.Lists.{All}
 use Rattle.order.specs.Best.{insert}
 use Rattle.order.specs.Sorted.{Sorted}
 use Rattle.order.proofs.Order.{byTest, strict, by-number, lex-order, lex-less, lex-more, lex-next, weak-before}
-use Rattle.order.proofs.Lists.{all-at}
+use Rattle.order.proofs.Lists.{all-at, last-map, last-at}
 use Rattle.order.proofs.Best.{insert-nil, insert-later, insert-here, length-insert}
 use Rattle.order.proofs.Sorted.{sorted-insert, sorted-take, take-insert-full, last-weak}
 use Rattle.entry.specs.declared.Entry.{Entry}
@@ -116,11 +116,8 @@ sorted-offer k e l h = sorted-take rankBefore k (insert rankBefore e l) (sorted-
 -- The last squared distance, by place.
 pub last-distance : (l : List Entry) (j : ℕ) (d : Entry) → length l ≡ suc j → lastDistance l ≡ getD l j d .distance
 unfolding lastDistance
-last-distance [] j d n = absurd (omega arith)
-last-distance (e ∷ []) zero d n = refl
-last-distance (e ∷ []) (suc j) d n = absurd (omega arith)
-last-distance (e ∷ (f ∷ l)) zero d n = absurd (omega arith)
-last-distance (e ∷ (f ∷ l)) (suc j) d n = last-distance (f ∷ l) j d (omega arith)
+last-distance l j d n =
+    last-map (λ e. e .distance) (entry 0 0 0) l ∙ ap (λ e. e .distance) (last-at (entry 0 0 0) d l j n)
 
 -- A pair past the last squared distance does not enter a full list.
 pub offer-past : (k : ℕ) (e : Entry) (l : List Entry) → 0 < k → length l ≡ k → Sorted rankBefore l → lastDistance l < e .distance

@@ -1,10 +1,11 @@
 -- An entry, and its rank.
-use mathlib.Core.Bool.{Bool}
-use mathlib.Core.List.{List, [], _∷_}
+use mathlib.Core.Bool.{Bool, _&&_}
+use mathlib.Core.List.{List, map}
 use Prim.Native.Nat.{ℕ}
-use lib.Dec.{ltb}
+use lib.Dec.{leb, ltb}
 use lib.ListN.{take}
 use Rattle.order.specs.Order.{on, lex}
+use Rattle.order.specs.Lists.{last}
 use Rattle.order.specs.Best.{insert, best}
 use Rattle.entry.specs.declared.Entry.{Entry}
 
@@ -14,6 +15,10 @@ entry distance first second = record { distance = distance; first = first; secon
 -- "Smaller squared distance first, then smaller first place, then smaller second place." (01: rank.)
 unfoldable pub rankBefore : Entry → Entry → Bool
 rankBefore = lex (on ltb (λ e. e .distance)) (lex (on ltb (λ e. e .first)) (on ltb (λ e. e .second)))
+
+-- "K is 1 to 4,096."
+unfoldable pub lawfulK : ℕ → Bool
+lawfulK k = leb 1 k && leb k 4_096
 
 -- "The first K pairs by rank, or all when that is fewer."
 unfoldable pub bestK : ℕ → List Entry → List Entry
@@ -25,6 +30,4 @@ offer k e l = take k (insert rankBefore e l)
 
 -- The squared distance of the last entry.
 unfoldable pub lastDistance : List Entry → ℕ
-lastDistance [] = 0
-lastDistance (e ∷ []) = e .distance
-lastDistance (e ∷ (f ∷ l)) = lastDistance (f ∷ l)
+lastDistance l = last 0 (map (λ e. e .distance) l)

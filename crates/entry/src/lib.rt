@@ -4,10 +4,9 @@ ghost use mathlib.Core.Bool.{cond};
 ghost use lib.Dec.{eqb};
 ghost use Prim.Native.Nat.{suc, min, _≤_, _<_, _-_, _^_};
 ghost use lib.ListN.{length, getD};
-ghost use Rattle.site.specs.Add.{inserted};
-ghost use Rattle.entry.specs.Entry.{entry, rankBefore, offer};
-ghost use Rattle.entry.specs.Results.{results, entriesOf};
-ghost use Rattle.entry.specs.Offered.{Ready, Holds, PlaceOf, reachOf};
+ghost use Rattle.entry.specs.Entry.{entry, rankBefore, lawfulK, offer};
+ghost use Rattle.entry.specs.Results.{results, entriesOf, roomFor};
+ghost use Rattle.entry.specs.Offered.{Ready, Holds, PlaceOf};
 
 // A pair with its squared distance.
 pub struct Entry {
@@ -35,15 +34,35 @@ pub fn before(a: Entry, b: Entry) -> bool
     a.second < b.second
 }
 
-// The entry at a place of the columns.
+// Whether K is 1 to 4,096.
+pub fn lawful_k(k: u32) -> bool
+    ensures { λ r. ⌜ r ≡ lawfulK k ⌝ }
+{
+    1 <= k && k <= 4_096
+}
+
+// Whether no column is shorter than `k`.
+pub fn room(k: usize, distance: &[u64], first: &[u32], second: &[u32]) -> bool
+    ensures { λ r. ⌜ r ≡ roomFor k (results (now (distance .entry)) (now (first .entry)) (now (second .entry))) ⌝ }
+{
+    if distance.len() < k {
+        return false;
+    }
+    if first.len() < k {
+        return false;
+    }
+    k <= second.len()
+}
+
+// The entry at a place of the columns; numbers past a column's end are 0.
 pub fn entry_at(distance: &[u64], first: &[u32], second: &[u32], i: usize) -> Entry
-    requires { ⌜ (i < length (now distance)) × (i < length (now first)) × (i < length (now second)) ⌝ }
-    ensures { λ r. ⌜ r ≡ entry (getD (now (distance .entry)) i 0) (getD (now (first .entry)) i 0) (getD (now (second .entry)) i 0) ⌝ }
+    ensures { λ r.
+        ⌜ r ≡ entry (getD (now (distance .entry)) i 0) (getD (now (first .entry)) i 0) (getD (now (second .entry)) i 0) ⌝ }
 {
     Entry {
-        distance: distance[i],
-        first: first[i],
-        second: second[i],
+        distance: column::get_u64(distance, i),
+        first: column::get_u32(first, i),
+        second: column::get_u32(second, i),
     }
 }
 
@@ -63,48 +82,6 @@ fn place(distance: &[u64], first: &[u32], second: &[u32], count: usize, e: Entry
         }
     }
     low
-}
-
-// Puts a value at the start, moving up by one what stands there and on to place `n`.
-fn push_u64(column: &mut [u64], n: usize, v: u64)
-    requires { ⌜ n < length (now column) ⌝ }
-    ensures { λ r. ⌜ now (column .exit) ≡ inserted 0 n v (now (column .entry)) ⌝ }
-{
-    let mut i = n;
-    while 0 < i {
-        column[i] = column[i - 1];
-        i -= 1;
-    }
-    column[0] = v;
-}
-
-// Puts a value at place `p`, moving up by one what stands there and on to place `n`.
-fn insert_u64(column: &mut [u64], p: usize, n: usize, v: u64)
-    requires { ⌜ (p ≤ n) × (n < length (now column)) ⌝ }
-    ensures { λ r. ⌜ now (column .exit) ≡ inserted p n v (now (column .entry)) ⌝ }
-{
-    push_u64(&mut column[p..], n - p, v);
-}
-
-// The same for a column of places.
-fn push_u32(column: &mut [u32], n: usize, v: u32)
-    requires { ⌜ n < length (now column) ⌝ }
-    ensures { λ r. ⌜ now (column .exit) ≡ inserted 0 n v (now (column .entry)) ⌝ }
-{
-    let mut i = n;
-    while 0 < i {
-        column[i] = column[i - 1];
-        i -= 1;
-    }
-    column[0] = v;
-}
-
-// The same for a column of places.
-fn insert_u32(column: &mut [u32], p: usize, n: usize, v: u32)
-    requires { ⌜ (p ≤ n) × (n < length (now column)) ⌝ }
-    ensures { λ r. ⌜ now (column .exit) ≡ inserted p n v (now (column .entry)) ⌝ }
-{
-    push_u32(&mut column[p..], n - p, v);
 }
 
 // A pair takes its place by rank, the entry past `k` dropping out: the new count.
@@ -128,9 +105,9 @@ pub fn offer(
         return count;
     }
     let n = stay(count, k);
-    insert_u64(distance, p, n, e.distance);
-    insert_u32(first, p, n, e.first);
-    insert_u32(second, p, n, e.second);
+    column::insert_u64(distance, p, n, e.distance);
+    column::insert_u32(first, p, n, e.first);
+    column::insert_u32(second, p, n, e.second);
     n + 1
 }
 
@@ -144,11 +121,13 @@ fn stay(count: usize, k: usize) -> usize
 
 // The greatest squared distance at which a pair can still enter a list of at most `k`.
 pub fn reach(distance: &[u64], count: usize, k: usize) -> u64
-    requires { ⌜ (0 < k) × (count ≤ k) × (k ≤ length (now distance)) ⌝ }
     ensures { λ r. ⌜ r ≡ cond (eqb count k) (getD (now (distance .entry)) (count - 1) 0) (2 ^ 64 - 1) ⌝ }
 {
-    if count < k {
+    if count != k {
         return 0xffff_ffff_ffff_ffff;
     }
-    distance[count - 1]
+    if count == 0 {
+        return column::get_u64(distance, 0);
+    }
+    column::get_u64(distance, count - 1)
 }

@@ -16,7 +16,7 @@ use Rattle.order.specs.Order.{lex, ascending}
 use Rattle.order.specs.Best.{insert, inserts, sort, best}
 use Rattle.entry.specs.Entry.{rankBefore, bestK}
 use Rattle.sweep.specs.Strip.{placedFrom, whole, pair, product, pairs}
-use Rattle.pairs.specs.KList.{lawfulK}
+use Rattle.entry.specs.Entry.{lawfulK}
 
 -- 0, a number with a zero inside, and the greatest of 64 bits.
 decimals : (decimal 0 ≡ 48 ∷ []) × (decimal 1_024 ≡ 49 ∷ 48 ∷ 50 ∷ 52 ∷ []) × (decimal 18_446_744_073_709_551_615 ≡ 49 ∷ 56 ∷ 52 ∷ 52 ∷ 54 ∷ 55 ∷ 52 ∷ 52 ∷ 48 ∷ 55 ∷ 51 ∷ 55 ∷ 48 ∷ 57 ∷ 53 ∷ 53 ∷ 49 ∷ 54 ∷ 49 ∷ 53 ∷ [])

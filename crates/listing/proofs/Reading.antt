@@ -15,8 +15,10 @@ use Rattle.site.specs.SiteList.{Columns, columns, site, sites}
 use Rattle.site.specs.Told.{orElse}
 use Rattle.site.specs.Refusal.{contentRefusal, listRefusal, listsRefusal}
 use Rattle.site.proofs.Lawful.{content-left}
-use Rattle.site_file.specs.File.{siteIn, sitesFrom, columnsOf}
-use Rattle.site_file.proofs.Bodies.{from-length, from-at, columns-sites, columns-length, columns-level}
+use Rattle.site_file.specs.File.{siteIn, sitesFrom}
+use Rattle.site.specs.SiteList.{columnsOf}
+use Rattle.site_file.proofs.Bodies.{from-length, from-at}
+use Rattle.site.proofs.Columns.{columns-sites, columns-length, columns-level}
 use Rattle.listing.specs.Listing.{listingText}
 use Rattle.listing.specs.Put.{Put, Lawful, Sized, FileLists}
 

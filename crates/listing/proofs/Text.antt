@@ -13,7 +13,8 @@ use Rattle.site.specs.SiteList.{Columns, Level, sites, zipSites}
 use Rattle.site.specs.Told.{orElse, unlessRefused}
 use Rattle.site.specs.Refusal.{listRefusal, listsRefusal}
 use Rattle.site.proofs.Cases.{and-second}
-use Rattle.site.proofs.Lawful.{orElse-first, orElse-second, accepted-few}
+use Rattle.site.proofs.Accepted.{accepted-few}
+use Rattle.site.proofs.Told.{orElse-first, orElse-second}
 use Rattle.site.proofs.Columns.{sites-length}
 use Rattle.entry.specs.declared.Entry.{Entry}
 use Rattle.entry.specs.Entry.{rankBefore, bestK}
@@ -26,8 +27,9 @@ use Rattle.sweep.specs.Strip.{whole, pairs}
 use Rattle.sweep.proofs.PlaceLaws.{length-whole-pairs}
 use Rattle.pairs.specs.declared.Listed.{Listed}
 use Rattle.pairs.specs.declared.Listed.the-variants.{Entries, Refused}
-use Rattle.pairs.specs.KList.{lawfulK, kList, kListRefusal, kListResults, kListTold, listedTold}
-use Rattle.site_file.proofs.Writing.{accepted-level}
+use Rattle.pairs.specs.KList.{kList, kListRefusal, kListResults, kListTold, listedTold}
+use Rattle.entry.specs.Entry.{lawfulK}
+use Rattle.site.proofs.Accepted.{accepted-level}
 use Rattle.listing.specs.Put.{Put, Lawful}
 use Rattle.listing.proofs.Verdict.{refused-never, answered-values}
 use Rattle.listing.specs.Listing.{numberAt, numberIn, entryLines, entriesText, listingText}

@@ -9,9 +9,9 @@ use lib.Dec.{ltb}
 use lib.ListN.{length, take, drop, length-drop}
 use lib.Seq.{take-all}
 use Rattle.site.specs.Told.{refused, answered, tell, refuseIf, orElse}
-use Rattle.site.proofs.Lawful.{orElse-first, orElse-second, no-fault}
-use Rattle.pairs.specs.KList.{lawfulK}
-use Rattle.order.specs.Lists.{overwritten}
+use Rattle.site.proofs.Told.{orElse-first, orElse-second, no-fault}
+use Rattle.entry.specs.Entry.{lawfulK}
+use Rattle.column.specs.Column.{overwritten}
 use Rattle.site_file.specs.Bytes.{word}
 use Rattle.site_file.specs.declared.Which.the-variants.{First, Second}
 use Rattle.site_file.specs.File.{startIn, countIn, sitesFrom, sitesIn}

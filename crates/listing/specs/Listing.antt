@@ -11,7 +11,7 @@ use Rattle.site.specs.SiteList.{site}
 use Rattle.entry.specs.declared.Entry.{Entry}
 use Rattle.entry.specs.Entry.{bestK}
 use Rattle.sweep.specs.Strip.{whole, pairs}
-use Rattle.pairs.specs.KList.{lawfulK}
+use Rattle.entry.specs.Entry.{lawfulK}
 use Rattle.site_file.specs.declared.Which.the-variants.{First, Second}
 use Rattle.site_file.specs.Bytes.{word}
 use Rattle.site_file.specs.File.{sitesIn}

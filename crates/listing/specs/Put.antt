@@ -6,7 +6,7 @@ use Prim.Native.Nat.{ℕ, _+_, _*_, _≤_, _<_}
 use lib.ListN.{length}
 use Rattle.site.specs.SiteList.{Columns}
 use Rattle.site.specs.Refusal.{contentRefusal, listsRefusal}
-use Rattle.pairs.specs.KList.{lawfulK}
+use Rattle.entry.specs.Entry.{lawfulK}
 use Rattle.site_file.specs.File.{sitesFrom}
 use Rattle.site_file.specs.Stored.{stored}
 use Rattle.listing.specs.Decimal.{decimal, digitAt, powersBelow}

@@ -1,4 +1,4 @@
--- Small laws of lists: statements and tests of each element, members, permutations, distinct lists, columns, sums.
+-- Small laws of lists: statements and tests of each element, members, permutations, distinct lists, parts, the last, sums.
 use mathlib.Core.Path.{_≡_, refl, sym, ap, _∙_, subst⁻¹}
 use mathlib.Core.Logic.{_⊎_, ⊎-elim, _↔_}
 use mathlib.Core.Bool.{Bool, true, false}
@@ -6,9 +6,8 @@ use mathlib.Core.List.{List, [], _∷_, _++_, map, List·Memᴰ, List·Memᴰ·h
 use mathlib.Core.List.{List·Permᴰ, List·Permᴰ·nil, List·Permᴰ·cons, List·Permᴰ·swap, List·Permᴰ·trans, Permᴰ·symm}
 use Prim.Native.Nat.{ℕ, zero, suc, _+_, _-_, _≤_, _<_}
 use native.Mathlib.Omega.{arith}
-use lib.ListN.{length, take, drop, getD, length-append, length-drop, take-append-drop, List·getD-append}
-use lib.Seq.{take-append-seam, drop-append-seam, getD-append-add, getD-drop}
-use Rattle.order.specs.Lists.{all, keep, All, Distinct, overwritten, sum}
+use lib.ListN.{length, take, drop, getD, take-append-drop}
+use Rattle.order.specs.Lists.{all, keep, All, Distinct, last, sum}
 use Rattle.order.proofs.Order.{byTest, never-both}
 
 -- ---- a statement of each element
@@ -269,30 +268,6 @@ module _ {A : Type 0} where
   mem-at (a ∷ l) zero d lt = List·Memᴰ·head refl
   mem-at (a ∷ l) (suc i) d lt = List·Memᴰ·tail (mem-at l i d (omega arith))
 
-  -- ---- a column that holds some values from its start on
-
-  pub length-overwritten : (values column : List A) → length values ≤ length column → length (overwritten values column) ≡ length column
-  unfolding overwritten
-  length-overwritten v c h = rw (length-append, length-drop) (omega arith)
-
-  pub take-overwritten : (values column : List A) → take (length values) (overwritten values column) ≡ values
-  unfolding overwritten
-  take-overwritten v c = take-append-seam v (drop (length v) c)
-
-  pub drop-overwritten : (values column : List A) → drop (length values) (overwritten values column) ≡ drop (length values) column
-  unfolding overwritten
-  drop-overwritten v c = drop-append-seam v (drop (length v) c)
-
-  pub getD-overwritten : (values column : List A) (i : ℕ) (d : A) → i < length values → getD (overwritten values column) i d ≡ getD values i d
-  unfolding overwritten
-  getD-overwritten v c i d h = List·getD-append v (drop (length v) c) d i h
-
-  pub getD-overwritten-past : (values column : List A) (i : ℕ) (d : A) → length values ≤ i → getD (overwritten values column) i d ≡ getD column i d
-  unfolding overwritten
-  getD-overwritten-past v c i d h =
-      let e : length v + (i - length v) ≡ i = omega arith in
-      rw e at (getD-append-add v (drop (length v) c) (i - length v) d ∙ getD-drop (length v) c (i - length v) d)
-
 pub perm-map : {A B : Type 0} (f : A → B) {l m : List A} → List·Permᴰ l m → List·Permᴰ (map f l) (map f m)
 perm-map f List·Permᴰ·nil = List·Permᴰ·nil
 perm-map f (List·Permᴰ·cons e p) = List·Permᴰ·cons (ap f e) (perm-map f p)
@@ -307,6 +282,32 @@ distinct-map f inj (a ∷ l) d = (
   all-map (λ b. f a ≡ b → ⊥) f l (all-weaken (λ b. a ≡ b → ⊥) (λ b. f a ≡ f b → ⊥) (λ b n e. n (inj a b e)) l (d .0)),
   distinct-map f inj l (d .1),
 )
+
+-- ---- parts of a mapped list, and the last of one
+
+pub map-take : {A B : Type 0} (f : A → B) (n : ℕ) (l : List A) → map f (take n l) ≡ take n (map f l)
+map-take f zero l = refl
+map-take f (suc n) [] = refl
+map-take {A} {B} f (suc n) (a ∷ l) = ap (λ (r : List B). f a ∷ r) (map-take f n l)
+
+pub map-drop : {A B : Type 0} (f : A → B) (n : ℕ) (l : List A) → map f (drop n l) ≡ drop n (map f l)
+map-drop f zero l = refl
+map-drop f (suc n) [] = refl
+map-drop f (suc n) (a ∷ l) = map-drop f n l
+
+pub last-map : {A B : Type 0} (f : A → B) (d : A) (l : List A) → last (f d) (map f l) ≡ f (last d l)
+unfolding last
+last-map f d [] = refl
+last-map f d (a ∷ l) = last-map f a l
+
+-- The last by its place.
+pub last-at : {A : Type 0} (d e : A) (l : List A) (j : ℕ) → length l ≡ suc j → last d l ≡ getD l j e
+unfolding last
+last-at d e [] j h = absurd (omega arith)
+last-at d e (a ∷ []) zero h = refl
+last-at d e (a ∷ []) (suc j) h = absurd (omega arith)
+last-at d e (a ∷ (b ∷ l)) zero h = absurd (omega arith)
+last-at d e (a ∷ (b ∷ l)) (suc j) h = last-at a e (b ∷ l) j (omega arith)
 
 -- ---- sums
 

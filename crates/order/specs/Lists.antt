@@ -1,9 +1,8 @@
 -- Small definitions on lists, for any element.
 use mathlib.Core.Path.{_≡_}
 use mathlib.Core.Bool.{Bool, true, false, cond, _&&_}
-use mathlib.Core.List.{List, [], _∷_, _++_}
+use mathlib.Core.List.{List, [], _∷_}
 use Prim.Native.Nat.{ℕ, _+_}
-use lib.ListN.{length, drop}
 
 -- The test holds of each element.
 unfoldable pub all : {A : Type 0} → (A → Bool) → List A → Bool
@@ -25,9 +24,10 @@ unfoldable pub Distinct : {A : Type 0} → List A → Type 0
 Distinct [] = Unit {0}
 Distinct (a ∷ l) = All (λ b. a ≡ b → ⊥) l × Distinct l
 
--- A lent column that holds `values` from its start on; what stands past them is as before.
-unfoldable pub overwritten : {A : Type 0} → List A → List A → List A
-overwritten values column = values ++ drop (length values) column
+-- The last element, or `d` where there is none.
+unfoldable pub last : {A : Type 0} → A → List A → A
+last d [] = d
+last d (a ∷ l) = last a l
 
 unfoldable pub sum : List ℕ → ℕ
 sum [] = 0

@@ -7,12 +7,12 @@ use native.Mathlib.Omega.{arith}
 use borrow.Author.Tests.{lt-ltb, le-ltb, ltb-false}
 use lib.Dec.{ltb}
 use lib.ListN.{length}
-use Rattle.order.specs.Lists.{overwritten}
+use Rattle.column.specs.Column.{overwritten}
 use Rattle.site.specs.Told.{refused, answered, unlessRefused, orElse}
 use Rattle.site.specs.SiteList.{Columns, sites}
 use Rattle.site.specs.Refusal.{listRefusal, listsRefusal}
-use Rattle.site.proofs.Answers.{told, told-refused}
-use Rattle.site.proofs.Lawful.{orElse-first, orElse-second, no-fault}
+use Rattle.site.proofs.Told.{told, told-refused}
+use Rattle.site.proofs.Told.{orElse-first, orElse-second, no-fault}
 use Rattle.pairs.specs.DistanceList.{distanceList, distanceRefusal, distanceFirst, distanceSecond, distanceTold}
 use Rattle.pairs.specs.Run.{PairsWritten}
 use Rattle.pairs.proofs.Lawful.{or-first, both-lawful}

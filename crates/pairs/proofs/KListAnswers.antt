@@ -13,9 +13,9 @@ use Rattle.order.specs.Sorted.{Sorted}
 use Rattle.site.specs.Told.{Told, refused, answered, orElse}
 use Rattle.site.specs.SiteList.{Columns, columns, sites}
 use Rattle.site.specs.Refusal.{listRefusal, listsRefusal}
-use Rattle.site.proofs.Answers.{told, told-refused}
+use Rattle.site.proofs.Told.{told, told-refused}
 use Rattle.site.proofs.Cases.{byTest, and-first, and-second}
-use Rattle.site.proofs.Lawful.{orElse-first, orElse-second, no-fault}
+use Rattle.site.proofs.Told.{orElse-first, orElse-second, no-fault}
 use Rattle.entry.specs.declared.Entry.{Entry}
 use Rattle.entry.specs.Entry.{rankBefore, bestK}
 use Rattle.entry.specs.Results.{Results, holding, roomFor, entriesOf}
@@ -25,9 +25,11 @@ use Rattle.sweep.specs.declared.Way.{Way}
 use Rattle.sweep.specs.Strip.{Placed, whole, strip}
 use Rattle.sweep.specs.Scan.{State}
 use Rattle.sweep.specs.Sweep.{sweep}
-use Rattle.sweep.specs.Terms.{Coordinates, SweepAsked, SweptTo, SweptStrips}
+use Rattle.sweep.specs.Terms.{SweepAsked, SweptTo, SweptStrips}
+use Rattle.site.specs.SiteList.{Coordinates}
 use Rattle.sweep.proofs.SweepLaws.{sweep-whole-best}
-use Rattle.pairs.specs.KList.{lawfulK, kList, kListRefusal, kListResults, Counts, kListTold}
+use Rattle.pairs.specs.KList.{kList, kListRefusal, kListResults, Counts, kListTold}
+use Rattle.entry.specs.Entry.{lawfulK}
 use Rattle.pairs.proofs.Lawful.{or-first, both-lawful, lawful}
 use Rattle.pairs.proofs.Places.{length-places}
 use Rattle.pairs.proofs.DistanceAnswers.{unless-kept, unless-done}

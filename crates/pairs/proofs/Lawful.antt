@@ -14,7 +14,9 @@ use Rattle.site.specs.Site.{within, lawfulSite, siteBefore}
 use Rattle.site.specs.SiteList.{Columns, Level, sites}
 use Rattle.site.specs.Refusal.{equalLengths, sizeFault, contentRefusal, listRefusal, listsRefusal}
 use Rattle.site.proofs.Cases.{and-first, and-second}
-use Rattle.site.proofs.Lawful.{level-by, lawful-columns, orElse-first, orElse-second, no-fault, accepted-few}
+use Rattle.site.proofs.Lawful.{level-by, lawful-columns}
+use Rattle.site.proofs.Accepted.{accepted-few}
+use Rattle.site.proofs.Told.{orElse-first, orElse-second, no-fault}
 
 -- A refusal is the first of two.
 pub or-first : (n m : ℕ) → (n ≡ 0 → ⊥) → orElse n m ≡ n

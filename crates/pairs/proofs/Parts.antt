@@ -7,7 +7,8 @@ use native.Mathlib.Nat.{add-zero}
 use native.Mathlib.Omega.{arith}
 use lib.ListN.{length, take, drop, getD, set, length-append, length-take, length-drop, take-append-drop}
 use lib.Seq.{getD-take, getD-drop, drop-drop, take-suc, drop-cons, set-at, append-snoc, take-append-seam}
-use Rattle.order.specs.Lists.{All, keep, overwritten}
+use Rattle.order.specs.Lists.{All, keep}
+use Rattle.column.specs.Column.{overwritten}
 use Rattle.order.specs.Sorted.{Sorted}
 use Rattle.order.proofs.Lists.{all-at, keep-append, keep-none, keep-yes, keep-no, keep-nil}
 use Rattle.pairs.specs.Run.{writtenFrom}

@@ -7,8 +7,8 @@ use native.Mathlib.Omega.{arith}
 use lib.IntN.{pos}
 use lib.ListN.{length, getD}
 use Rattle.site.specs.declared.Site.{Site}
-use Rattle.site.specs.SiteList.{Columns, site, sites, siteAt}
-use Rattle.site.proofs.Columns.{sites-length, sites-at}
+use Rattle.site.specs.SiteList.{Columns, site, sites}
+use Rattle.site.proofs.Columns.{columnsAt, sites-length, sites-at}
 use Rattle.site.specs.Refusal.{listRefusal}
 use Rattle.sweep.specs.Strip.{Placed, placedFrom, whole}
 use Rattle.pairs.proofs.Lawful.{lawful}
@@ -22,7 +22,7 @@ nowhere = placed 0 (site (pos 0) (pos 0) 0)
 
 -- The site at a place of the columns, with its place.
 abbrev pub placedAt : Columns → ℕ → Placed
-placedAt c i = placed i (siteAt c i)
+placedAt c i = placed i (columnsAt c i)
 
 placed-length : (n : ℕ) (l : List Site) → length (placedFrom n l) ≡ length l
 unfolding placedFrom

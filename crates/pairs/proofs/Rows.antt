@@ -12,7 +12,8 @@ use lib.Signed.{leZ}
 use Rattle.order.specs.Lists.{keep, sum}
 use Rattle.order.proofs.Lists.{keep-map, keep-nil, length-keep}
 use Rattle.site.specs.Site.{square, squaredOver, squaredDistance}
-use Rattle.site.specs.SiteList.{Columns, site, sites, siteAt}
+use Rattle.site.proofs.Columns.{columnsAt}
+use Rattle.site.specs.SiteList.{Columns, site, sites}
 use Rattle.site.specs.Refusal.{listRefusal}
 use Rattle.site.proofs.Cases.{byTest}
 use Rattle.site.proofs.Integers.{le-not-lt}
@@ -109,11 +110,11 @@ row-run a c e i run oka okc h r =
     (λ k p q.
     let g : k < length (c .x) = omega (arith, length-places c okc) in
     rw (place-at c okc k nowhere g)
-    (far x y (siteAt c k) e (far-left x (getD (c .x) k (pos 0)) e (inside-x a oka i h) (inside-x c okc k g) (r .behind .below k p))))
+    (far x y (columnsAt c k) e (far-left x (getD (c .x) k (pos 0)) e (inside-x a oka i h) (inside-x c okc k g) (r .behind .below k p))))
     (λ k p q.
     let g : k < length (c .x) = omega (arith, length-places c okc) in
     rw (place-at c okc k nowhere g)
-    (far x y (siteAt c k) e (far-right x (getD (c .x) k (pos 0)) e (inside-x a oka i h) (inside-x c okc k g) (r .above k p g))))
+    (far x y (columnsAt c k) e (far-right x (getD (c .x) k (pos 0)) e (inside-x a oka i h) (inside-x c okc k g) (r .above k p g))))
 
 -- The pairs of a site that are near, as entries.
 pub near-pairs : (e : ℕ) (p : Placed) (q : List Placed)

@@ -5,8 +5,8 @@ use Prim.Native.Nat.{ℕ, _+_, _≤_, _<_}
 use native.Mathlib.Nat.{add-zero}
 use native.Mathlib.Omega.{arith}
 use lib.ListN.{length, set, length-append, length-map}
-use Rattle.order.specs.Lists.{overwritten}
-use Rattle.order.proofs.Lists.{length-overwritten}
+use Rattle.column.specs.Column.{overwritten}
+use Rattle.column.proofs.Overwritten.{length-overwritten}
 use Rattle.entry.specs.declared.Entry.{Entry}
 use Rattle.sweep.specs.Strip.{Placed, pair}
 use Rattle.pairs.specs.Run.{writtenFrom, Written, PairsWritten}

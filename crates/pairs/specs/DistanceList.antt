@@ -3,20 +3,21 @@ use mathlib.Core.List.{List, map}
 use Prim.Native.Nat.{ℕ, min}
 use lib.Dec.{leb, ltb}
 use lib.ListN.{length}
-use Rattle.order.specs.Lists.{keep, overwritten}
+use Rattle.order.specs.Lists.{keep}
+use Rattle.column.specs.Column.{overwritten}
 use Rattle.site.specs.declared.Site.{Site}
 use Rattle.site.specs.Told.{Told, refused, answered, tell, unlessRefused, refuseIf, orElse}
 use Rattle.site.specs.Site.{square}
 use Rattle.site.specs.SiteList.{Columns, sites}
 use Rattle.site.specs.Refusal.{listsRefusal}
 use Rattle.entry.specs.declared.Entry.{Entry}
-use Rattle.sweep.specs.Strip.{whole, pairs}
+use Rattle.sweep.specs.Strip.{allPairs}
 use Rattle.pairs.specs.declared.Within.{Within}
 use Rattle.pairs.specs.declared.Within.the-variants.{Pairs, Refused}
 
 -- "All pairs with squared distance at most e², by first place and then second." (01: distance list.)
 unfoldable pub distanceList : ℕ → List Site → List Site → List Entry
-distanceList e a b = keep (λ p. leb (p .distance) (square e)) (pairs (whole a) (whole b))
+distanceList e a b = keep (λ p. leb (p .distance) (square e)) (allPairs a b)
 
 -- 1, 2, 3 for each list, then "6: a distance list with more pairs than its shorter column".
 unfoldable pub distanceRefusal : Columns → Columns → ℕ → List ℕ → List ℕ → ℕ

@@ -1,29 +1,24 @@
 -- The K list of two whole lists.
-use mathlib.Core.Bool.{Bool, not, _&&_}
+use mathlib.Core.Bool.{not}
 use mathlib.Core.List.{List, []}
 use Prim.Native.Nat.{ℕ}
-use lib.Dec.{leb}
 use lib.ListN.{length}
 use Rattle.site.specs.declared.Site.{Site}
 use Rattle.site.specs.Told.{Told, refused, answered, tell, unlessRefused, refuseIf, orElse}
 use Rattle.site.specs.SiteList.{Columns, sites}
 use Rattle.site.specs.Refusal.{listsRefusal}
 use Rattle.entry.specs.declared.Entry.{Entry}
-use Rattle.entry.specs.Entry.{bestK}
+use Rattle.entry.specs.Entry.{lawfulK, bestK}
 use Rattle.entry.specs.Results.{Results, holding, roomFor}
 use Rattle.sweep.specs.declared.Way.{Way}
-use Rattle.sweep.specs.Strip.{whole, pairs}
+use Rattle.sweep.specs.Strip.{whole, allPairs}
 use Rattle.sweep.specs.Sweep.{sweep}
 use Rattle.pairs.specs.declared.Listed.{Listed}
 use Rattle.pairs.specs.declared.Listed.the-variants.{Entries, Refused}
 
--- "K is 1 to 4,096."
-unfoldable pub lawfulK : ℕ → Bool
-lawfulK k = leb 1 k && leb k 4_096
-
 -- "The first K pairs by rank, or all n × m when that is fewer." (01: K list.)
 unfoldable pub kList : ℕ → List Site → List Site → List Entry
-kList k a b = bestK k (pairs (whole a) (whole b))
+kList k a b = bestK k (allPairs a b)
 
 -- 1, 2, 3 for each list, then "4: K is 0 or above 4,096", then "6: a whole K list with a result column shorter than K".
 unfoldable pub kListRefusal : Columns → Columns → ℕ → Results → ℕ

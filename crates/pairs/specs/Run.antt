@@ -6,7 +6,8 @@ use Prim.Native.Nat.{ℕ, _+_, _≤_, _<_}
 use lib.Dec.{leb}
 use lib.IntN.{ℤ, pos, negsuc}
 use lib.ListN.{length, take, drop, getD}
-use Rattle.order.specs.Lists.{keep, overwritten}
+use Rattle.order.specs.Lists.{keep}
+use Rattle.column.specs.Column.{overwritten}
 use Rattle.site.specs.declared.Site.{Site}
 use Rattle.site.specs.Site.{within, gap, squaredDistance}
 use Rattle.site.specs.SiteList.{Columns, site, sites}

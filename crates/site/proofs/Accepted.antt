@@ -1,49 +1,112 @@
--- An accepted list is a lawful one, and the other way round.
-use mathlib.Core.Path.{_≡_, refl, sym, _∙_}
+-- What an accepted list is: a lawful one, and the other way round.
+use mathlib.Core.Path.{_≡_, sym, _∙_}
 use mathlib.Core.Logic.{_↔_}
-use mathlib.Core.Bool.{Bool, true, false, not, cond, _&&_}
+use mathlib.Core.Bool.{Bool, true, not, cond, _&&_}
 use mathlib.Core.List.{List}
-use Prim.Native.Nat.{ℕ}
-use borrow.Author.Tests.{not-false}
+use Prim.Native.Nat.{ℕ, _≤_, _<_}
+use native.Mathlib.Omega.{arith}
+use borrow.Author.Tests.{leb-true}
 use lib.Dec.{leb}
-use lib.ListN.{length}
+use lib.IntN.{ℤ, pos}
+use lib.ListN.{length, getD}
 use Rattle.order.specs.Order.{ascending}
 use Rattle.order.specs.Lists.{all, All}
 use Rattle.order.specs.Sorted.{Ascends}
-use Rattle.order.proofs.Lists.{all-holds, holds-all}
+use Rattle.order.proofs.Lists.{all-holds, holds-all, all-at}
 use Rattle.order.proofs.Sorted.{ascending-ascends, ascends-ascending}
 use Rattle.site.specs.declared.Site.{Site}
 use Rattle.site.specs.Told.{orElse}
-use Rattle.site.specs.Site.{lawfulSite, siteBefore}
-use Rattle.site.specs.SiteList.{Columns, sites}
-use Rattle.site.specs.Refusal.{equalLengths, sizeFault, contentRefusal, listRefusal, LawfulList}
-use Rattle.site.proofs.Cases.{and-first}
+use Rattle.site.specs.Site.{within, lawfulSite, siteBefore}
+use Rattle.site.specs.SiteList.{Columns, Level, Coordinates, sites, siteAt}
+use Rattle.site.specs.Refusal.{equalLengths, sizeFault, contentRefusal, listRefusal, listsRefusal, LawfulList}
+use Rattle.site.proofs.Cases.{and-first, and-second}
+use Rattle.site.proofs.Told.{orElse-first, orElse-second, fault-none}
 use Rattle.site.proofs.SiteOrder.{site-order}
-use Rattle.site.proofs.Lawful.{orElse-first, orElse-second, no-fault, equal-level, accepted-size, accepted-few, content-left}
+use Rattle.site.proofs.Columns.{columnsAt, sites-length, site-at}
+use Rattle.site.proofs.Lawful.{lawful-columns, equal-level, content-left}
 
--- Sites that no test refuses.
+-- Sites that no test refuses, by the tests and one by one.
 module _ (l : List Site) (ok : contentRefusal l ≡ 0) where
-  pub content-inside : All (λ s. lawfulSite s ≡ true) l
+  pub content-within : all lawfulSite l ≡ true
   unfolding contentRefusal
-  content-inside =
-      all-holds lawfulSite l (not-false (all lawfulSite l) (no-fault (not (all lawfulSite l)) 1 (orElse-first (cond (not (all lawfulSite l)) 2 0) (cond (not (ascending siteBefore l)) 3 0) ok)))
+  content-within = fault-none (all lawfulSite l) 1 (orElse-first _ (cond (not (ascending siteBefore l)) 3 0) ok)
+
+  pub content-order : ascending siteBefore l ≡ true
+  unfolding contentRefusal
+  content-order = fault-none (ascending siteBefore l) 2 (orElse-second (cond (not (all lawfulSite l)) 2 0) _ ok)
+
+  pub content-inside : All (λ s. lawfulSite s ≡ true) l
+  content-inside = all-holds lawfulSite l content-within
 
   pub content-ascends : Ascends siteBefore l
-  unfolding contentRefusal
-  content-ascends =
-      ascending-ascends site-order l (not-false (ascending siteBefore l) (no-fault (not (ascending siteBefore l)) 2 (orElse-second (cond (not (all lawfulSite l)) 2 0) (cond (not (ascending siteBefore l)) 3 0) ok)))
+  content-ascends = ascending-ascends site-order l content-order
 
 pub content-lawful : (l : List Site) → All (λ s. lawfulSite s ≡ true) l → Ascends siteBefore l → contentRefusal l ≡ 0
 unfolding contentRefusal orElse
 content-lawful l h k = simp (holds-all lawfulSite l h, ascends-ascending site-order l k)
 
-accepted-content : (c : Columns) → listRefusal c ≡ 0 → contentRefusal (sites c) ≡ 0
-unfolding listRefusal
-accepted-content c ok = orElse-second (cond (sizeFault c) 1 0) (contentRefusal (sites c)) ok
+-- A coordinate at a place of columns inside the limits.
+module _ {xs ys : List ℤ} (h : Coordinates xs ys) (i : ℕ) (inside : i < length xs) where
+  pub coordinate-x : within (getD xs i (pos 0)) ≡ true
+  coordinate-x = all-at (λ z. within z ≡ true) xs i (pos 0) inside (all-holds within xs (h .xs-within))
+
+  pub coordinate-y : within (getD ys i (pos 0)) ≡ true
+  coordinate-y = all-at (λ z. within z ≡ true) ys i (pos 0) (omega (arith, h .equal)) (all-holds within ys (h .ys-within))
+
+module _ (c : Columns) (ok : listRefusal c ≡ 0) where
+  accepted-size : (equalLengths c && leb (length (c .x)) 65_535) ≡ true
+  unfolding listRefusal sizeFault
+  accepted-size = fault-none (equalLengths c && leb (length (c .x)) 65_535) 0 (orElse-first _ (contentRefusal (sites c)) ok)
+
+  pub accepted-content : contentRefusal (sites c) ≡ 0
+  unfolding listRefusal
+  accepted-content = orElse-second (cond (sizeFault c) 1 0) (contentRefusal (sites c)) ok
+
+  pub accepted-level : Level c
+  accepted-level = equal-level c (and-first (equalLengths c) (leb (length (c .x)) 65_535) accepted-size)
+
+  pub accepted-few : length (c .x) ≤ 65_535
+  accepted-few = leb-true (length (c .x)) 65_535 (and-second (equalLengths c) (leb (length (c .x)) 65_535) accepted-size)
+
+  pub accepted-inside : all lawfulSite (sites c) ≡ true
+  accepted-inside = content-within (sites c) accepted-content
+
+  pub accepted-order : ascending siteBefore (sites c) ≡ true
+  accepted-order = content-order (sites c) accepted-content
+
+  pub accepted-length : length (sites c) ≡ length (c .x)
+  accepted-length = sites-length c accepted-level
+
+  -- Its coordinate columns.
+  pub accepted-coordinates : Coordinates (c .x) (c .y)
+  accepted-coordinates =
+      let within-both : (all within (c .x) && all within (c .y)) ≡ true = sym (lawful-columns c accepted-level) ∙ accepted-inside in
+      record {
+        equal = sym (accepted-level .y);
+        few = accepted-few;
+        xs-within = and-first (all within (c .x)) (all within (c .y)) within-both;
+        ys-within = and-second (all within (c .x)) (all within (c .y)) within-both;
+      }
+
+  -- The site at a place, and its coordinates.
+  module _ (i : ℕ) (h : i < length (c .x)) where
+    pub accepted-at : siteAt (sites c) i ≡ columnsAt c i
+    accepted-at = site-at c accepted-level i h
+
+    pub inside-x : within (getD (c .x) i (pos 0)) ≡ true
+    inside-x = coordinate-x accepted-coordinates i h
+
+    pub inside-y : within (getD (c .y) i (pos 0)) ≡ true
+    inside-y = coordinate-y accepted-coordinates i h
+
+-- Two accepted lists.
+pub both-accepted : (a b : Columns) → listsRefusal a b ≡ 0 → (listRefusal a ≡ 0) × (listRefusal b ≡ 0)
+unfolding listsRefusal
+both-accepted a b h = (orElse-first (listRefusal a) (listRefusal b) h, orElse-second (listRefusal a) (listRefusal b) h)
 
 pub accepted-lawful : (c : Columns) → listRefusal c ≡ 0 → LawfulList c
 accepted-lawful c ok = record {
-  level = equal-level c (and-first (equalLengths c) (leb (length (c .x)) 65_535) (accepted-size c ok));
+  level = accepted-level c ok;
   few = accepted-few c ok;
   inside = content-inside (sites c) (accepted-content c ok);
   ascends = content-ascends (sites c) (accepted-content c ok);

@@ -7,21 +7,17 @@ use borrow.Author.Tests.{ne-eqb, eq-eqb, lt-leb, le-leb, lt-ltb, le-ltb, leb-fal
 use lib.Dec.{eqb, leb, ltb}
 use lib.ListN.{length, take, length-take}
 use lib.Seq.{length-take-le}
+use Rattle.column.specs.Column.{inserted}
 use Rattle.site.specs.declared.Site.{Site}
 use Rattle.site.specs.declared.Added.the-variants.{At, Refused}
 use Rattle.site.specs.Told.{orElse, unlessRefused}
 use Rattle.site.specs.Site.{within, lawfulSite}
 use Rattle.site.specs.SiteList.{Columns, Level, columns, sites, inUse}
 use Rattle.site.specs.Refusal.{equalLengths, contentRefusal, listRefusal}
-use Rattle.site.specs.Add.{useFault, noRoom, placeOf, present, addRefusal, inserted, addedColumns, addTold, addedTold}
-use Rattle.site.proofs.Lawful.{lawful-is, level-equal, equal-level, content-left, orElse-first, orElse-second, no-fault}
+use Rattle.site.specs.Add.{useFault, noRoom, placeOf, present, addRefusal, addedColumns, addTold, addedTold}
+use Rattle.site.proofs.Lawful.{lawful-is, level-equal, equal-level, content-left}
 use Rattle.site.proofs.Cases.{or-first, or-second}
-use Rattle.site.proofs.Answers.{told, told-refused}
-
-first-refused : {r n : ℕ} (m : ℕ) → r ≡ n → (r ≡ 0 → ⊥) → r ≡ orElse n m
-unfolding orElse
-first-refused {r = zero} m e h = absurd (h refl)
-first-refused {r = suc r} m e h = rw (← e)
+use Rattle.site.proofs.Told.{told, told-refused, first-refused, unless-kept, unless-done, orElse-first, orElse-second, no-fault, fault-none}
 
 module _ (c : Columns) (n : ℕ) (s : Site) where
   pub add-unequal-y : (length (c .x) ≡ length (c .y) → ⊥) → 1 ≡ addRefusal c n s
@@ -90,35 +86,50 @@ module _ (c : Columns) (n : ℕ) (s : Site) where
 
 -- What an accepted addition has.
 module _ (c : Columns) (n : ℕ) (s : Site) (ok : addRefusal c n s ≡ 0) where
-  rest : ℕ
-  rest = orElse (contentRefusal (sites (inUse n c))) (orElse (cond (not (lawfulSite s)) 2 0) (orElse (cond (noRoom c n) 6 0) (cond (present s (sites (inUse n c))) 11 0)))
+  -- What each test leaves to the next ones.
+  after-room : ℕ
+  after-room = cond (present s (sites (inUse n c))) 11 0
+
+  after-site : ℕ
+  after-site = orElse (cond (noRoom c n) 6 0) after-room
+
+  after-content : ℕ
+  after-content = orElse (cond (not (lawfulSite s)) 2 0) after-site
+
+  after-use : ℕ
+  after-use = orElse (contentRefusal (sites (inUse n c))) after-content
 
   use-ok : useFault c n ≡ false
-  unfolding addRefusal rest
-  use-ok = no-fault (useFault c n) 0 (orElse-first (cond (useFault c n) 1 0) rest ok)
+  unfolding addRefusal after-use after-content after-site after-room
+  use-ok = no-fault (useFault c n) 0 (orElse-first (cond (useFault c n) 1 0) after-use ok)
 
-  content-rest : orElse (contentRefusal (sites (inUse n c))) (orElse (cond (not (lawfulSite s)) 2 0) (orElse (cond (noRoom c n) 6 0) (cond (present s (sites (inUse n c))) 11 0))) ≡ 0
-  unfolding addRefusal rest
-  content-rest = orElse-second (cond (useFault c n) 1 0) rest ok
+  content-rest : after-use ≡ 0
+  unfolding addRefusal after-use after-content after-site after-room
+  content-rest = orElse-second (cond (useFault c n) 1 0) after-use ok
 
   pub added-content : contentRefusal (sites (inUse n c)) ≡ 0
-  added-content = orElse-first (contentRefusal (sites (inUse n c))) (orElse (cond (not (lawfulSite s)) 2 0) (orElse (cond (noRoom c n) 6 0) (cond (present s (sites (inUse n c))) 11 0))) content-rest
+  unfolding after-use
+  added-content = orElse-first (contentRefusal (sites (inUse n c))) after-content content-rest
 
-  site-rest : orElse (cond (not (lawfulSite s)) 2 0) (orElse (cond (noRoom c n) 6 0) (cond (present s (sites (inUse n c))) 11 0)) ≡ 0
-  site-rest = orElse-second (contentRefusal (sites (inUse n c))) (orElse (cond (not (lawfulSite s)) 2 0) (orElse (cond (noRoom c n) 6 0) (cond (present s (sites (inUse n c))) 11 0))) content-rest
+  site-rest : after-content ≡ 0
+  unfolding after-use
+  site-rest = orElse-second (contentRefusal (sites (inUse n c))) after-content content-rest
 
   pub added-lawful : lawfulSite s ≡ true
-  added-lawful = not-false (lawfulSite s) (no-fault (not (lawfulSite s)) 1 (orElse-first (cond (not (lawfulSite s)) 2 0) (orElse (cond (noRoom c n) 6 0) (cond (present s (sites (inUse n c))) 11 0)) site-rest))
+  unfolding after-content
+  added-lawful = fault-none (lawfulSite s) 1 (orElse-first (cond (not (lawfulSite s)) 2 0) after-site site-rest)
 
-  room-rest : orElse (cond (noRoom c n) 6 0) (cond (present s (sites (inUse n c))) 11 0) ≡ 0
-  room-rest = orElse-second (cond (not (lawfulSite s)) 2 0) (orElse (cond (noRoom c n) 6 0) (cond (present s (sites (inUse n c))) 11 0)) site-rest
+  room-rest : after-site ≡ 0
+  unfolding after-content
+  room-rest = orElse-second (cond (not (lawfulSite s)) 2 0) after-site site-rest
 
   room-left : (leb (length (c .x)) n || leb 65_535 n) ≡ false
-  unfolding noRoom
-  room-left = no-fault (noRoom c n) 5 (orElse-first (cond (noRoom c n) 6 0) (cond (present s (sites (inUse n c))) 11 0) room-rest)
+  unfolding noRoom after-site
+  room-left = no-fault (noRoom c n) 5 (orElse-first (cond (noRoom c n) 6 0) after-room room-rest)
 
   pub added-new : present s (sites (inUse n c)) ≡ false
-  added-new = no-fault (present s (sites (inUse n c))) 10 (orElse-second (cond (noRoom c n) 6 0) (cond (present s (sites (inUse n c))) 11 0) room-rest)
+  unfolding after-site after-room
+  added-new = no-fault (present s (sites (inUse n c))) 10 (orElse-second (cond (noRoom c n) 6 0) after-room room-rest)
 
   pub added-room : n < length (c .x)
   added-room = leb-false (length (c .x)) n (or-first (leb (length (c .x)) n) (leb 65_535 n) room-left)
@@ -141,16 +152,10 @@ module _ (c : Columns) (n : ℕ) (s : Site) (ok : addRefusal c n s ≡ 0) where
   added-columns {p} {d} e f = rw ok (f ∙ ap (λ (q : ℕ). columns (inserted q n (s .x) (c .x)) (inserted q n (s .y) (c .y)) (inserted q n (s .number) (c .number))) e)
 
 -- A refused addition changes nothing.
-kept : (r : ℕ) {A : Type 0} (before after : A) → (r ≡ 0 → ⊥) → before ≡ unlessRefused r before after
-unfolding unlessRefused
-kept zero before after h = absurd (h refl)
-kept (suc r) before after h = refl
-
 pub refused-told : (c : Columns) (n : ℕ) (s : Site) {r : ℕ} → r ≡ addRefusal c n s → (r ≡ 0 → ⊥) → addedTold (Refused r) ≡ addTold c n s
 unfolding addedTold addTold
 refused-told c n s e h = told-refused (record { place = placeOf s (sites (inUse n c)); count = n + 1 }) e h
 
 pub refused-columns : (c : Columns) (n : ℕ) (s : Site) {r : ℕ} → r ≡ addRefusal c n s → (r ≡ 0 → ⊥) → c ≡ addedColumns c n s
 unfolding addedColumns
-refused-columns c n s {r} e h =
-    kept (addRefusal c n s) c (columns (inserted (placeOf s (sites (inUse n c))) n (s .x) (c .x)) (inserted (placeOf s (sites (inUse n c))) n (s .y) (c .y)) (inserted (placeOf s (sites (inUse n c))) n (s .number) (c .number))) (λ q. h (e ∙ q))
+refused-columns c n s e h = unless-kept c _ e h

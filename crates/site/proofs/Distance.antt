@@ -11,6 +11,7 @@ use lib.IntN.{ℤ, pos, negsuc}
 use lib.Signed.{leZ}
 use Rattle.order.specs.Lists.{sum}
 use Rattle.site.specs.declared.Site.{Site}
+use Rattle.site.specs.SiteList.{site}
 use Rattle.site.specs.Site.{within, plane, gap, square, squaredOver, squaredDistance}
 use Rattle.order.proofs.Order.{byTest}
 use Rattle.site.proofs.Cases.{and-first, and-second}
@@ -77,6 +78,11 @@ squared-distance-is s t = ap (λ (n : ℕ). square (gap (s .x) (t .x)) + n) (add
 pub squared-distance-within : (s t : Site) → within (s .x) ≡ true → within (s .y) ≡ true → within (t .x) ≡ true → within (t .y) ≡ true → squaredDistance s t ≤ 8_000_000_000_000_000_000
 squared-distance-within s t p q r u =
     omega (arith, squared-distance-is s t, squared-gap-within (s .x) (t .x) p r, squared-gap-within (s .y) (t .y) q u)
+
+-- A squared distance looks at the positions and not at the numbers.
+pub numberless : (x y u v : ℤ) (n m : ℕ) → squaredDistance (site x y n) (site u v m) ≡ squaredDistance (site x y 0) (site u v 0)
+unfolding squaredDistance squaredOver
+numberless x y u v n m = refl
 
 -- Over any coordinates: the squared distance is symmetric,
 pub squared-over-sym : (l : List (Site → ℤ)) (s t : Site) → squaredOver l s t ≡ squaredOver l t s

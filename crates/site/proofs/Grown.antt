@@ -11,6 +11,8 @@ use lib.IntN.{ℤ}
 use lib.ListN.{length, take, drop, length-append, length-take, length-drop}
 use lib.Seq.{take-at, drop-at, take-add, length-take-le}
 use Rattle.order.specs.Order.{StrictOrder}
+use Rattle.column.specs.Column.{inserted}
+use Rattle.column.proofs.Inserted.{length-inserted}
 use Rattle.order.specs.Lists.{all, keep, All, Distinct}
 use Rattle.order.specs.Best.{insert}
 use Rattle.order.specs.Sorted.{Ascends}
@@ -23,7 +25,7 @@ use Rattle.site.specs.Told.{unlessRefused}
 use Rattle.site.specs.Site.{lawfulSite, siteBefore}
 use Rattle.site.specs.SiteList.{Columns, Level, columns, site, zipSites, sites, inUse}
 use Rattle.site.specs.Refusal.{listRefusal, LawfulList}
-use Rattle.site.specs.Add.{placeOf, present, addRefusal, inserted, addedColumns}
+use Rattle.site.specs.Add.{placeOf, present, addRefusal, addedColumns}
 use Rattle.site.proofs.SiteOrder.{site-order}
 use Rattle.site.proofs.Columns.{sites-length}
 use Rattle.site.proofs.Kept.{place-le}
@@ -81,10 +83,6 @@ module _ {A : Type 0} (p n : ℕ) (v : A) (l : List A) (low : p ≤ n) (room : n
   unfolding inserted
   inserted-in-use =
       take-at (take p l ++ (v ∷ take (n - p) (drop p l))) (drop (n + 1) l) (n + 1) (simp (length-append, length-take, length-drop) (omega arith)) ∙ sym part-put
-
-  pub inserted-length : length (inserted p n v l) ≡ length l
-  unfolding inserted
-  inserted-length = simp (length-append, length-take, length-drop) (omega arith)
 
 zip-put : (p : ℕ) (x y : ℤ) (m : ℕ) (xs ys : List ℤ) (ns : List ℕ) → length ys ≡ length xs → length ns ≡ length xs → p ≤ length xs → zipSites (put p x xs) (put p y ys) (put p m ns) ≡ put p (site x y m) (zipSites xs ys ns)
 unfolding zipSites
@@ -158,8 +156,8 @@ module _ (c : Columns) (n : ℕ) (s : Site) (ok : addRefusal c n s ≡ 0) where
   grown-level : Level (inUse (n + 1) grown)
   unfolding inUse grown
   grown-level = record {
-    y = simp (length-take, inserted-length spot n (s .x) (c .x) spot-low (added-room c n s ok), inserted-length spot n (s .y) (c .y) spot-low room-y) (omega (arith, added-level c n s ok .y));
-    number = simp (length-take, inserted-length spot n (s .x) (c .x) spot-low (added-room c n s ok), inserted-length spot n (s .number) (c .number) spot-low room-number) (omega (arith, added-level c n s ok .number));
+    y = simp (length-take, length-inserted n (c .x) (added-room c n s ok) spot (s .x) spot-low, length-inserted n (c .y) room-y spot (s .y) spot-low) (omega (arith, added-level c n s ok .y));
+    number = simp (length-take, length-inserted n (c .x) (added-room c n s ok) spot (s .x) spot-low, length-inserted n (c .number) room-number spot (s .number) spot-low) (omega (arith, added-level c n s ok .number));
   }
 
   grown-few : length (inUse (n + 1) grown .x) ≤ 65_535

@@ -4,7 +4,7 @@ use mathlib.Core.Bool.{Bool, true, false, not, cond, _&&_, and-true, and-false}
 use mathlib.Core.List.{List, [], _∷_}
 use Prim.Native.Nat.{ℕ, zero, suc, _+_, _≤_, _<_}
 use native.Mathlib.Omega.{arith}
-use borrow.Author.Tests.{ne-eqb, eq-eqb, lt-leb, le-leb, leb-true, eqb-true, not-false}
+use borrow.Author.Tests.{ne-eqb, eq-eqb, lt-leb, le-leb, eqb-true}
 use lib.Dec.{eqb, leb}
 use lib.IntN.{ℤ}
 use lib.ListN.{length}
@@ -86,34 +86,10 @@ module _ (c : Columns) where
       unfolding contentRefusal orElse
       accepted g h k = simp (content-left, lawful-columns, g, h, k)
 
--- "Accepted" says that no test refused.
-pub orElse-first : (a b : ℕ) → orElse a b ≡ 0 → a ≡ 0
-unfolding orElse
-orElse-first zero b h = refl
-orElse-first (suc a) b h = absurd (omega arith)
-
-pub orElse-second : (a b : ℕ) → orElse a b ≡ 0 → b ≡ 0
-unfolding orElse
-orElse-second zero b h = h
-orElse-second (suc a) b h = absurd (omega arith)
-
-pub no-fault : (b : Bool) (n : ℕ) → cond b (suc n) 0 ≡ 0 → b ≡ false
-no-fault true n h = absurd (omega arith)
-no-fault false n h = refl
-
+-- Columns that pass the test of their lengths are of one length.
 pub equal-level : (c : Columns) → equalLengths c ≡ true → Level c
 unfolding equalLengths
-equal-level c h = record {
-  y = sym (eqb-true (length (c .x)) (length (c .y)) (and-first (eqb (length (c .x)) (length (c .y))) (eqb (length (c .x)) (length (c .number))) h));
-  number = sym (eqb-true (length (c .x)) (length (c .number)) (and-second (eqb (length (c .x)) (length (c .y))) (eqb (length (c .x)) (length (c .number))) h));
-}
-
-module _ (c : Columns) (ok : listRefusal c ≡ 0) where
-  pub accepted-size : (equalLengths c && leb (length (c .x)) 65_535) ≡ true
-  unfolding listRefusal sizeFault
-  accepted-size =
-      not-false (equalLengths c && leb (length (c .x)) 65_535)
-      (no-fault (not (equalLengths c && leb (length (c .x)) 65_535)) 0 (orElse-first (cond (sizeFault c) 1 0) (contentRefusal (sites c)) ok))
-
-  pub accepted-few : length (c .x) ≤ 65_535
-  accepted-few = leb-true (length (c .x)) 65_535 (and-second (equalLengths c) (leb (length (c .x)) 65_535) accepted-size)
+equal-level c h =
+    let p = eqb (length (c .x)) (length (c .y)) in
+    let q = eqb (length (c .x)) (length (c .number)) in
+    level-by c (eqb-true (length (c .x)) (length (c .y)) (and-first p q h)) (eqb-true (length (c .x)) (length (c .number)) (and-second p q h))

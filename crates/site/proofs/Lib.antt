@@ -1,5 +1,6 @@
 -- The laws of sites and site lists.
 pub mod Cases
+pub mod Told
 pub mod Integers
 pub mod Distance
 pub mod Machine
@@ -9,9 +10,7 @@ pub mod Misses
 pub mod Place
 pub mod Breaks
 pub mod Columns
-pub mod Answers
 pub mod Lawful
-pub mod Shift
 pub mod Kept
 pub mod Adding
 pub mod SiteOrder

@@ -1,10 +1,11 @@
 -- Adding a site to the sites in use.
 use mathlib.Core.Bool.{Bool, not, _||_}
-use mathlib.Core.List.{List, _∷_, _++_}
-use Prim.Native.Nat.{ℕ, _+_, _-_}
+use mathlib.Core.List.{List}
+use Prim.Native.Nat.{ℕ, _+_}
 use lib.Dec.{leb, ltb}
-use lib.ListN.{length, take, drop}
+use lib.ListN.{length}
 use Rattle.order.specs.Lists.{all, keep}
+use Rattle.column.specs.Column.{inserted}
 use Rattle.site.specs.declared.Site.{Site}
 use Rattle.site.specs.declared.Added.{Added}
 use Rattle.site.specs.declared.Added.the-variants.{At, Refused}
@@ -36,10 +37,6 @@ addRefusal c count s =
     (orElse (contentRefusal (sites (inUse count c)))
     (orElse (refuseIf (not (lawfulSite s)) 2)
     (orElse (refuseIf (noRoom c count) 6) (refuseIf (present s (sites (inUse count c))) 11))))
-
--- A column with `v` at place `p` and the rest of the first `n` moved up by one; what stands further on is as before.
-unfoldable pub inserted : {A : Type 0} → ℕ → ℕ → A → List A → List A
-inserted p n v column = take p column ++ v ∷ take (n - p) (drop p column) ++ drop (n + 1) column
 
 -- "Adding puts the site at its place and moves later ones up by one."
 unfoldable pub addedColumns : Columns → ℕ → Site → Columns

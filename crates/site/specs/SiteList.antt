@@ -1,10 +1,13 @@
 -- A list of sites in three lent columns.
 use mathlib.Core.Path.{_≡_}
-use mathlib.Core.List.{List, [], _∷_}
-use Prim.Native.Nat.{ℕ}
+use mathlib.Core.Bool.{true}
+use mathlib.Core.List.{List, [], _∷_, map}
+use Prim.Native.Nat.{ℕ, _≤_}
 use lib.IntN.{ℤ, pos}
 use lib.ListN.{length, take, getD}
+use Rattle.order.specs.Lists.{all}
 use Rattle.site.specs.declared.Site.{Site}
+use Rattle.site.specs.Site.{within}
 
 -- The three columns of a list, as they are lent. (01: list.)
 pub record Columns : Type 0 where
@@ -33,10 +36,21 @@ zipSites (x ∷ xs) (y ∷ ys) (n ∷ ns) = site x y n ∷ zipSites xs ys ns
 unfoldable pub sites : Columns → List Site
 sites c = zipSites (c .x) (c .y) (c .number)
 
--- The site at a place.
-abbrev pub siteAt : Columns → ℕ → Site
-siteAt c i = site (getD (c .x) i (pos 0)) (getD (c .y) i (pos 0)) (getD (c .number) i 0)
+-- The site at a place; at the origin, with number 0, where there is none. (01: place.)
+unfoldable pub siteAt : List Site → ℕ → Site
+siteAt l place = getD l place (site (pos 0) (pos 0) 0)
+
+-- The columns that some sites fill.
+unfoldable pub columnsOf : List Site → Columns
+columnsOf l = columns (map (λ s. s .x) l) (map (λ s. s .y) l) (map (λ s. s .number) l)
 
 -- The first `n` elements of each column: "the sites are those in use".
 unfoldable pub inUse : ℕ → Columns → Columns
 inUse n c = columns (take n (c .x)) (take n (c .y)) (take n (c .number))
+
+-- The coordinate columns of a lawful list, whatever the numbers of its sites.
+pub record Coordinates (xs ys : List ℤ) : Type 0 where
+  pub equal : length xs ≡ length ys
+  pub few : length xs ≤ 65_535
+  pub xs-within : all within xs ≡ true
+  pub ys-within : all within ys ≡ true

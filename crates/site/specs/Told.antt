@@ -17,6 +17,11 @@ unfoldable pub unlessRefused : {A : Type 0} → ℕ → A → A → A
 unlessRefused zero before after = after
 unlessRefused (suc n) before after = before
 
+-- The refusal's number of an answer, 0 for none.
+unfoldable pub numberOf : {A : Type 0} → Told A → ℕ
+numberOf (refused number) = number
+numberOf (answered values) = 0
+
 -- The number where the fault is there, else none.
 abbrev pub refuseIf : Bool → ℕ → ℕ
 refuseIf fault number = cond fault number 0

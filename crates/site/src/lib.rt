@@ -7,10 +7,11 @@ ghost use lib.IntN.{_-ℤ_};
 ghost use lib.Signed.{leZ};
 ghost use Rattle.order.specs.Order.{ascending};
 ghost use Rattle.order.specs.Lists.{all};
+ghost use Rattle.column.specs.Column.{inserted};
 ghost use Rattle.site.specs.Site.{within, gap, square, squaredDistance, siteBefore};
 ghost use Rattle.site.specs.SiteList.{site, columns, Level, sites, siteAt};
-ghost use Rattle.site.specs.Add.{placeOf, present, addRefusal, inserted, addedColumns, addTold, addedTold};
-ghost use Rattle.site.specs.Refusal.{listRefusal, checkTold, checkedTold};
+ghost use Rattle.site.specs.Add.{placeOf, present, addRefusal, addedColumns, addTold, addedTold};
+ghost use Rattle.site.specs.Refusal.{listRefusal, listsRefusal, checkTold, checkedTold};
 
 // A position and a number. (01: site.)
 pub struct Site {
@@ -126,7 +127,9 @@ fn all_within(column: &[i32]) -> bool
 // 1 where the site at `i + 1` does not come after the one at `i`, else 0.
 fn break_at(x: &[i32], y: &[i32], number: &[u32], i: usize) -> u32
     requires { ⌜ (Level (columns (now x) (now y) (now number))) × (i + 1 < length (now x)) ⌝ }
-    ensures { λ r. ⌜ r ≡ cond (siteBefore (siteAt (columns (now (x .entry)) (now (y .entry)) (now (number .entry))) i) (siteAt (columns (now (x .entry)) (now (y .entry)) (now (number .entry))) (i + 1))) 0 1 ⌝ }
+    ensures { λ r.
+        let l = sites (columns (now (x .entry)) (now (y .entry)) (now (number .entry))) in
+        ⌜ r ≡ cond (siteBefore (siteAt l i) (siteAt l (i + 1))) 0 1 ⌝ }
 {
     if before(x[i], y[i], number[i], x[i + 1], y[i + 1], number[i + 1]) {
         0
@@ -174,6 +177,20 @@ pub fn list_refusal(x: &[i32], y: &[i32], number: &[u32]) -> u32
     0
 }
 
+// The refusal of two lists, 1, 2 or 3 of the first, else of the second; 0 for lawful ones.
+pub fn lists_refusal(ax: &[i32], ay: &[i32], an: &[u32], bx: &[i32], by: &[i32], bn: &[u32]) -> u32
+    ensures { λ r.
+        let a = columns (now (ax .entry)) (now (ay .entry)) (now (an .entry)) in
+        let b = columns (now (bx .entry)) (now (by .entry)) (now (bn .entry)) in
+        ⌜ r ≡ listsRefusal a b ⌝ }
+{
+    let first = list_refusal(ax, ay, an);
+    if first != 0 {
+        return first;
+    }
+    list_refusal(bx, by, bn)
+}
+
 // Whether the columns are a lawful list. (01: checking a site list.)
 pub fn check(x: &[i32], y: &[i32], number: &[u32]) -> Checked
     ensures { λ r. ⌜ checkedTold r ≡ checkTold (columns (now (x .entry)) (now (y .entry)) (now (number .entry))) ⌝ }
@@ -189,7 +206,9 @@ pub fn check(x: &[i32], y: &[i32], number: &[u32]) -> Checked
 // 1 where the site at `i` comes before another, else 0.
 fn earlier_at(x: &[i32], y: &[i32], number: &[u32], i: usize, sx: i32, sy: i32, sn: u32) -> u32
     requires { ⌜ (Level (columns (now x) (now y) (now number))) × (i < length (now x)) ⌝ }
-    ensures { λ r. ⌜ r ≡ cond (siteBefore (siteAt (columns (now (x .entry)) (now (y .entry)) (now (number .entry))) i) (site sx sy sn)) 1 0 ⌝ }
+    ensures { λ r.
+        let l = sites (columns (now (x .entry)) (now (y .entry)) (now (number .entry))) in
+        ⌜ r ≡ cond (siteBefore (siteAt l i) (site sx sy sn)) 1 0 ⌝ }
 {
     if before(x[i], y[i], number[i], sx, sy, sn) {
         1
@@ -211,7 +230,9 @@ fn same(ax: i32, ay: i32, an: u32, bx: i32, by: i32, bn: u32) -> u32
 // The same of the site at `i` and another.
 fn same_at(x: &[i32], y: &[i32], number: &[u32], i: usize, sx: i32, sy: i32, sn: u32) -> u32
     requires { ⌜ (Level (columns (now x) (now y) (now number))) × (i < length (now x)) ⌝ }
-    ensures { λ r. ⌜ r ≡ cond (siteBefore (siteAt (columns (now (x .entry)) (now (y .entry)) (now (number .entry))) i) (site sx sy sn) || siteBefore (site sx sy sn) (siteAt (columns (now (x .entry)) (now (y .entry)) (now (number .entry))) i)) 0 1 ⌝ }
+    ensures { λ r.
+        let t = siteAt (sites (columns (now (x .entry)) (now (y .entry)) (now (number .entry)))) i in
+        ⌜ r ≡ cond (siteBefore t (site sx sy sn) || siteBefore (site sx sy sn) t) 0 1 ⌝ }
 {
     same(x[i], y[i], number[i], sx, sy, sn)
 }
@@ -242,32 +263,6 @@ fn is_present(x: &[i32], y: &[i32], number: &[u32], sx: i32, sy: i32, sn: u32) -
         i += 1;
     }
     same != 0
-}
-
-// A coordinate at a place of a column, the rest of the first `n` moved up by one.
-fn insert_coordinate(column: &mut [i32], place: usize, n: usize, v: i32)
-    requires { ⌜ (place ≤ n) × (n < length (now column)) ⌝ }
-    ensures { λ _. ⌜ now (column .exit) ≡ inserted place n v (now (column .entry)) ⌝ }
-{
-    let mut k = n;
-    while place < k {
-        column[k] = column[k - 1];
-        k -= 1;
-    }
-    column[place] = v;
-}
-
-// The same for a column of numbers.
-fn insert_number(column: &mut [u32], place: usize, n: usize, v: u32)
-    requires { ⌜ (place ≤ n) × (n < length (now column)) ⌝ }
-    ensures { λ _. ⌜ now (column .exit) ≡ inserted place n v (now (column .entry)) ⌝ }
-{
-    let mut k = n;
-    while place < k {
-        column[k] = column[k - 1];
-        k -= 1;
-    }
-    column[place] = v;
 }
 
 // The refusal of an addition, 1, 2, 3, 6 or 11; 0 for none.
@@ -314,9 +309,9 @@ fn insert_site(x: &mut [i32], y: &mut [i32], number: &mut [u32], place: usize, n
     requires { ⌜ (place ≤ n) × (n < length (now x)) × (n < length (now y)) × (n < length (now number)) ⌝ }
     ensures { λ _. ⌜ columns (now (x .exit)) (now (y .exit)) (now (number .exit)) ≡ columns (inserted place n (s .x) (now (x .entry))) (inserted place n (s .y) (now (y .entry))) (inserted place n (s .number) (now (number .entry))) ⌝ }
 {
-    insert_coordinate(x, place, n, s.x);
-    insert_coordinate(y, place, n, s.y);
-    insert_number(number, place, n, s.number);
+    column::insert_i32(x, place, n, s.x);
+    column::insert_i32(y, place, n, s.y);
+    column::insert_u32(number, place, n, s.number);
 }
 
 // A site at its place, later ones moved up by one. (01: adding a site.)

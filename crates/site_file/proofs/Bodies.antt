@@ -15,7 +15,8 @@ use Rattle.site.specs.SiteList.{Columns, Level, columns, site, zipSites, sites}
 use Rattle.site.proofs.Cases.{and-first, and-second}
 use Rattle.site.proofs.Lawful.{lawful-is}
 use Rattle.site_file.specs.Bytes.{bytes4, word, unsigned}
-use Rattle.site_file.specs.File.{siteBytes, bodyBytes, siteIn, sitesFrom, columnsOf}
+use Rattle.site_file.specs.File.{siteBytes, bodyBytes, siteIn, sitesFrom}
+use Rattle.site.specs.SiteList.{columnsOf}
 use Rattle.site_file.specs.RoundTrip.{Bytes, Numbers}
 use Rattle.site_file.proofs.Words.{word-read, signed-back, unsigned-back, coordinate-fits, bytes-back, word-fits}
 
@@ -128,24 +129,6 @@ zip-fit (x ∷ xs) (y ∷ ys) (n ∷ ns) h t = (
 pub sites-fit : (c : Columns) → Numbers c → all lawfulSite (sites c) ≡ true → All Fit (sites c)
 unfolding sites
 sites-fit c h t = zip-fit (c .x) (c .y) (c .number) h t
-
--- The columns that a list fills.
-pub columns-sites : (l : List Site) → sites (columnsOf l) ≡ l
-unfolding columnsOf sites zipSites
-columns-sites [] = refl
-columns-sites (s ∷ l) = ap (λ (r : List Site). s ∷ r) (columns-sites l)
-
-pub columns-length : (l : List Site) → length ((columnsOf l) .x) ≡ length l
-unfolding columnsOf
-columns-length l = length-map l (λ s. s .x)
-
-pub columns-level : (l : List Site) → Level (columnsOf l)
-unfolding columnsOf
-columns-level l =
-    record {
-      y = length-map l (λ s. s .y) ∙ sym (length-map l (λ s. s .x));
-      number = length-map l (λ s. s .number) ∙ sym (length-map l (λ s. s .x));
-    }
 
 pub columns-numbers : (l : List ℕ) (at n : ℕ) → Bytes l → Numbers (columnsOf (sitesFrom l at n))
 unfolding columnsOf sitesFrom siteIn All

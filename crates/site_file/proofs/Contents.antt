@@ -14,8 +14,8 @@ use Rattle.site.specs.Site.{lawfulSite, siteBefore}
 use Rattle.site.specs.Told.{refused, answered, tell, refuseIf, orElse}
 use Rattle.site.specs.Refusal.{contentRefusal}
 use Rattle.order.proofs.Order.{byTest}
-use Rattle.site.proofs.Answers.{told, told-refused}
-use Rattle.site.proofs.Lawful.{orElse-first, orElse-second}
+use Rattle.site.proofs.Told.{told, told-refused}
+use Rattle.site.proofs.Told.{orElse-first, orElse-second}
 use Rattle.site_file.specs.Bytes.{word}
 use Rattle.site_file.specs.declared.Which.{Which}
 use Rattle.site_file.specs.declared.Which.the-variants.{First, Second}

@@ -5,7 +5,7 @@ use Prim.Native.Nat.{ℕ, _+_, _*_, _≤_, _<_}
 use borrow.Author.Tests.{le-leb, lt-leb, eq-eqb, ne-eqb}
 use Rattle.site.specs.declared.Site.{Site}
 use Rattle.site.specs.Told.{refused, answered, tell, orElse}
-use Rattle.site.proofs.Answers.{told-refused}
+use Rattle.site.proofs.Told.{told-refused}
 use Rattle.site_file.specs.declared.Which.{Which}
 use Rattle.site_file.specs.declared.Which.the-variants.{First, Second}
 use denote.Ref.{RefT, now}

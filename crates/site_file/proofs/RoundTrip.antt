@@ -5,26 +5,32 @@ use mathlib.Core.List.{List, [], _++_, append-assoc, append-nil}
 use Prim.Native.Nat.{ℕ, _+_, _*_, _≤_, _<_}
 use native.Mathlib.Omega.{arith}
 use borrow.Author.Tests.{not-false}
+use lib.IntN.{pos}
 use lib.ListN.{length, take, drop, getD, length-append, length-drop, take-append-drop}
 use lib.Seq.{take-add, take-all, take-at, drop-drop}
-use Rattle.order.specs.Lists.{all, All, overwritten}
+use Rattle.order.specs.Lists.{all, All}
+use Rattle.column.specs.Column.{overwritten}
 use Rattle.site.specs.declared.Site.{Site}
 use Rattle.site.specs.Site.{lawfulSite}
 use Rattle.site.specs.Told.{answered, unlessRefused, orElse}
-use Rattle.site.specs.SiteList.{Columns, Level, sites, siteAt}
+use Rattle.site.specs.SiteList.{Columns, site, sites, siteAt}
 use Rattle.site.specs.Refusal.{contentRefusal, listRefusal}
-use Rattle.site.proofs.Columns.{nowhere, sites-length, sites-at}
-use Rattle.site.proofs.Lawful.{orElse-first, no-fault, content-left}
+use Rattle.site.proofs.Columns.{sites-length}
+use Rattle.site.proofs.Lawful.{content-left}
+use Rattle.site.proofs.Told.{orElse-first, no-fault}
 use Rattle.site_file.specs.declared.Which.{Which}
 use Rattle.site_file.specs.declared.Which.the-variants.{First, Second}
 use Rattle.site_file.specs.Bytes.{bytes4, word}
-use Rattle.site_file.specs.File.{secondStart, fileLength, bodyBytes, contentsBytes, fileBytes, startIn, countIn, siteIn, sitesFrom, sitesIn, columnsOf}
+use Rattle.site_file.specs.File.{secondStart, fileLength, bodyBytes, contentsBytes, fileBytes, startIn, countIn, siteIn, sitesFrom, sitesIn}
+use Rattle.site.specs.SiteList.{columnsOf}
 use Rattle.site_file.specs.Calls.{writeRefusal, writeBuffer, contentsRefusal, readRefusal, siteTold}
 use Rattle.site_file.specs.RoundTrip.{Bytes, Numbers, output, EveryOutputAccepted, EveryAcceptedIsOutput}
 use Rattle.site_file.proofs.Contents.{Laid, contents-right, read-laid, read-first-lawful, read-second-lawful, read-answered, site-found}
-use Rattle.site_file.proofs.Writing.{Ready, ready, accepted-level, body-length, contents-length, write-ready, write-answered}
+use Rattle.site.proofs.Accepted.{accepted-level}
+use Rattle.site_file.proofs.Writing.{Ready, ready, body-length, contents-length, write-ready, write-answered}
 use Rattle.site_file.proofs.Words.{word-read, bytes-back}
-use Rattle.site_file.proofs.Bodies.{Fit, bytes-length, sites-read, body-back, from-length, from-at, sites-fit, columns-sites, columns-length, columns-level, columns-numbers}
+use Rattle.site_file.proofs.Bodies.{Fit, bytes-length, sites-read, body-back, from-length, from-at, sites-fit, columns-numbers}
+use Rattle.site.proofs.Columns.{columns-sites, columns-length, columns-level}
 
 -- The four words of a file's contents.
 module _ (n m : ℕ) (hn : n ≤ 65_535) (hm : m ≤ 65_535) (r : List ℕ) where
@@ -142,13 +148,12 @@ output-bytes a b buffer k h =
     rw h (take-at (fileBytes (sites a) (sites b)) (drop (length (fileBytes (sites a) (sites b))) buffer) _ size)
 
 -- A site of the file, by place.
-yields-site : (file : List ℕ) (w : Which) (c : Columns) (level : Level c) (place : ℕ) → 0 ≡ contentsRefusal file → sitesIn file w ≡ sites c → countIn file w ≡ length (c .x) → place < length (c .x) → siteTold file w place ≡ answered (siteAt c place)
-unfolding sitesIn
-yields-site file w c level place ok same count h =
-    let at : siteAt c place ≡ siteIn file (startIn file w + 12 * place) =
-    sym (sites-at c level place nowhere h)
-    ∙ ap (λ (l : List Site). getD l place nowhere) (sym same)
-    ∙ from-at file (startIn file w) (countIn file w) place nowhere (omega arith) in
+yields-site : (file : List ℕ) (w : Which) (c : Columns) (place : ℕ) → 0 ≡ contentsRefusal file → sitesIn file w ≡ sites c → countIn file w ≡ length (c .x) → place < length (c .x) → siteTold file w place ≡ answered (siteAt (sites c) place)
+unfolding sitesIn siteAt
+yields-site file w c place ok same count h =
+    let at : siteAt (sites c) place ≡ siteIn file (startIn file w + 12 * place) =
+    ap (λ (l : List Site). siteAt l place) (sym same)
+    ∙ from-at file (startIn file w) (countIn file w) place (site (pos 0) (pos 0) 0) (omega arith) in
     sym (site-found file w place ok refl refl (omega arith) refl at)
 
 pub every-output-accepted : EveryOutputAccepted
@@ -174,8 +179,8 @@ every-output-accepted a b buffer ha hb h =
       accepted = sym (read-answered file accepted refl (sym n) (sym m));
       first = first;
       second = second;
-      first-site = λ place lt. yields-site file First a (k .first-level) place ok first n lt;
-      second-site = λ place lt. yields-site file Second b (k .second-level) place ok second m lt;
+      first-site = λ place lt. yields-site file First a place ok first n lt;
+      second-site = λ place lt. yields-site file Second b place ok second m lt;
     })
 
 -- The contents of an accepted file, written again.

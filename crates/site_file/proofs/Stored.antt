@@ -6,7 +6,7 @@ use native.Mathlib.Nat.{add-zero, zero-add}
 use native.Mathlib.Omega.{arith}
 use lib.ListN.{length, take, drop, length-append, length-drop, take-append-drop}
 use lib.Seq.{length-take-le, take-at, drop-at, drop-drop, sets, sets-eq}
-use Rattle.order.specs.Lists.{overwritten}
+use Rattle.column.specs.Column.{overwritten}
 use Rattle.site_file.specs.Stored.{stored}
 
 module _ {A : Type 0} where

@@ -7,15 +7,15 @@ use native.Mathlib.Omega.{arith}
 use borrow.Author.Tests.{lt-ltb, le-ltb, ltb-false}
 use lib.Dec.{leb}
 use lib.ListN.{length, length-append}
-use Rattle.order.specs.Lists.{overwritten}
+use Rattle.column.specs.Column.{overwritten}
 use Rattle.site.specs.declared.Site.{Site}
 use Rattle.site.specs.Told.{refused, answered, unlessRefused, orElse}
 use Rattle.site.specs.SiteList.{Columns, Level, sites}
 use Rattle.site.specs.Refusal.{equalLengths, listRefusal, listsRefusal}
-use Rattle.site.proofs.Answers.{told, told-refused}
-use Rattle.site.proofs.Cases.{and-first}
+use Rattle.site.proofs.Told.{told, told-refused, unless-kept}
 use Rattle.site.proofs.Columns.{sites-length}
-use Rattle.site.proofs.Lawful.{orElse-first, orElse-second, no-fault, equal-level, accepted-size, accepted-few}
+use Rattle.site.proofs.Accepted.{accepted-level, accepted-few}
+use Rattle.site.proofs.Told.{orElse-first, orElse-second, no-fault}
 use Rattle.site_file.specs.Bytes.{bytes4}
 use Rattle.site_file.specs.Stored.{stored}
 use Rattle.site_file.specs.File.{secondStart, fileLength, siteBytes, bodyBytes, contentsBytes, fileBytes}
@@ -73,10 +73,6 @@ module _ (a b : Columns) (room : ℕ) {r : ℕ} (p : r ≡ listRefusal a) where
           le-ltb room (16 + 12 * length (a .x) + 12 * length (b .x)) h,
         )
 
--- The columns of a lawful list are of one length.
-pub accepted-level : (c : Columns) → listRefusal c ≡ 0 → Level c
-accepted-level c ok = equal-level c (and-first (equalLengths c) (leb (length (c .x)) 65_535) (accepted-size c ok))
-
 -- What is known where nothing refuses.
 pub record Ready (a b : Columns) (room : ℕ) : Type 0 where
   pub first : listRefusal a ≡ 0
@@ -102,11 +98,6 @@ ready a b room h =
       m = accepted-few b second;
       space = ltb-false room _ (no-fault _ 5 (orElse-second (orElse (listRefusal a) (listRefusal b)) _ h));
     }
-
-untouched : (n : ℕ) (before after : List ℕ) → (n ≡ 0 → ⊥) → before ≡ unlessRefused n before after
-unfolding unlessRefused
-untouched zero before after h = absurd (h refl)
-untouched (suc n) before after h = refl
 
 pub contents-length : (n m : ℕ) → length (contentsBytes n m) ≡ 16
 unfolding contentsBytes bytes4
@@ -138,7 +129,7 @@ module _ (a b : Columns) (buffer : List ℕ) {r : ℕ} (p : r ≡ writeRefusal a
 
   pub write-untouched : (r ≡ 0 → ⊥) → buffer ≡ writeBuffer a b buffer
   unfolding writeBuffer
-  write-untouched h = rw (← p) (untouched r _ _ h)
+  write-untouched h = unless-kept _ _ p h
 
   pub write-stored : r ≡ 0 → {q s t : List ℕ} → q ≡ stored 0 (contentsBytes (length (a .x)) (length (b .x))) buffer → s ≡ stored 16 (bodyBytes (sites a)) q → t ≡ stored (16 + 12 * length (a .x)) (bodyBytes (sites b)) s → t ≡ writeBuffer a b buffer
   unfolding writeBuffer unlessRefused

@@ -4,7 +4,7 @@ use mathlib.Core.List.{List}
 use Prim.Native.Nat.{ℕ, _+_, _*_}
 use lib.Dec.{leb, ltb, eqb}
 use lib.ListN.{length}
-use Rattle.order.specs.Lists.{overwritten}
+use Rattle.column.specs.Column.{overwritten}
 use Rattle.site.specs.declared.Site.{Site}
 use Rattle.site.specs.Told.{Told, refused, answered, tell, unlessRefused, refuseIf, orElse}
 use Rattle.site.specs.SiteList.{Columns, sites}

@@ -1,9 +1,9 @@
 -- The bytes of a site file, and the sites in a file's bytes.
-use mathlib.Core.List.{List, [], _∷_, _++_, map}
+use mathlib.Core.List.{List, [], _∷_, _++_}
 use Prim.Native.Nat.{ℕ, zero, suc, _+_, _*_}
 use lib.ListN.{length}
 use Rattle.site.specs.declared.Site.{Site}
-use Rattle.site.specs.SiteList.{Columns, columns, site}
+use Rattle.site.specs.SiteList.{site}
 use Rattle.site_file.specs.declared.Which.{Which}
 use Rattle.site_file.specs.declared.Which.the-variants.{First, Second}
 use Rattle.site_file.specs.Bytes.{bytes4, word, unsigned, signed}
@@ -54,7 +54,3 @@ sitesFrom file at (suc n) = siteIn file at ∷ sitesFrom file (at + 12) n
 -- The sites of one list of a file.
 unfoldable pub sitesIn : List ℕ → Which → List Site
 sitesIn file which = sitesFrom file (startIn file which) (countIn file which)
-
--- The columns that some sites fill.
-unfoldable pub columnsOf : List Site → Columns
-columnsOf l = columns (map (λ s. s .x) l) (map (λ s. s .y) l) (map (λ s. s .number) l)

@@ -26,8 +26,8 @@ pub record Yields (file : List ℕ) (a b : Columns) : Type 0 where
   pub accepted : readTold file ≡ answered (record { first = length (a .x); second = length (b .x) })
   pub first : sitesIn file First ≡ sites a
   pub second : sitesIn file Second ≡ sites b
-  pub first-site : (place : ℕ) → place < length (a .x) → siteTold file First place ≡ answered (siteAt a place)
-  pub second-site : (place : ℕ) → place < length (b .x) → siteTold file Second place ≡ answered (siteAt b place)
+  pub first-site : (place : ℕ) → place < length (a .x) → siteTold file First place ≡ answered (siteAt (sites a) place)
+  pub second-site : (place : ℕ) → place < length (b .x) → siteTold file Second place ≡ answered (siteAt (sites b) place)
 
 -- Every output is accepted, and yields the two lists that were written.
 abbrev pub EveryOutputAccepted : Type 0

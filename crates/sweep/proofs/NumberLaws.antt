@@ -10,10 +10,11 @@ use lib.IntN.{ℤ, pos}
 use lib.ListN.{length, take, drop, getD}
 use lib.Seq.{drop-cons}
 use Rattle.order.proofs.Order.{byTest}
+use Rattle.order.proofs.Lists.{map-take}
 use Rattle.site.specs.declared.Site.{Site}
 use Rattle.site.specs.Site.{gap, square, squaredDistance, squaredOver}
-use Rattle.site.specs.SiteList.{Columns, Level, columns, site, sites, siteAt}
-use Rattle.site.proofs.Columns.{sites-length, sites-at}
+use Rattle.site.specs.SiteList.{Columns, Level, columns, site, sites}
+use Rattle.site.proofs.Columns.{columnsAt, sites-length, sites-at}
 use Rattle.entry.specs.declared.Entry.{Entry}
 use Rattle.sweep.specs.declared.Way.{Way}
 use Rattle.sweep.specs.declared.Way.the-variants.{Classic, ReverseRun}
@@ -23,11 +24,6 @@ use Rattle.sweep.specs.Sweep.{classicOver, reverseOver, leads, look, sta
 use Rattle.sweep.specs.Runs.{spotOf, spot, rightward}
 use Rattle.sweep.proofs.StepLaws.{classic-nil, classic-nil-right, classic-first, classic-second, reverse-nil, reverse-first, reverse-first-last, reverse-second, reverse-second-last}
 use Rattle.sweep.proofs.PlaceLaws.{strip-is}
-
-map-take : {A B : Type 0} (f : A → B) (n : ℕ) (l : List A) → take n (map f l) ≡ map f (take n l)
-map-take f zero l = refl
-map-take f (suc n) [] = refl
-map-take {A} {B} f (suc n) (a ∷ l) = ap (λ (r : List B). f a ∷ r) (map-take f n l)
 
 -- ---- things replaced by others that lead and look the same
 
@@ -50,7 +46,7 @@ module _ {A B C D : Type 0} (f : A → C) (g : B → D) (leads : C → D → Boo
       (scan k (map (look (f a)) (map g v)) s .state)
   first-end a p q u v s =
       let t = scan k (map (λ (x : B). look (f a) (g x)) v) s in
-      ap (λ (w : List D). reverseOver leads look k (map f p) q (map f (a ∷ u)) w (t .state)) (sym (map-take g (t .passed) v))
+      ap (λ (w : List D). reverseOver leads look k (map f p) q (map f (a ∷ u)) w (t .state)) (map-take g (t .passed) v)
       ∙ ap (λ (m : List Candidate). reverseOver leads look k (map f p) q (map f (a ∷ u)) (take (scan k m s .passed) (map g v)) (scan k m s .state))
       (sym (map-map (look (f a)) g v))
 
@@ -61,7 +57,7 @@ module _ {A B C D : Type 0} (f : A → C) (g : B → D) (leads : C → D → Boo
       (scan k (map (λ (c : C). look c (g b)) (map f u)) s .state)
   second-end b p q u v s =
       let t = scan k (map (λ (x : A). look (f x) (g b)) u) s in
-      ap (λ (w : List C). reverseOver leads look k p (map g q) w (map g (b ∷ v)) (t .state)) (sym (map-take f (t .passed) u))
+      ap (λ (w : List C). reverseOver leads look k p (map g q) w (map g (b ∷ v)) (t .state)) (map-take f (t .passed) u)
       ∙ ap (λ (m : List Candidate). reverseOver leads look k p (map g q) (take (scan k m s .passed) (map f u)) (map g (b ∷ v)) (scan k m s .state))
       (sym (map-map (λ (c : C). look c (g b)) f u))
 
@@ -101,8 +97,8 @@ module _ (c : Columns) (level : Level c) where
   placed-bare zero from h = refl
   placed-bare (suc n) from h =
       let long = sites-length c level in
-      rw (drop-cons (sites c) from (siteAt c from) (omega arith))
-      (ap₂ _∷_ (ap (λ (s : Site). bare (record { place = from; site = s })) (sites-at c level from (siteAt c from) (omega arith)))
+      rw (drop-cons (sites c) from (columnsAt c from) (omega arith))
+      (ap₂ _∷_ (ap (λ (s : Site). bare (record { place = from; site = s })) (sites-at c level from (columnsAt c from) (omega arith)))
       (placed-bare n (suc from) (omega arith)))
 
   -- A strip is a run of the coordinate columns.

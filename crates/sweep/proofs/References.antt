@@ -20,7 +20,8 @@ use Rattle.sweep.specs.Strip.{Placed}
 use Rattle.sweep.specs.Scan.{State, scan}
 use Rattle.sweep.specs.Sweep.{leads, sweep}
 use Rattle.sweep.specs.Runs.{spotOf, spot, rightward, lookFrom, firstNext, stateOf}
-use Rattle.sweep.specs.Terms.{Coordinates, SweepAsked, SweptTo, SweptStrips, ScanAsked, ReferenceAsked, Held, ScannedTo}
+use Rattle.sweep.specs.Terms.{SweepAsked, SweptTo, SweptStrips, ScanAsked, ReferenceAsked, Held, ScannedTo}
+use Rattle.site.specs.SiteList.{Coordinates}
 use Rattle.sweep.proofs.CountLaws.{sweep-looks-fit, sweep-distances-bound}
 use Rattle.sweep.proofs.ScanRuns.{all-test-at, scanned-read}
 use Rattle.sweep.proofs.NumberLaws.{sweep-strips}

@@ -7,7 +7,7 @@ use native.Mathlib.Omega.{arith}
 use lib.Dec.{ltb, eqb}
 use lib.ListN.{length, drop}
 use borrow.Author.Tests.{ltb-true, ltb-false, eqb-true, eq-eqb, lt-ltb}
-use Rattle.order.specs.Lists.{All}
+use Rattle.order.specs.Lists.{All, last}
 use Rattle.order.specs.Sorted.{Sorted}
 use Rattle.order.proofs.Order.{byTest, never-both}
 use Rattle.order.proofs.Lists.{all-weaken, all-map}
@@ -42,7 +42,7 @@ weak-distance e f h =
 
 -- No entry of a list in order has a larger distance than the last.
 pub last-distance-bounds : (l : List Entry) → Sorted rankBefore l → All (λ e. e .distance ≤ lastDistance l) l
-unfolding Sorted All lastDistance
+unfolding Sorted All lastDistance last
 last-distance-bounds [] s = tt
 last-distance-bounds (e ∷ []) s = (omega arith, tt)
 last-distance-bounds (e ∷ (f ∷ l)) s =

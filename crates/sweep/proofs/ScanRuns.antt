@@ -18,7 +18,8 @@ use Rattle.entry.specs.Offered.{Ready, Holds, reachOf}
 use Rattle.sweep.specs.Strip.{Placed}
 use Rattle.sweep.specs.Scan.{Candidate, State, scan}
 use Rattle.sweep.specs.Runs.{spotOf, spot, lookFrom, stateOf}
-use Rattle.sweep.specs.Terms.{Coordinates, ScanAsked, Held, ScannedTo}
+use Rattle.sweep.specs.Terms.{ScanAsked, Held, ScannedTo}
+use Rattle.site.specs.SiteList.{Coordinates}
 use Rattle.sweep.proofs.RunLaws.{look-gap, look-entry}
 use Rattle.sweep.proofs.HeldLaws.{holds-entries, held-starts, offered-held, reach-is, reach-past}
 use Rattle.sweep.proofs.Progress.{Progress, progress-starts, progress-stops, progress-goes}

@@ -36,3 +36,7 @@ product f (a ∷ p) q = map (f a) q ++ product f p q
 -- All pairs of two strips, by first place and then second. (01: pair, a job's pairs.)
 unfoldable pub pairs : List Placed → List Placed → List Entry
 pairs p q = product pair p q
+
+-- All pairs of two whole lists: the one definition of the pairs there are.
+abbrev pub allPairs : List Site → List Site → List Entry
+allPairs a b = pairs (whole a) (whole b)

@@ -5,9 +5,8 @@ use mathlib.Core.List.{List}
 use Prim.Native.Nat.{ℕ, _+_, _≤_, _<_, _^_}
 use lib.IntN.{ℤ}
 use lib.ListN.{length}
-use Rattle.order.specs.Lists.{all}
 use Rattle.site.specs.Site.{within}
-use Rattle.site.specs.SiteList.{Level, columns, sites}
+use Rattle.site.specs.SiteList.{Level, Coordinates, columns, sites}
 use Rattle.entry.specs.Results.{Results, entriesOf, holding, roomFor}
 use Rattle.entry.specs.Offered.{Ready}
 use Rattle.sweep.specs.declared.Swept.{Swept}
@@ -16,13 +15,6 @@ use Rattle.sweep.specs.Strip.{strip}
 use Rattle.sweep.specs.Scan.{State, Scanned}
 use Rattle.sweep.specs.Sweep.{sweep}
 use Rattle.sweep.specs.Runs.{stateOf}
-
--- Two coordinate columns of a lawful list.
-pub record Coordinates (xs ys : List ℤ) : Type 0 where
-  pub equal : length xs ≡ length ys
-  pub few : length xs ≤ 65_535
-  pub xs-within : all within xs ≡ true
-  pub ys-within : all within ys ≡ true
 
 -- A sweep asks: lawful columns, strips inside them, and result columns ready for up to `k` entries.
 pub record SweepAsked (ax ay bx by : List ℤ) (aFrom aTo bFrom bTo k count : ℕ) (r : Results) : Type 0 where

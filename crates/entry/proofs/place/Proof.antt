@@ -4,7 +4,6 @@ use mathlib.Core.Path.{_≡_, _∙_}
 use native.Mathlib.Omega.{arith}
 use borrow.Author.Needs.{needs}
 use Rattle.entry.specs.Results.{results}
-use Rattle.entry.proofs.Columns.{room-lengths}
 use Rattle.entry.proofs.Search.{Between, between-starts, between-raised, between-lowered, between-ends}
 use Rattle.entry.proofs.place.Statement.{statement}
 use Rattle.entry.proofs.place.Tie as tie
@@ -25,10 +24,7 @@ add-middle : tie.Need-add-middle Inv-loop μ-loop
 add-middle c = search needs
 
 entry-at-requires : tie.Need-entry-at-requires Inv-loop μ-loop
-entry-at-requires c κs =
-    let s = c .before .before .before .before .before in
-    let n = room-lengths (s .args .count) (results (s .args .distance .now) (s .args .first .now) (s .args .second .now)) (s .pre .room) in
-    omega arith
+entry-at-requires c κs = search needs
 
 before-requires : tie.Need-before-requires Inv-loop μ-loop
 before-requires c κs = search needs

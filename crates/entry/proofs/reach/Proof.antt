@@ -1,25 +1,40 @@
-use mathlib.Core.Path.{_≡_}
 -- While there is room any squared distance can enter, and after that none past the last.
+use mathlib.Core.Path.{_≡_, refl}
+use mathlib.Core.Bool.{cond}
+use mathlib.Core.List.{List}
+use Prim.Native.Nat.{ℕ, _-_, _^_}
 use native.Mathlib.Omega.{arith}
 use borrow.Author.Tests.{eq-eqb, ne-eqb}
 use borrow.Author.Needs.{needs}
+use lib.Dec.{eqb}
+use lib.ListN.{getD}
 use Rattle.entry.proofs.reach.Statement.{statement}
 use Rattle.entry.proofs.reach.Tie as tie
 
+-- A full list's reach is read at the place before its count.
+full : (column : List ℕ) (count k i : ℕ) {v : ℕ} → v ≡ getD column i 0 → i ≡ count - 1 → count ≡ k
+    → v ≡ cond (eqb count k) (getD column (count - 1) 0) (2 ^ 64 - 1)
+full column count k i read at e = rw (eq-eqb count k e, ← at) read
+
 returns : tie.Need-returns
-returns c = simp (ne-eqb (c .before .args .count) (c .before .args .k) (λ e. omega arith))
+returns c = simp (ne-eqb (c .before .before .args .count) (c .before .before .args .k) (c .if1 .taken))
 
-sub-result : tie.Need-sub-result
-sub-result c = search needs
-
-mul-result : tie.Need-mul-result
-mul-result c = search needs
-
-shared-slice-read-result : tie.Need-shared-slice-read-result
-shared-slice-read-result c = search needs
+get-u64-requires : tie.Need-get-u64-requires
+get-u64-requires c κs = search needs
 
 returns-2 : tie.Need-returns-2
-returns-2 c = let full : c .before .before .args .count ≡ c .before .before .args .k = omega arith in simp (eq-eqb _ _ full)
+returns-2 c = let a = c .before .before .before .before .args in full (a .distance .now) (a .count) (a .k) 0 (c .get-u64 .ensures) (omega arith) (omega arith)
+
+sub-get-u64 : tie.Need-sub-get-u64
+sub-get-u64 c = search needs
+
+get-u64-requires-2 : tie.Need-get-u64-requires-2
+get-u64-requires-2 c κs = search needs
+
+returns-3 : tie.Need-returns-3
+returns-3 c = let a = c .before .before .before .before .args in full (a .distance .now) (a .count) (a .k) (a .count - 1) (c .get-u642 .ensures) refl (omega arith)
 
 pub reach-spec : {M : Type 1} → statement M
-reach-spec = tie.close (tie.spec returns sub-result mul-result shared-slice-read-result returns-2)
+reach-spec =
+    tie.close
+    (tie.spec returns get-u64-requires returns-2 sub-get-u64 get-u64-requires-2 returns-3)

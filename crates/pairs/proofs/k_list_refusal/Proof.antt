@@ -8,7 +8,8 @@ use Rattle.site.specs.SiteList.{Columns, columns}
 use Rattle.site.specs.Refusal.{listsRefusal}
 use Rattle.entry.specs.Results.{Results, results, roomFor}
 use Rattle.entry.proofs.Columns.{lengths-room}
-use Rattle.pairs.specs.KList.{lawfulK, kListRefusal}
+use Rattle.pairs.specs.KList.{kListRefusal}
+use Rattle.entry.specs.Entry.{lawfulK}
 use Rattle.pairs.proofs.KListAnswers.{k-lists-refused, k-unlawful, k-short, k-accepted, short}
 use Rattle.pairs.proofs.k_list_refusal.Statement.{statement}
 use Rattle.pairs.proofs.k_list_refusal.Tie as tie

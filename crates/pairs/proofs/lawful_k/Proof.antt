@@ -1,6 +1,6 @@
 -- `pairs::lawful_k` meets its contract.
 use borrow.Author.Tests.{le-leb, lt-leb}
-use Rattle.pairs.specs.KList.{lawfulK}
+use Rattle.entry.specs.Entry.{lawfulK}
 use Rattle.pairs.proofs.lawful_k.Statement.{statement}
 use Rattle.pairs.proofs.lawful_k.Tie as tie
 

@@ -11,7 +11,7 @@ use lib.ListN.{length, drop, getD}
 use Rattle.site.specs.declared.Site.{Site}
 use Rattle.site.specs.Site.{siteBefore}
 use Rattle.site.specs.SiteList.{Columns, columns, site, sites, siteAt}
-use Rattle.site.proofs.Columns.{nowhere, sites-length, sites-at}
+use Rattle.site.proofs.Columns.{sites-length}
 use Rattle.site.proofs.Misses.{miss-le}
 use Rattle.site.proofs.Breaks.{breaks, breaks-end, breaks-step, ascending-breaks}
 use Rattle.site.proofs.ascends.Statement.{statement}
@@ -40,19 +40,19 @@ abbrev entry : tie.After-break-at Inv-loop μ-loop → tie.Start Inv-loop μ-loo
 entry c = c .before .before .before .before
 
 learnt : (c : tie.After-break-at Inv-loop μ-loop) → c .break-at .result + breaks siteBefore (drop (c .before .before .loop .i + 1) (sites (lent (entry c)))) ≡ breaks siteBefore (drop (c .before .before .loop .i) (sites (lent (entry c))))
+unfolding siteAt
 learnt c =
     let l = lent (entry c) in
     let level = entry c .pre .0 in
     let i = c .before .before .loop .i in
     let h : i + 1 < length (l .x) = c .before .loop-test .taken in
     let k : i + 1 < length (sites l) = omega (arith, sites-length l level) in
-    rw (breaks-step siteBefore (sites l) i nowhere k, sites-at l level i nowhere (omega arith), sites-at l level (i + 1) nowhere h)
-    (ap (λ (n : ℕ). n + breaks siteBefore (drop (i + 1) (sites l))) (c .break-at .ensures))
+    rw (breaks-step siteBefore (sites l) i (site (pos 0) (pos 0) 0) k) (ap (λ (n : ℕ). n + breaks siteBefore (drop (i + 1) (sites l))) (c .break-at .ensures))
 
 small : (c : tie.After-break-at Inv-loop μ-loop) → c .break-at .result ≤ 1
 small c =
     let i = c .before .before .loop .i in
-    miss-le (siteBefore (siteAt (lent (entry c)) i) (siteAt (lent (entry c)) (i + 1))) (c .break-at .ensures)
+    miss-le (siteBefore (siteAt (sites (lent (entry c))) i) (siteAt (sites (lent (entry c))) (i + 1))) (c .break-at .ensures)
 
 add-breaks : tie.Need-add-breaks Inv-loop μ-loop
 add-breaks c = omega (arith, small c, c .before .before .loop .inv, c .before .loop-test .taken, entry c .pre .1)

@@ -2,13 +2,15 @@
 use mathlib.Core.Path.{_≡_, sym, ap, _∙_}
 use mathlib.Core.Bool.{Bool, cond}
 use Prim.Native.Nat.{ℕ, _+_}
+use native.Mathlib.Omega.{arith}
 use borrow.Author.Needs.{needs, sfits-of}
 use lib.IntN.{ℤ}
 use lib.ListN.{getD}
 use mir.Facts.{toZ-ofZ}
 use Rattle.site.specs.Site.{siteBefore}
-use Rattle.site.specs.SiteList.{Columns, columns, site, siteAt}
+use Rattle.site.specs.SiteList.{Columns, columns, site, sites, siteAt}
 use Rattle.site.proofs.Machine.{at₄}
+use Rattle.site.proofs.Columns.{site-at}
 use Rattle.site.proofs.break_at.Statement.{statement}
 use Rattle.site.proofs.break_at.Tie as tie
 
@@ -66,16 +68,18 @@ entry c = c .before .before .before .before .before .before .before .before
 abbrev lent : tie.After-before2 → Columns
 lent c = let a = entry c .args in columns (a .x .now) (a .y .now) (a .number .now)
 
-learnt : (c : tie.After-before2) → c .before2 .result ≡ siteBefore (siteAt (lent c) (entry c .args .i)) (siteAt (lent c) (entry c .args .i + 1))
+learnt : (c : tie.After-before2) → c .before2 .result ≡ siteBefore (siteAt (sites (lent c)) (entry c .args .i)) (siteAt (sites (lent c)) (entry c .args .i + 1))
 learnt c =
     let i = entry c .args .i in
     let n = entry c .args .number .now in
-    at₄ (λ (ax ay bx by : ℤ). siteBefore (site ax ay (getD n i 0)) (site bx by (getD n (i + 1) 0)))
+    let level = entry c .pre .0 in
+    rw (site-at (lent c) level i (omega (arith, entry c .pre .1)), site-at (lent c) level (i + 1) (entry c .pre .1))
+    (at₄ (λ (ax ay bx by : ℤ). siteBefore (site ax ay (getD n i 0)) (site bx by (getD n (i + 1) 0)))
     (toZ-ofZ (sfits-of (c .before .before .before .before .before .before .before-arg .given)))
     (toZ-ofZ (sfits-of (c .before .before .before .before .before .before-arg2 .given)))
     (toZ-ofZ (sfits-of (c .before .before .before .before-arg3 .given)))
     (toZ-ofZ (sfits-of (c .before .before .before-arg4 .given)))
-    (c .before2 .ensures)
+    (c .before2 .ensures))
 
 returns : tie.Need-returns
 returns c = ap (λ (t : Bool). cond {A = ℕ} t 0 1) (sym (c .if1 .taken) ∙ learnt (c .before))

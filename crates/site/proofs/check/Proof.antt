@@ -5,8 +5,8 @@ use borrow.Author.Needs.{needs}
 use lib.ListN.{length}
 use Rattle.site.specs.SiteList.{Columns, columns}
 use Rattle.site.specs.Refusal.{checkTold, checkedTold}
-use Rattle.site.proofs.Answers.{told, told-refused}
-use Rattle.site.proofs.Lawful.{accepted-few}
+use Rattle.site.proofs.Told.{told, told-refused}
+use Rattle.site.proofs.Accepted.{accepted-few}
 use Rattle.site.proofs.check.Statement.{statement}
 use Rattle.site.proofs.check.Tie as tie
 

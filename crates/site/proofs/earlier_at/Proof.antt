@@ -7,8 +7,9 @@ use lib.IntN.{ℤ}
 use lib.ListN.{getD}
 use mir.Facts.{toZ-ofZ}
 use Rattle.site.specs.Site.{siteBefore}
-use Rattle.site.specs.SiteList.{Columns, columns, site, siteAt}
+use Rattle.site.specs.SiteList.{Columns, columns, site, sites, siteAt}
 use Rattle.site.proofs.Machine.{at₄}
+use Rattle.site.proofs.Columns.{site-at}
 use Rattle.site.proofs.earlier_at.Statement.{statement}
 use Rattle.site.proofs.earlier_at.Tie as tie
 
@@ -36,15 +37,19 @@ before-requires c κs = search needs
 abbrev entry : tie.After-before2 → tie.Start
 entry c = c .before .before .before .before .before
 
-learnt : (c : tie.After-before2) → c .before2 .result ≡ siteBefore (siteAt (columns (entry c .args .x .now) (entry c .args .y .now) (entry c .args .number .now)) (entry c .args .i)) (site (entry c .args .sx) (entry c .args .sy) (entry c .args .sn))
+abbrev lent : tie.After-before2 → Columns
+lent c = let a = entry c .args in columns (a .x .now) (a .y .now) (a .number .now)
+
+learnt : (c : tie.After-before2) → c .before2 .result ≡ siteBefore (siteAt (sites (lent c)) (entry c .args .i)) (site (entry c .args .sx) (entry c .args .sy) (entry c .args .sn))
 learnt c =
     let a = entry c .args in
-    at₄ (λ (x y sx sy : ℤ). siteBefore (site x y (getD (a .number .now) (a .i) 0)) (site sx sy (a .sn)))
+    rw (site-at (lent c) (entry c .pre .0) (a .i) (entry c .pre .1))
+    (at₄ (λ (x y sx sy : ℤ). siteBefore (site x y (getD (a .number .now) (a .i) 0)) (site sx sy (a .sn)))
     (toZ-ofZ (sfits-of (c .before .before .before .before-arg .given)))
     (toZ-ofZ (sfits-of (c .before .before .before-arg2 .given)))
     (toZ-ofZ (entry c .fits .sx))
     (toZ-ofZ (entry c .fits .sy))
-    (c .before2 .ensures)
+    (c .before2 .ensures))
 
 returns : tie.Need-returns
 returns c = ap (λ (t : Bool). cond {A = ℕ} t 1 0) (sym (c .if1 .taken) ∙ learnt (c .before))

@@ -6,19 +6,19 @@ use mir.Syntax.{w32}
 use mir.Val.{SFits}
 use mir.Facts.{toZ-ofZ}
 use Rattle.site.specs.SiteList.{columns}
-use Rattle.site.specs.Add.{inserted}
+use Rattle.column.specs.Column.{inserted}
 use Rattle.site.proofs.Machine.{at₁}
 use Rattle.site.proofs.insert_site.Statement.{statement}
 use Rattle.site.proofs.insert_site.Tie as tie
 
-insert-coordinate-requires : tie.Need-insert-coordinate-requires
-insert-coordinate-requires c κs = search needs
+insert-i32-requires : tie.Need-insert-i32-requires
+insert-i32-requires c κs = search needs
 
-insert-coordinate-requires-2 : tie.Need-insert-coordinate-requires-2
-insert-coordinate-requires-2 c κs = search needs
+insert-i32-requires-2 : tie.Need-insert-i32-requires-2
+insert-i32-requires-2 c κs = search needs
 
-insert-number-requires : tie.Need-insert-number-requires
-insert-number-requires c κs = search needs
+insert-u32-requires : tie.Need-insert-u32-requires
+insert-u32-requires c κs = search needs
 
 same-length : tie.Need-same-length
 same-length c = search needs
@@ -43,17 +43,17 @@ returns c =
     let second = c .before .before .before .before .before in
     let first = second .before .before .before .before in
     let a = start (first .before) .args in
-    let p = at₁ (λ (z : ℤ). inserted (a .place) (a .n) z (a .x .now)) (toZ-ofZ (fits-x (first .before))) (first .insert-coordinate .ensures) in
-    let q = at₁ (λ (z : ℤ). inserted (a .place) (a .n) z (a .y .now)) (toZ-ofZ (fits-y (second .before))) (second .insert-coordinate2 .ensures) in
-    λ i. columns (p i) (q i) (c .before .before .insert-number .ensures i)
+    let p = at₁ (λ (z : ℤ). inserted (a .place) (a .n) z (a .x .now)) (toZ-ofZ (fits-x (first .before))) (first .insert-i32 .ensures) in
+    let q = at₁ (λ (z : ℤ). inserted (a .place) (a .n) z (a .y .now)) (toZ-ofZ (fits-y (second .before))) (second .insert-i322 .ensures) in
+    λ i. columns (p i) (q i) (c .before .before .insert-u32 .ensures i)
 
 pub insert-site-spec : {M : Type 1} → statement M
 insert-site-spec =
     tie.close
     (tie.spec
-    insert-coordinate-requires
-    insert-coordinate-requires-2
-    insert-number-requires
+    insert-i32-requires
+    insert-i32-requires-2
+    insert-u32-requires
     same-length
     same-length-2
     same-length-3

@@ -15,7 +15,7 @@ use Rattle.site.specs.Site.{siteBefore}
 use Rattle.site.specs.SiteList.{Columns, columns, site, sites, siteAt}
 use Rattle.site.specs.Add.{present}
 use Rattle.site.proofs.Machine.{at₂}
-use Rattle.site.proofs.Columns.{nowhere, sites-length, sites-at}
+use Rattle.site.proofs.Columns.{sites-length}
 use Rattle.site.proofs.Misses.{misses, miss-le, misses-step, misses-end}
 use Rattle.site.proofs.Kept.{apart, present-misses}
 use Rattle.site.proofs.is_present.Statement.{statement}
@@ -44,22 +44,21 @@ loop-holds c = omega arith
 same-at-requires : tie.Need-same-at-requires Inv-loop μ-loop
 same-at-requires c κs = (c .before .before .before .pre .0, c .loop-test .taken)
 
-told : (c : tie.After-same-at Inv-loop μ-loop) → c .same-at .result ≡ cond (apart (handed (entry c)) (siteAt (lent (entry c)) (c .before .before .loop .i))) 0 1
+told : (c : tie.After-same-at Inv-loop μ-loop) → c .same-at .result ≡ cond (apart (handed (entry c)) (siteAt (sites (lent (entry c))) (c .before .before .loop .i))) 0 1
 unfolding apart
 told c = c .same-at .ensures
 
 small : (c : tie.After-same-at Inv-loop μ-loop) → c .same-at .result ≤ 1
-small c = miss-le (apart (handed (entry c)) (siteAt (lent (entry c)) (c .before .before .loop .i))) (told c)
+small c = miss-le (apart (handed (entry c)) (siteAt (sites (lent (entry c))) (c .before .before .loop .i))) (told c)
 
 learnt : (c : tie.After-same-at Inv-loop μ-loop) → c .same-at .result + misses (apart (handed (entry c))) (drop (c .before .before .loop .i + 1) (sites (lent (entry c)))) ≡ misses (apart (handed (entry c))) (drop (c .before .before .loop .i) (sites (lent (entry c))))
+unfolding siteAt
 learnt c =
     let l = lent (entry c) in
     let level = entry c .pre .0 in
     let i = c .before .before .loop .i in
-    let h : i < length (l .x) = c .before .loop-test .taken in
-    let k : i < length (sites l) = omega (arith, sites-length l level) in
-    rw (misses-step (apart (handed (entry c))) (sites l) i nowhere k, sites-at l level i nowhere h)
-    (ap (λ (n : ℕ). n + misses (apart (handed (entry c))) (drop (i + 1) (sites l))) (told c))
+    let k : i < length (sites l) = omega (arith, c .before .loop-test .taken, sites-length l level) in
+    rw (misses-step (apart (handed (entry c))) (sites l) i (site (pos 0) (pos 0) 0) k) (ap (λ (n : ℕ). n + misses (apart (handed (entry c))) (drop (i + 1) (sites l))) (told c))
 
 add-same : tie.Need-add-same Inv-loop μ-loop
 add-same c = omega (arith, small c, c .before .before .loop .inv, c .before .loop-test .taken, entry c .pre .1)

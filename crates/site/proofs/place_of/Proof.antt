@@ -14,7 +14,7 @@ use Rattle.site.specs.Site.{siteBefore}
 use Rattle.site.specs.SiteList.{Columns, columns, site, sites, siteAt}
 use Rattle.site.specs.Add.{placeOf}
 use Rattle.site.proofs.Machine.{at₂}
-use Rattle.site.proofs.Columns.{nowhere, sites-length, sites-at}
+use Rattle.site.proofs.Columns.{sites-length}
 use Rattle.site.proofs.Kept.{kept-le, place-step, place-end}
 use Rattle.site.proofs.place_of.Statement.{statement}
 use Rattle.site.proofs.place_of.Tie as tie
@@ -44,17 +44,16 @@ earlier-at-requires c κs = (c .before .before .before .pre .0, c .loop-test .ta
 
 small : (c : tie.After-earlier-at Inv-loop μ-loop) → c .earlier-at .result ≤ 1
 small c =
-    kept-le (siteBefore (siteAt (lent (entry c)) (c .before .before .loop .i)) (handed (entry c))) (c .earlier-at .ensures)
+    kept-le (siteBefore (siteAt (sites (lent (entry c))) (c .before .before .loop .i)) (handed (entry c))) (c .earlier-at .ensures)
 
 learnt : (c : tie.After-earlier-at Inv-loop μ-loop) → c .earlier-at .result + placeOf (handed (entry c)) (drop (c .before .before .loop .i + 1) (sites (lent (entry c)))) ≡ placeOf (handed (entry c)) (drop (c .before .before .loop .i) (sites (lent (entry c))))
+unfolding siteAt
 learnt c =
     let l = lent (entry c) in
     let level = entry c .pre .0 in
     let i = c .before .before .loop .i in
-    let h : i < length (l .x) = c .before .loop-test .taken in
-    let k : i < length (sites l) = omega (arith, sites-length l level) in
-    rw (place-step (handed (entry c)) (sites l) i nowhere k, sites-at l level i nowhere h)
-    (ap (λ (n : ℕ). n + placeOf (handed (entry c)) (drop (i + 1) (sites l))) (c .earlier-at .ensures))
+    let k : i < length (sites l) = omega (arith, c .before .loop-test .taken, sites-length l level) in
+    rw (place-step (handed (entry c)) (sites l) i (site (pos 0) (pos 0) 0) k) (ap (λ (n : ℕ). n + placeOf (handed (entry c)) (drop (i + 1) (sites l))) (c .earlier-at .ensures))
 
 add-place : tie.Need-add-place Inv-loop μ-loop
 add-place c = omega (arith, small c, c .before .before .loop .inv, c .before .loop-test .taken, entry c .pre .1)

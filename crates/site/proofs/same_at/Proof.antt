@@ -6,8 +6,9 @@ use lib.IntN.{ℤ}
 use lib.ListN.{getD}
 use mir.Facts.{toZ-ofZ}
 use Rattle.site.specs.Site.{siteBefore}
-use Rattle.site.specs.SiteList.{site}
+use Rattle.site.specs.SiteList.{columns, site}
 use Rattle.site.proofs.Machine.{at₄}
+use Rattle.site.proofs.Columns.{site-at}
 use Rattle.site.proofs.same_at.Statement.{statement}
 use Rattle.site.proofs.same_at.Tie as tie
 
@@ -36,12 +37,13 @@ returns : tie.Need-returns
 returns c =
     let e = c .before .before .before .before .before in
     let n = getD (e .args .number .now) (e .args .i) 0 in
-    at₄ (λ (x y sx sy : ℤ). cond {A = ℕ} (siteBefore (site x y n) (site sx sy (e .args .sn)) || siteBefore (site sx sy (e .args .sn)) (site x y n)) 0 1)
+    rw (site-at (columns (e .args .x .now) (e .args .y .now) (e .args .number .now)) (e .pre .0) (e .args .i) (e .pre .1))
+    (at₄ (λ (x y sx sy : ℤ). cond {A = ℕ} (siteBefore (site x y n) (site sx sy (e .args .sn)) || siteBefore (site sx sy (e .args .sn)) (site x y n)) 0 1)
     (toZ-ofZ (sfits-of (c .before .before .before .same-arg .given)))
     (toZ-ofZ (sfits-of (c .before .before .same-arg2 .given)))
     (toZ-ofZ (e .fits .sx))
     (toZ-ofZ (e .fits .sy))
-    (c .same .ensures)
+    (c .same .ensures))
 
 pub same-at-spec : {M : Type 1} → statement M
 same-at-spec =

@@ -1,7 +1,7 @@
 -- `site_file::write_refusal` meets its contract.
 use mathlib.Core.Path.{sym, _∙_}
 use native.Mathlib.Omega.{arith}
-use Rattle.site.proofs.Lawful.{accepted-few}
+use Rattle.site.proofs.Accepted.{accepted-few}
 use Rattle.site_file.proofs.Writing.{write-first, write-second, write-short, write-ready}
 use borrow.Author.Needs.{needs}
 use Rattle.site_file.proofs.write_refusal.Statement.{statement}

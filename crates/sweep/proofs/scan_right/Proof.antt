@@ -28,7 +28,7 @@ asked : (s : tie.Start Inv-loop μ-loop) → ScanAsked (s .args .xs .now) (s .ar
 asked s = asked-read _ _ _ _ (toZ-ofZ (s .fits .x)) (toZ-ofZ (s .fits .y)) (s .pre .0)
 
 reach-requires : tie.Need-reach-requires Inv-loop μ-loop
-reach-requires c κs = reach-asks _ _ _ (c .before .before .before .before .pre .0 .some) (c .before .before .before .before .pre .0 .ready)
+reach-requires c κs = search needs
 
 loop-holds : tie.Need-loop-holds Inv-loop μ-loop
 loop-holds c = right-starts _ _ _ _ _ _ _ _ _ _ _ _ _ (asked (c .before .before .before .before .before)) _ (c .before .before .before .before .before .pre .1) (c .reach .ensures)
@@ -101,9 +101,7 @@ offer-requires : tie.Need-offer-requires Inv-loop μ-loop
 offer-requires c κs = c .before .before .before .before .before .before .before .before .before .loop .inv .progress .held .ready
 
 reach-requires-2 : tie.Need-reach-requires-2 Inv-loop μ-loop
-reach-requires-2 c κs =
-    let l = c .before .before .before .before .before .before .before .before .before .before .before .before .before .before .before .before .before in
-    reach-asks _ _ _ (l .before .before .before .before .before .before .pre .0 .some) (ready-after _ _ _ _ _ _ (l .loop .inv .progress .held .ready) (c .before .before .before .before .before .before .before .offer .ensures))
+reach-requires-2 c κs = search needs
 
 loop-less : tie.Need-loop-less Inv-loop μ-loop
 loop-less c = search needs

@@ -49,10 +49,7 @@ loop-holds : tie.Need-loop-holds Inv-loop μ-loop
 loop-holds c = (search needs, refl)
 
 entry-at-requires : tie.Need-entry-at-requires Inv-loop μ-loop
-entry-at-requires c κs =
-    let s = c .before .before .before .before .before .before .before .before .before .before in
-    let n = room-lengths (s .args .count) (results (s .args .distance .now) (s .args .first .now) (s .args .second .now)) (s .pre .0) in
-    (omega arith, omega arith, omega arith)
+entry-at-requires c κs = search needs
 
 fits-requires : tie.Need-fits-requires Inv-loop μ-loop
 fits-requires c κs = c .before .before .before .before .before .before .before .before .before .before .before .pre .1

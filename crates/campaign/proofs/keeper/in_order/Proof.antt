@@ -48,19 +48,13 @@ add-loop c =
     omega arith
 
 entry-at-requires : tie.Need-entry-at-requires Inv-loop μ-loop
-entry-at-requires c κs =
-    let s = c .before .before .before .before .before in
-    let n = room-lengths (s .args .count) (results (s .args .distance .now) (s .args .first .now) (s .args .second .now)) (s .pre) in
-    (omega arith, omega arith, omega arith)
+entry-at-requires c κs = search needs
 
 add-entry-at : tie.Need-add-entry-at Inv-loop μ-loop
 add-entry-at c = omega (arith, c .before .loop-test .taken)
 
 entry-at-requires-2 : tie.Need-entry-at-requires-2 Inv-loop μ-loop
-entry-at-requires-2 c κs =
-    let s = c .before .before .before .before .before .before in
-    let n = room-lengths (s .args .count) (results (s .args .distance .now) (s .args .first .now) (s .args .second .now)) (s .pre) in
-    (omega (arith, c .before .loop-test .taken), omega (arith, c .before .loop-test .taken), omega (arith, c .before .loop-test .taken))
+entry-at-requires-2 c κs = search needs
 
 before-requires : tie.Need-before-requires Inv-loop μ-loop
 before-requires c κs = search needs

@@ -5,7 +5,7 @@ use native.Mathlib.Omega.{arith}
 use borrow.Author.Tests.{not-true, not-false}
 use mathlib.Core.Bool.{true}
 use lib.ListN.{length}
-use Rattle.pairs.specs.KList.{lawfulK}
+use Rattle.entry.specs.Entry.{lawfulK}
 use Rattle.campaign.proofs.PlanTests.{unlawful-k, many-rows, many-cols, unlawful-first, unlawful-second, marks-decide, in-use}
 use Rattle.campaign.proofs.keeper.sound_plan.Statement.{statement}
 use Rattle.campaign.proofs.keeper.sound_plan.Tie as tie

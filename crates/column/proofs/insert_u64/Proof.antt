@@ -1,8 +1,9 @@
 -- A value put into a column: at the start of the part from its place on.
-use Rattle.entry.proofs.Inserted.{inserted-part}
+use Rattle.column.proofs.Inserted.{inserted-part}
+use mathlib.Core.Path.{refl}
 use borrow.Author.Needs.{needs}
-use Rattle.entry.proofs.insert_u64.Statement.{statement}
-use Rattle.entry.proofs.insert_u64.Tie as tie
+use Rattle.column.proofs.insert_u64.Statement.{statement}
+use Rattle.column.proofs.insert_u64.Tie as tie
 
 mul-push-u64 : tie.Need-mul-push-u64
 mul-push-u64 c = search needs
@@ -28,7 +29,7 @@ same-length c = search needs
 returns : tie.Need-returns
 returns c =
     let s = c .before .before .before .before .before in
-    inserted-part _ _ _ (s .args .column .now) _ (s .pre .0) (s .pre .1) (c .before .before .push-u64 .ensures)
+    inserted-part _ _ (s .args .column .now) _ (s .pre .0) (s .pre .1) refl (c .before .before .push-u64 .ensures)
 
 pub insert-u64-spec : {M : Type 1} → statement M
 insert-u64-spec =

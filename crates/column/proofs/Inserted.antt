@@ -6,8 +6,8 @@ use native.Mathlib.Omega.{arith}
 use native.Mathlib.Numerals.{add-one}
 use lib.ListN.{length, take, drop, getD, set, length-append, length-take, length-drop, length-set, length-map, take-append-drop, drop-of-length-le, List·getD-append}
 use lib.Seq.{take-suc, drop-cons, append-snoc, length-take-le, set-at, getD-take, take-take, take-all, drop-drop}
-use Rattle.order.specs.Lists.{overwritten}
-use Rattle.site.specs.Add.{inserted}
+use Rattle.order.proofs.Lists.{map-take, map-drop}
+use Rattle.column.specs.Column.{overwritten, inserted}
 
 module _ {A : Type 0} where
   -- The same with the parts grouped to the right.
@@ -64,32 +64,36 @@ module _ {A : Type 0} (d : A) (c : List A) (p n : ℕ) (room : n < length c) whe
   pub moving-starts : p ≤ n → Moving d c p n n c
   moving-starts h = record { from = h; to = omega arith; holds = sym (inserted-none n c room d); long = refl }
 
-  pub moving-more : (i : ℕ) (column : List A) → p < i → Moving d c p n i column
-      → Moving d c p n (i - 1) (set column i (getD column (i - 1) d))
-  moving-more i column h m = record {
+  -- `v` is the element below, as it was read.
+  pub moving-more : (i : ℕ) (column : List A) {v : A} → p < i → v ≡ getD column (i - 1) d → Moving d c p n i column
+      → Moving d c p n (i - 1) (set column i v)
+  moving-more i column {v} h read m = record {
     from = omega arith;
     to = omega arith;
-    holds = rw (m .holds) (inserted-more n c room i (getD c i d) d (omega arith) (m .to));
-    long = length-set column i (getD column (i - 1) d) ∙ m .long;
+    holds = rw (read, m .holds) (inserted-more n c room i (getD c i d) d (omega arith) (m .to));
+    long = length-set column i v ∙ m .long;
   }
 
-  pub moving-ends : (i : ℕ) (column : List A) (v : A) → i ≤ p → Moving d c p n i column → set column p v ≡ inserted p n v c
-  moving-ends i column v h m =
+  -- `u` is the value, as it was handed over.
+  pub moving-ends : (i : ℕ) (column : List A) {u v : A} → i ≤ p → u ≡ v → Moving d c p n i column
+      → set column p u ≡ inserted p n v c
+  moving-ends i column {u} {v} h read m =
       let same : i ≡ p = omega arith in
       let is : column ≡ inserted p n (getD c p d) c = rw same at (m .holds) in
-      rw is (inserted-store n c room p (getD c p d) v (omega arith))
+      rw (read, is) (inserted-store n c room p (getD c p d) v (omega arith))
 
 -- A value put at the start of the part from place `p` on is put at place `p` of the whole.
-pub inserted-part : {A : Type 0} (p n : ℕ) (v : A) (c part : List A) → p ≤ n → n < length c
-    → part ≡ inserted 0 (n - p) v (take (length c - p) (drop p c))
+-- `u` is the value, as it was handed over.
+pub inserted-part : {A : Type 0} (p n : ℕ) {u v : A} (c part : List A) → p ≤ n → n < length c → u ≡ v
+    → part ≡ inserted 0 (n - p) u (take (length c - p) (drop p c))
     → take p c ++ (part ++ drop (length c - p) (drop p c)) ≡ inserted p n v c
-inserted-part {A} p n v c part pn nc is =
+inserted-part {A} p n {u} {v} c part pn nc read is =
     let whole : take (length c - p) (drop p c) ≡ drop p c = take-all (length c - p) (drop p c) (rw length-drop (omega arith)) in
     let none : drop (length c - p) (drop p c) ≡ [] = drop-of-length-le (drop p c) {i = length c - p} (rw length-drop (omega arith)) in
     let rest : drop (suc (n - p)) (drop p c) ≡ drop (suc n) c =
     drop-drop (suc (n - p)) p c ∙ (let sums : p + suc (n - p) ≡ suc n = omega arith in ap (λ (m : ℕ). drop m c) sums) in
     let same : (n - p) - 0 ≡ n - p = omega arith in
-    rw (is, whole, none, append-nil, inserted-is 0 (n - p) v (drop p c), same, rest, inserted-is p n v c)
+    rw (is, read, whole, none, append-nil, inserted-is 0 (n - p) v (drop p c), same, rest, inserted-is p n v c)
 
 take-part : {A : Type 0} (count p n : ℕ) (c : List A) → p ≤ n → n ≤ count → take (n - p) (drop p (take count c)) ≡ take (n - p) (drop p c)
 take-part count zero n c pn nc = take-take (n - 0) count c (omega arith)
@@ -98,16 +102,6 @@ take-part (suc count) (suc p) n [] pn nc = refl
 take-part (suc count) (suc p) n (a ∷ c) pn nc =
     let one : n - suc p ≡ (n - 1) - p = omega arith in
     rw one (take-part count p (n - 1) c (omega arith) (omega arith))
-
-map-take : {A B : Type 0} (f : A → B) (n : ℕ) (l : List A) → map f (take n l) ≡ take n (map f l)
-map-take f zero l = refl
-map-take f (suc n) [] = refl
-map-take {A} {B} f (suc n) (a ∷ l) = ap (λ (r : List B). f a ∷ r) (map-take f n l)
-
-map-drop : {A B : Type 0} (f : A → B) (n : ℕ) (l : List A) → map f (drop n l) ≡ drop n (map f l)
-map-drop f zero l = refl
-map-drop f (suc n) [] = refl
-map-drop f (suc n) (a ∷ l) = map-drop f n l
 
 -- One key of the elements of a list stands in a column: putting an element into the list is putting its key into the column.
 pub inserted-key : {A B : Type 0} (f : A → B) (v : A) (l : List A) (column : List B) (p n : ℕ) → map f l ≡ take (length l) column

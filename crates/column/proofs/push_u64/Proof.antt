@@ -1,9 +1,10 @@
 -- Putting a value at the start of a column: the loop's invariant is the law of a column on the move.
+use mathlib.Core.Path.{refl}
 use borrow.Author.Needs.{needs}
 use lib.ListN.{length-set}
-use Rattle.entry.proofs.Inserted.{Moving, moving-starts, moving-more, moving-ends}
-use Rattle.entry.proofs.push_u64.Statement.{statement}
-use Rattle.entry.proofs.push_u64.Tie as tie
+use Rattle.column.proofs.Inserted.{Moving, moving-starts, moving-more, moving-ends}
+use Rattle.column.proofs.push_u64.Statement.{statement}
+use Rattle.column.proofs.push_u64.Tie as tie
 
 abbrev Inv-loop : tie.InvT-loop
 Inv-loop column₀ n v i₀ column i = Moving 0 column₀ 0 n i column
@@ -36,7 +37,7 @@ loop-less : tie.Need-loop-less Inv-loop μ-loop
 loop-less c = search needs
 
 loop-again : tie.Need-loop-again Inv-loop μ-loop
-loop-again c = moving-more 0 _ _ _ (search needs) _ _ (search needs) (c .before .before .loop .inv)
+loop-again c = moving-more 0 _ _ _ (search needs) _ _ (search needs) refl (c .before .before .loop .inv)
 
 slice-write-column-2 : tie.Need-slice-write-column-2 Inv-loop μ-loop
 slice-write-column-2 c = search needs
@@ -45,7 +46,7 @@ same-length : tie.Need-same-length Inv-loop μ-loop
 same-length c = simp length-set (search needs)
 
 returns : tie.Need-returns Inv-loop μ-loop
-returns c = moving-ends 0 _ _ _ (search needs) _ _ _ (search needs) (c .before .loop .inv)
+returns c = moving-ends 0 _ _ _ (search needs) _ _ (search needs) refl (c .before .loop .inv)
 
 pub push-u64-spec : {M : Type 1} → statement M
 push-u64-spec =

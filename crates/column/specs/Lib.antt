@@ -1,0 +1,2 @@
+-- What a reader must believe of lent columns; the laws are in `proofs/`.
+pub mod Column

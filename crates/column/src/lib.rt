@@ -1,0 +1,82 @@
+// A lent column: its element at a place, and a value put in with what stands behind it moved up by one, for each width.
+ghost use mathlib.Core.Path.{_≡_};
+ghost use Prim.Native.Nat.{_≤_, _<_};
+ghost use lib.ListN.{length, getD};
+ghost use Rattle.column.specs.Column.{inserted};
+
+// The element at a place, 0 past the end.
+pub fn get_u64(column: &[u64], i: usize) -> u64
+    ensures { λ r. ⌜ r ≡ getD (now (column .entry)) i 0 ⌝ }
+{
+    if i < column.len() { column[i] } else { 0 }
+}
+
+// The element at a place, 0 past the end.
+pub fn get_u32(column: &[u32], i: usize) -> u32
+    ensures { λ r. ⌜ r ≡ getD (now (column .entry)) i 0 ⌝ }
+{
+    if i < column.len() { column[i] } else { 0 }
+}
+
+// Puts a value at the start, moving up by one what stands there and on to place `n`.
+fn push_u64(column: &mut [u64], n: usize, v: u64)
+    requires { ⌜ n < length (now column) ⌝ }
+    ensures { λ _. ⌜ now (column .exit) ≡ inserted 0 n v (now (column .entry)) ⌝ }
+{
+    let mut i = n;
+    while 0 < i {
+        column[i] = column[i - 1];
+        i -= 1;
+    }
+    column[0] = v;
+}
+
+// Puts a value at place `p`, moving up by one what stands there and on to place `n`.
+pub fn insert_u64(column: &mut [u64], p: usize, n: usize, v: u64)
+    requires { ⌜ (p ≤ n) × (n < length (now column)) ⌝ }
+    ensures { λ _. ⌜ now (column .exit) ≡ inserted p n v (now (column .entry)) ⌝ }
+{
+    push_u64(&mut column[p..], n - p, v);
+}
+
+// Puts a value at the start, moving up by one what stands there and on to place `n`.
+fn push_u32(column: &mut [u32], n: usize, v: u32)
+    requires { ⌜ n < length (now column) ⌝ }
+    ensures { λ _. ⌜ now (column .exit) ≡ inserted 0 n v (now (column .entry)) ⌝ }
+{
+    let mut i = n;
+    while 0 < i {
+        column[i] = column[i - 1];
+        i -= 1;
+    }
+    column[0] = v;
+}
+
+// Puts a value at place `p`, moving up by one what stands there and on to place `n`.
+pub fn insert_u32(column: &mut [u32], p: usize, n: usize, v: u32)
+    requires { ⌜ (p ≤ n) × (n < length (now column)) ⌝ }
+    ensures { λ _. ⌜ now (column .exit) ≡ inserted p n v (now (column .entry)) ⌝ }
+{
+    push_u32(&mut column[p..], n - p, v);
+}
+
+// Puts a value at the start, moving up by one what stands there and on to place `n`.
+fn push_i32(column: &mut [i32], n: usize, v: i32)
+    requires { ⌜ n < length (now column) ⌝ }
+    ensures { λ _. ⌜ now (column .exit) ≡ inserted 0 n v (now (column .entry)) ⌝ }
+{
+    let mut i = n;
+    while 0 < i {
+        column[i] = column[i - 1];
+        i -= 1;
+    }
+    column[0] = v;
+}
+
+// Puts a value at place `p`, moving up by one what stands there and on to place `n`.
+pub fn insert_i32(column: &mut [i32], p: usize, n: usize, v: i32)
+    requires { ⌜ (p ≤ n) × (n < length (now column)) ⌝ }
+    ensures { λ _. ⌜ now (column .exit) ≡ inserted p n v (now (column .entry)) ⌝ }
+{
+    push_i32(&mut column[p..], n - p, v);
+}
