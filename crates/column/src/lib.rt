@@ -8,14 +8,14 @@ ghost use Rattle.column.specs.Column.{inserted};
 pub fn get_u64(column: &[u64], i: usize) -> u64
     ensures { λ r. ⌜ r ≡ getD (now (column .entry)) i 0 ⌝ }
 {
-    if i < column.len() { column[i] } else { 0 }
+    if i < column.len() { column[i] } else { 0u64 }
 }
 
 // The element at a place, 0 past the end.
 pub fn get_u32(column: &[u32], i: usize) -> u32
     ensures { λ r. ⌜ r ≡ getD (now (column .entry)) i 0 ⌝ }
 {
-    if i < column.len() { column[i] } else { 0 }
+    if i < column.len() { column[i] } else { 0u32 }
 }
 
 // Puts a value at the start, moving up by one what stands there and on to place `n`.
