@@ -17,6 +17,11 @@ use Rattle.entry.proofs.Columns.{room-lengths, lengths-room, length-entries, en
 use Rattle.sweep.specs.Scan.{beyond}
 use Rattle.sweep.specs.Terms.{Held}
 
+-- The columns have kept their lengths.
+abbrev pub SameLengths : Results → Results → Type 0
+SameLengths before r =
+    (length (r .distance) ≡ length (before .distance)) × (length (r .first) ≡ length (before .first)) × (length (r .second) ≡ length (before .second))
+
 -- Columns that hold a list give it back.
 pub holds-entries : (l : List Entry) (r after : Results) (count : ℕ) → Holds l r after count → entriesOf count after ≡ l
 holds-entries l r after count h = rw (h .entries, h .columns) (entries-holding l r)
@@ -32,7 +37,7 @@ module _ (k : ℕ) where
 
   module _ (before : Results) (old : ℕ) (r : Results) (count : ℕ) (h : Held k before old r count) where
     -- Columns keep their lengths.
-    pub held-lengths : (length (r .distance) ≡ length (before .distance)) × (length (r .first) ≡ length (before .first)) × (length (r .second) ≡ length (before .second))
+    pub held-lengths : SameLengths before r
     held-lengths =
         let n = length-entries k count r (h .ready .room) (h .ready .most) in
         let w = room-lengths k before (h .room) in
@@ -75,13 +80,6 @@ module _ (k : ℕ) where
       }
 
   -- ---- what can still enter
-
-  pub reach-asks : (count : ℕ) (r : Results) → 0 < k → Ready k count r → (0 < k) × (count ≤ k) × (k ≤ length (r .distance))
-  reach-asks count r some ready = (some, ready .most, room-lengths k r (ready .room) .0)
-
-  pub ready-after : (e : Entry) (count : ℕ) (r after : Results) (new : ℕ) → Ready k count r → Holds (offer k e (entriesOf count r)) r after new
-      → Ready k new after
-  ready-after e count r after new ready h = offered-held e count r after new ready h .ready
 
   pub reach-is : (count : ℕ) (r : Results) (v : ℕ) → 0 < k → Ready k count r
       → v ≡ cond (eqb count k) (getD (r .distance) (count - 1) 0) (2 ^ 64 - 1) → v ≡ reachOf k (entriesOf count r)

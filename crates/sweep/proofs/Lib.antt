@@ -12,10 +12,8 @@ pub mod CountLaws
 pub mod PlaceLaws
 pub mod RunLaws
 pub mod HeldLaws
-pub mod Progress
-pub mod ScanRuns
-pub mod RightScan
-pub mod LeftScan
+pub mod LookLaws
+pub mod Scanning
 pub mod NumberLaws
 pub mod References
 pub mod Fingers

@@ -12,8 +12,10 @@ use lib.Seq.{drop-cons}
 use Rattle.order.proofs.Order.{byTest}
 use Rattle.order.proofs.Lists.{map-take}
 use Rattle.site.specs.declared.Site.{Site}
-use Rattle.site.specs.Site.{gap, square, squaredDistance, squaredOver}
-use Rattle.site.specs.SiteList.{Columns, Level, columns, site, sites}
+use Rattle.site.specs.Site.{gap, square}
+use Rattle.site.proofs.Distance.{numberless}
+use Rattle.entry.specs.Entry.{entry}
+use Rattle.site.specs.SiteList.{Columns, Level, columns, sites}
 use Rattle.site.proofs.Columns.{columnsAt, sites-length, sites-at}
 use Rattle.entry.specs.declared.Entry.{Entry}
 use Rattle.sweep.specs.declared.Way.{Way}
@@ -85,10 +87,19 @@ module _ {A B C D : Type 0} (f : A → C) (g : B → D) (leads : C → D → Boo
 abbrev bare : Placed → Placed
 bare p = spotOf (p .site .x) (p .site .y) (p .place)
 
+look-bare : look ≡ (λ p q. look (bare p) (bare q))
+unfolding look pair
+look-bare = λ i p q.
+    let s = p .site in
+    let t = q .site in
+    record { gap = square (gap (s .x) (t .x)); entry = entry (numberless (s .x) (s .y) (t .x) (t .y) (s .number) (t .number) i) (p .place) (q .place) }
+
 pub sweep-bare : (way : Way) (k : ℕ) (p q : List Placed) (l : List Entry) → sweep way k p q l ≡ sweep way k (map bare p) (map bare q) l
-unfolding sweep leads look pair squaredDistance squaredOver
-sweep-bare Classic k p q l = classic-map bare bare leads look k p q (start l)
-sweep-bare ReverseRun k p q l = reverse-map bare bare leads look k p q [] [] (start l)
+unfolding sweep leads
+sweep-bare Classic k p q l =
+    ap (λ (f : Placed → Placed → Candidate). classicOver leads f k p q (start l)) look-bare ∙ classic-map bare bare leads look k p q (start l)
+sweep-bare ReverseRun k p q l =
+    ap (λ (f : Placed → Placed → Candidate). reverseOver leads f k p q [] [] (start l)) look-bare ∙ reverse-map bare bare leads look k p q [] [] (start l)
 
 -- The sites of three columns, counted from a place, with their numbers left out.
 module _ (c : Columns) (level : Level c) where

@@ -1,29 +1,28 @@
 -- Laws of a reference against a run, and of what a sweep leaves, for both sweeps.
 use mathlib.Core.Path.{_≡_, refl, sym, ap, ap₂, _∙_}
-use mathlib.Core.Bool.{Bool, true, false, cond}
-use mathlib.Core.List.{List, [], _∷_, map}
-use Prim.Native.Nat.{ℕ, zero, suc, _+_, _-_, _≤_, _<_, _^_}
+use mathlib.Core.Bool.{Bool, true, false}
+use mathlib.Core.List.{List}
+use Prim.Native.Nat.{ℕ, _-_, _≤_, _<_, _^_}
 use native.Mathlib.Omega.{arith}
 use lib.Dec.{leb, ltb}
 use lib.IntN.{ℤ, pos}
 use lib.ListN.{length, getD}
 use lib.Signed.{leZ}
 use borrow.Author.Tests.{lt-ltb, le-ltb, le-leb, lt-leb}
-use Rattle.site.specs.Site.{within}
-use Rattle.site.specs.SiteList.{Level, columns}
+use Rattle.site.specs.SiteList.{Coordinates, columns}
+use Rattle.site.proofs.Accepted.{coordinate-x, coordinate-y}
 use Rattle.entry.specs.Results.{Results, entriesOf, holding}
-use Rattle.entry.specs.Offered.{Ready}
 use Rattle.entry.proofs.Columns.{length-entries}
+use Rattle.sweep.specs.declared.Reference.{Reference}
 use Rattle.sweep.specs.declared.Swept.{Swept}
+use Rattle.sweep.specs.declared.Tally.{Tally}
 use Rattle.sweep.specs.declared.Way.{Way}
-use Rattle.sweep.specs.Strip.{Placed}
-use Rattle.sweep.specs.Scan.{State, scan}
-use Rattle.sweep.specs.Sweep.{leads, sweep}
-use Rattle.sweep.specs.Runs.{spotOf, spot, rightward, lookFrom, firstNext, stateOf}
-use Rattle.sweep.specs.Terms.{SweepAsked, SweptTo, SweptStrips, ScanAsked, ReferenceAsked, Held, ScannedTo}
-use Rattle.site.specs.SiteList.{Coordinates}
-use Rattle.sweep.proofs.CountLaws.{sweep-looks-fit, sweep-distances-bound}
-use Rattle.sweep.proofs.ScanRuns.{all-test-at, scanned-read}
+use Rattle.sweep.specs.Scan.{State}
+use Rattle.sweep.specs.Sweep.{leads, look, sweep}
+use Rattle.sweep.specs.Runs.{spot, rightward, referenceAt, lookFrom, firstNext, stateOf}
+use Rattle.sweep.specs.Terms.{SweepAsked, SweptStrips, TallyReady, ScanAsked, Tallied}
+use Rattle.sweep.proofs.CountLaws.{Counted, sweep-looks-fit, sweep-distances-bound}
+use Rattle.sweep.proofs.RunLaws.{length-rightward}
 use Rattle.sweep.proofs.NumberLaws.{sweep-strips}
 
 -- ---- which list is next
@@ -52,62 +51,63 @@ module _ (ax : List ℤ) (i aTo : ℕ) (bx : List ℤ) (j bTo : ℕ) where
 
 -- ---- a reference read from its columns
 
-module _ (rx ry xs ys : List ℤ) (at from to k count looks distances : ℕ) (r : Results)
-    (asked : ReferenceAsked rx ry xs ys at from to k count looks distances r) (x y : ℤ) (across : x ≡ getD rx at (pos 0)) (up : y ≡ getD ry at (pos 0)) where
-  pub reference-asks : ScanAsked xs ys x y to k count looks distances r
-  reference-asks = record {
-    across = rw across (all-test-at within rx at (pos 0) (asked .reference .xs-within) (asked .at-inside));
-    up = rw up (all-test-at within ry at (pos 0) (asked .reference .ys-within) (omega (arith, asked .at-inside, asked .reference .equal)));
-    others = asked .others;
-    to-inside = asked .to-inside;
-    some = asked .some;
-    ready = asked .ready;
-    looks-fit = asked .looks-fit;
-    distances-fit = asked .distances-fit;
-  }
+-- What a look from it tests and offers.
+pub looks-first : {o : Reference} (xs ys : List ℤ) (i : ℕ) → o ≡ referenceAt xs ys i false → lookFrom o ≡ look (spot xs ys i)
+unfolding referenceAt lookFrom spot
+looks-first xs ys i is = rw is
 
-  pub reference-scanned : (swapped : Bool) (run : List Placed) (s : State) {after : Results} {new l d steps : ℕ}
-      → ScannedTo k r count (scan k (map (lookFrom swapped (spotOf x y at)) run) s) after new l d steps
-      → ScannedTo k r count (scan k (map (lookFrom swapped (spot rx ry at)) run) s) after new l d steps
-  unfolding spot
-  reference-scanned swapped run s h = scanned-read x (getD rx at (pos 0)) y (getD ry at (pos 0)) across up at swapped run s h
+pub looks-second : {o : Reference} (xs ys : List ℤ) (i : ℕ) → o ≡ referenceAt xs ys i true → lookFrom o ≡ (λ c. look c (spot xs ys i))
+unfolding referenceAt lookFrom spot
+looks-second xs ys i is = rw is
+
+-- What its scan asks.
+pub reference-asks : {rx ry xs ys : List ℤ} {i from to k : ℕ} (swapped : Bool) {o : Reference} {t : Tally} {r : Results}
+    → Coordinates rx ry → i < length rx → o ≡ referenceAt rx ry i swapped → Coordinates xs ys → from ≤ to → to ≤ length xs
+    → TallyReady k t r → (t .looks ≤ 2 ^ 62) × (t .distances ≤ 2 ^ 62) → ScanAsked o xs ys from to k t r
+unfolding referenceAt
+reference-asks {i = i} swapped own at is others range inside tally fits = record {
+  across = rw is (coordinate-x own i at);
+  up = rw is (coordinate-y own i at);
+  others = others;
+  range = range;
+  to-inside = inside;
+  tally = tally;
+  looks-fit = fits .0;
+  distances-fit = fits .1;
+}
 
 -- ---- what a sweep leaves
-
-length-rightward : (xs ys : List ℤ) (from n : ℕ) → length (rightward xs ys from n) ≡ n
-unfolding rightward
-length-rightward xs ys from zero = refl
-length-rightward xs ys from (suc n) = ap suc (length-rightward xs ys (suc from) n)
 
 module _ (way : Way) (ax ay bx by : List ℤ) (aFrom aTo bFrom bTo k old : ℕ) (before : Results) (asked : SweepAsked ax ay bx by aFrom aTo bFrom bTo k old before) where
   -- The state in the end.
   abbrev pub swept : State
   swept = sweep way k (rightward ax ay aFrom (aTo - aFrom)) (rightward bx by bFrom (bTo - bFrom)) (entriesOf old before)
 
-  -- Counters that have not passed those in the end have room.
-  pub swept-fits : (looks distances : ℕ) → looks ≤ swept .looks → distances ≤ swept .distances → (looks ≤ 2 ^ 62) × (distances ≤ 2 ^ 62)
-  swept-fits looks distances l d =
+  -- Counters on the way there have room.
+  pub swept-fits : {n : ℕ} (t : Tally) (r : Results) → Counted n (stateOf t r) swept → (t .looks ≤ 2 ^ 62) × (t .distances ≤ 2 ^ 62)
+  unfolding stateOf
+  swept-fits t r c =
       let p = rightward ax ay aFrom (aTo - aFrom) in
       let q = rightward bx by bFrom (bTo - bFrom) in
       let m = length-rightward ax ay aFrom (aTo - aFrom) in
       let n = length-rightward bx by bFrom (bTo - bFrom) in
       let f = sweep-looks-fit way k p q (entriesOf old before) (omega (arith, asked .a-inside, asked .a .few)) (omega (arith, asked .b-inside, asked .b .few)) in
       let g = sweep-distances-bound way k p q (entriesOf old before) in
-      omega arith
+      omega (arith, c .looks-from, c .distances-from)
 
-  -- The answer from the state that the columns and counters hold.
-  pub swept-strips : (r : Results) (count looks distances : ℕ) (answer : Swept)
-      → (answer .entries ≡ count) × (answer .looks .0 ≡ looks) × (answer .distances .0 ≡ distances) → Held k before old r count → stateOf count r looks distances ≡ swept
+  -- The answer from the state that the tally and the columns hold.
+  pub swept-strips : {r : Results} {t : Tally} {answer : Swept} → Tallied k before old swept r t
+      → (answer .entries ≡ t .count) × (answer .looks .0 ≡ t .looks) × (answer .distances .0 ≡ t .distances)
       → SweptStrips way ax ay bx by aFrom aTo bFrom bTo k old before r answer
   unfolding stateOf
-  swept-strips r count looks distances answer told held is = record {
+  swept-strips {r} {t} h told = record {
     numbered = λ an bn la lb.
         let same = sweep-strips way k (columns ax ay an) (columns bx by bn) aFrom aTo bFrom bTo (entriesOf old before) la lb (asked .a-inside) (asked .b-inside) in
-        let whole : stateOf count r looks distances ≡ _ = is ∙ sym same in
+        let whole : stateOf t r ≡ _ = h .state ∙ sym same in
         record {
-          entries = told .0 ∙ sym (length-entries k count r (held .ready .room) (held .ready .most)) ∙ ap (λ (s : State). length (s .entries)) whole;
+          entries = told .0 ∙ sym (length-entries k (t .count) r (h .held .ready .room) (h .held .ready .most)) ∙ ap (λ (s : State). length (s .entries)) whole;
           looks = told .1 ∙ ap (λ (s : State). s .looks) whole;
           distances = told .2 ∙ ap (λ (s : State). s .distances) whole;
-          columns = held .rest ∙ ap (λ (s : State). holding (s .entries) before) whole;
+          columns = h .held .rest ∙ ap (λ (s : State). holding (s .entries) before) whole;
         };
   }

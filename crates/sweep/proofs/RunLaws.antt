@@ -1,20 +1,13 @@
 -- Laws of runs of sites read from two columns.
-use mathlib.Core.Path.{_≡_, refl, sym, ap, ap₂, _∙_}
-use mathlib.Core.Bool.{Bool, true, false, cond}
-use mathlib.Core.List.{List, [], _∷_, _++_, map}
+use mathlib.Core.Path.{_≡_, refl, sym, ap, _∙_}
+use mathlib.Core.List.{List, [], _∷_}
 use Prim.Native.Nat.{ℕ, zero, suc, _+_, _-_, _≤_, _<_}
 use native.Mathlib.Numerals.{add-one}
 use native.Mathlib.Omega.{arith}
-use lib.IntN.{ℤ, pos}
-use lib.ListN.{length, take, drop, getD}
-use Rattle.site.specs.Site.{gap, square, squaredDistance}
-use Rattle.site.specs.SiteList.{site}
-use Rattle.site.proofs.Distance.{gap-sym, squared-distance-is}
-use Rattle.entry.specs.declared.Entry.{Entry}
-use Rattle.entry.specs.Entry.{entry}
-use Rattle.sweep.specs.Strip.{Placed, pair}
-use Rattle.sweep.specs.Sweep.{look}
-use Rattle.sweep.specs.Runs.{spotOf, spot, rightward, leftward, lookFrom}
+use lib.IntN.{ℤ}
+use lib.ListN.{length, take}
+use Rattle.sweep.specs.Strip.{Placed}
+use Rattle.sweep.specs.Runs.{spot, rightward, leftward}
 
 module _ (xs ys : List ℤ) where
   pub rightward-nil : (from to : ℕ) → to ≤ from → rightward xs ys from (to - from) ≡ []
@@ -58,39 +51,24 @@ module _ (xs ys : List ℤ) where
       rw (same, at) (ap (λ (r : List Placed). spot xs ys (limit + n) ∷ r) (take-first limit m n (omega arith)))
 
   -- What a scan passed stands past the new limit.
-  pub take-leftward : (limit stop at : ℕ) → limit ≤ stop → stop ≤ at
-      → take (at - stop) (leftward xs ys limit (at - limit)) ≡ leftward xs ys stop (at - stop)
-  take-leftward limit stop at h g =
-      let same : limit + ((at - limit) - (at - stop)) ≡ stop = omega arith in
-      take-first limit (at - stop) (at - limit) (omega arith) ∙ ap (λ (n : ℕ). leftward xs ys n (at - stop)) same
+  pub take-leftward : (limit stop at n : ℕ) → limit ≤ stop → stop + n ≡ at
+      → take n (leftward xs ys limit (at - limit)) ≡ leftward xs ys stop (at - stop)
+  take-leftward limit stop at n h g =
+      let same : limit + ((at - limit) - n) ≡ stop = omega arith in
+      let rest : at - stop ≡ n = omega arith in
+      rw (take-first limit n (at - limit) (omega arith), same, rest)
 
--- ---- a look
+  pub length-rightward : (from n : ℕ) → length (rightward xs ys from n) ≡ n
+  unfolding rightward
+  length-rightward from zero = refl
+  length-rightward from (suc n) = ap suc (length-rightward (suc from) n)
 
-module _ (swapped : Bool) (x y : ℤ) (place : ℕ) (xs ys : List ℤ) (i : ℕ) where
-  -- The x-difference squared, from either side.
-  pub look-gap : lookFrom swapped (spotOf x y place) (spot xs ys i) .gap ≡ square (gap x (getD xs i (pos 0)))
-  unfolding lookFrom look spot
-  look-gap = go swapped
-    where
-      go : (b : Bool) → cond b (look (spot xs ys i) (spotOf x y place)) (look (spotOf x y place) (spot xs ys i)) .gap ≡ square (gap x (getD xs i (pos 0)))
-      go true = ap square (gap-sym (getD xs i (pos 0)) x)
-      go false = refl
+  pub length-leftward : (limit n : ℕ) → length (leftward xs ys limit n) ≡ n
+  unfolding leftward
+  length-leftward limit zero = refl
+  length-leftward limit (suc n) = ap suc (length-leftward limit n)
 
-  -- The entry, by the two squared differences.
-  pub look-entry : cond swapped (entry (square (gap x (getD xs i (pos 0))) + square (gap y (getD ys i (pos 0)))) i place) (entry (square (gap x (getD xs i (pos 0))) + square (gap y (getD ys i (pos 0)))) place i)
-      ≡ lookFrom swapped (spotOf x y place) (spot xs ys i) .entry
-  unfolding lookFrom look spot pair
-  look-entry = go swapped
-    where
-      near : square (gap x (getD xs i (pos 0))) + square (gap y (getD ys i (pos 0))) ≡ squaredDistance (site x y 0) (site (getD xs i (pos 0)) (getD ys i (pos 0)) 0)
-      near = sym (squared-distance-is (site x y 0) (site (getD xs i (pos 0)) (getD ys i (pos 0)) 0))
-
-      far : square (gap x (getD xs i (pos 0))) + square (gap y (getD ys i (pos 0))) ≡ squaredDistance (site (getD xs i (pos 0)) (getD ys i (pos 0)) 0) (site x y 0)
-      far =
-          ap₂ _+_ (ap square (gap-sym x (getD xs i (pos 0)))) (ap square (gap-sym y (getD ys i (pos 0))))
-          ∙ sym (squared-distance-is (site (getD xs i (pos 0)) (getD ys i (pos 0)) 0) (site x y 0))
-
-      go : (b : Bool) → cond b (entry (square (gap x (getD xs i (pos 0))) + square (gap y (getD ys i (pos 0)))) i place) (entry (square (gap x (getD xs i (pos 0))) + square (gap y (getD ys i (pos 0)))) place i)
-          ≡ cond b (look (spot xs ys i) (spotOf x y place)) (look (spotOf x y place) (spot xs ys i)) .entry
-      go true = ap (λ (d : ℕ). entry d i place) far
-      go false = ap (λ (d : ℕ). entry d place i) near
+  -- A scan to the left that ended at place `at`, having passed `n` sites.
+  pub left-limit : (limit at taken n : ℕ) → limit ≤ at → at ≤ taken
+      → length (leftward xs ys limit (at - limit)) + n ≡ length (leftward xs ys limit (taken - limit)) → at + n ≡ taken
+  left-limit limit at taken n h g is = omega (arith, length-leftward limit (at - limit), length-leftward limit (taken - limit))

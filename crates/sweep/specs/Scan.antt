@@ -36,6 +36,18 @@ offered k c s =
       distances = suc (s .distances);
     }
 
+-- What a look leaves: whether it stopped the scan, and the state.
+pub record LookDone : Type 0 where
+  pub stopped : Bool
+  pub state : State
+
+-- "At a look, if the list has K entries and the x-difference squared is greater than the last entry's squared distance, the
+-- scan stops. Otherwise the distance is worked out and the pair takes its place by rank, the entry past K dropping out."
+abbrev pub lookAt : ℕ → Candidate → State → LookDone
+lookAt k c s =
+    let stop = beyond k (s .entries) (c .gap) in
+    record { stopped = stop; state = cond stop (looked s) (offered k c s) }
+
 -- The state after a scan, and how many candidates it passed before it stopped or ran out.
 pub record Scanned : Type 0 where
   pub state : State
@@ -44,6 +56,7 @@ pub record Scanned : Type 0 where
 unfoldable pub scan : ℕ → List Candidate → State → Scanned
 scan k [] s = record { state = s; passed = 0 }
 scan k (c ∷ l) s =
-    let r = scan k l (offered k c s) in
+    let d = lookAt k c s in
+    let r = scan k l (d .state) in
     let on : Scanned = record { state = r .state; passed = suc (r .passed) } in
-    cond (beyond k (s .entries) (c .gap)) (record { state = looked s; passed = 0 }) on
+    cond (d .stopped) (record { state = d .state; passed = 0 }) on

@@ -8,11 +8,14 @@ use lib.ListN.{length}
 use Rattle.site.specs.Site.{within}
 use Rattle.site.specs.SiteList.{Level, Coordinates, columns, sites}
 use Rattle.entry.specs.Results.{Results, entriesOf, holding, roomFor}
-use Rattle.entry.specs.Offered.{Ready}
+use Rattle.entry.specs.Offered.{Ready, reachOf}
+use Rattle.sweep.specs.declared.Looked.{Looked}
+use Rattle.sweep.specs.declared.Reference.{Reference}
 use Rattle.sweep.specs.declared.Swept.{Swept}
+use Rattle.sweep.specs.declared.Tally.{Tally}
 use Rattle.sweep.specs.declared.Way.{Way}
 use Rattle.sweep.specs.Strip.{strip}
-use Rattle.sweep.specs.Scan.{State, Scanned}
+use Rattle.sweep.specs.Scan.{State, LookDone}
 use Rattle.sweep.specs.Sweep.{sweep}
 use Rattle.sweep.specs.Runs.{stateOf}
 
@@ -41,28 +44,32 @@ pub record SweptStrips (way : Way) (ax ay bx by : List ℤ) (aFrom aTo bFrom bTo
       → SweptTo (sweep way k (strip aFrom aTo (sites (columns ax ay an))) (strip bFrom bTo (sites (columns bx by bn))) (entriesOf count before))
       before after answer
 
--- A scan asks: a reference and columns within the limits, and room to count on.
-pub record ScanAsked (xs ys : List ℤ) (x y : ℤ) (to k count looks distances : ℕ) (r : Results) : Type 0 where
-  pub across : within x ≡ true
-  pub up : within y ≡ true
-  pub others : Coordinates xs ys
-  pub to-inside : to ≤ length xs
+-- The tally is that of the columns, which are ready for up to `k` entries: they hold its entries, and its reach is theirs.
+pub record TallyReady (k : ℕ) (t : Tally) (r : Results) : Type 0 where
   pub some : 0 < k
-  pub ready : Ready k count r
-  pub looks-fit : looks ≤ 2 ^ 62
-  pub distances-fit : distances ≤ 2 ^ 62
+  pub ready : Ready k (t .count) r
+  pub reach : t .reach ≡ reachOf k (entriesOf (t .count) r)
 
--- A reference asks: a place of its list, and the other list's sites up to place `to`.
-pub record ReferenceAsked (rx ry xs ys : List ℤ) (at from to k count looks distances : ℕ) (r : Results) : Type 0 where
-  pub reference : Coordinates rx ry
-  pub at-inside : at < length rx
+-- A look asks: a reference and another site within the limits, and room to count on.
+pub record LookAsked (o : Reference) (xs ys : List ℤ) (i k : ℕ) (old : Tally) (r : Results) : Type 0 where
+  pub across : within (o .x) ≡ true
+  pub up : within (o .y) ≡ true
   pub others : Coordinates xs ys
-  pub from-to : from ≤ to
+  pub inside : i < length xs
+  pub tally : TallyReady k old r
+  pub looks-fit : old .looks < 2 ^ 63
+  pub distances-fit : old .distances < 2 ^ 63
+
+-- A scan asks the same for the sites from place `from` up to, not including, place `to`.
+pub record ScanAsked (o : Reference) (xs ys : List ℤ) (from to k : ℕ) (old : Tally) (r : Results) : Type 0 where
+  pub across : within (o .x) ≡ true
+  pub up : within (o .y) ≡ true
+  pub others : Coordinates xs ys
+  pub range : from ≤ to
   pub to-inside : to ≤ length xs
-  pub some : 0 < k
-  pub ready : Ready k count r
-  pub looks-fit : looks ≤ 2 ^ 62
-  pub distances-fit : distances ≤ 2 ^ 62
+  pub tally : TallyReady k old r
+  pub looks-fit : old .looks ≤ 2 ^ 62
+  pub distances-fit : old .distances ≤ 2 ^ 62
 
 -- The columns went from `before` with `old` entries to `r` with `count`, and hold nothing else that is new.
 pub record Held (k : ℕ) (before : Results) (old : ℕ) (r : Results) (count : ℕ) : Type 0 where
@@ -71,8 +78,13 @@ pub record Held (k : ℕ) (before : Results) (old : ℕ) (r : Results) (count : 
   pub least : old ≤ count
   pub rest : r ≡ holding (entriesOf count r) before
 
--- A scan promises the state and the number of sites passed that its steps give.
-pub record ScannedTo (k : ℕ) (before : Results) (old : ℕ) (t : Scanned) (r : Results) (count looks distances steps : ℕ) : Type 0 where
-  pub held : Held k before old r count
-  pub state : stateOf count r looks distances ≡ t .state
-  pub passed : steps ≡ t .passed
+-- The columns went from `before` with `old` entries to `r`, and with the tally they hold the state `s`.
+pub record Tallied (k : ℕ) (before : Results) (old : ℕ) (s : State) (r : Results) (t : Tally) : Type 0 where
+  pub held : Held k before old r (t .count)
+  pub reach : t .reach ≡ reachOf k (entriesOf (t .count) r)
+  pub state : stateOf t r ≡ s
+
+-- A look promises whether it stopped the scan, and the state that it leaves.
+pub record LookTold (k : ℕ) (before : Results) (old : ℕ) (d : LookDone) (r : Results) (l : Looked) : Type 0 where
+  pub stopped : l .stopped ≡ d .stopped
+  pub tally : Tallied k before old (d .state) r (l .tally)

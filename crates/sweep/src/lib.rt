@@ -2,21 +2,19 @@
 use entry::Entry;
 ghost use mathlib.Core.Path.{_≡_};
 ghost use mathlib.Core.Bool.{true, cond};
-ghost use mathlib.Core.List.{List, map};
-ghost use Prim.Native.Nat.{ℕ, _≤_, _<_, _-_};
+ghost use mathlib.Core.List.{map};
+ghost use Prim.Native.Nat.{_+_, _-_, _≤_, _<_};
 ghost use lib.IntN.{pos};
 ghost use lib.ListN.{length, getD};
-ghost use lib.Signed.{leZ};
-ghost use Rattle.site.specs.Site.{gap, square};
-ghost use Rattle.site.specs.SiteList.{columns, sites};
+ghost use Rattle.site.specs.Site.{within, gap, square, squaredDistance};
+ghost use Rattle.site.specs.SiteList.{Coordinates, site};
 ghost use Rattle.entry.specs.Entry.{entry};
 ghost use Rattle.entry.specs.Results.{results, entriesOf};
 ghost use Rattle.sweep.specs.declared.Way.the-variants.{Classic, ReverseRun};
-ghost use Rattle.sweep.specs.Strip.{strip};
-ghost use Rattle.sweep.specs.Scan.{scan};
+ghost use Rattle.sweep.specs.Scan.{lookAt, scan};
 ghost use Rattle.sweep.specs.Sweep.{sweep};
-ghost use Rattle.sweep.specs.Runs.{spotOf, spot, rightward, leftward, lookFrom, firstNext, stateOf};
-ghost use Rattle.sweep.specs.Terms.{SweepAsked, SweptStrips, ScanAsked, ReferenceAsked, ScannedTo};
+ghost use Rattle.sweep.specs.Runs.{spot, rightward, leftward, referenceAt, lookFrom, firstNext, stateOf};
+ghost use Rattle.sweep.specs.Terms.{SweepAsked, SweptStrips, LookAsked, ScanAsked, Tallied, LookTold};
 
 // How many looks a sweep made.
 pub struct Looks(pub u64);
@@ -37,258 +35,194 @@ pub struct Swept {
     pub distances: Distances,
 }
 
-// What a scan leaves: the place where it ended, the entry count and both counters.
-struct Scan {
+// A reference: its coordinates, its place, and whether it is the second list's.
+struct Reference {
+    x: i32,
+    y: i32,
+    place: u32,
+    swapped: bool,
+}
+
+// What a sweep carries: where the last scan to the left ended, the entry count, both counters, and the greatest squared distance
+// at which a pair can still enter.
+struct Tally {
     at: usize,
     count: usize,
     looks: u64,
     distances: u64,
+    reach: u64,
 }
 
-// The squared difference of a coordinate and that at a place of its column.
-fn squared_gap_at(column: &[i32], i: usize, v: i32) -> u64
-    requires { ⌜ i < length (now column) ⌝ }
-    ensures { λ r. ⌜ r ≡ square (gap v (getD (now (column .entry)) i (pos 0))) ⌝ }
+// What a look leaves: whether it stopped the scan, and the tally.
+struct Looked {
+    stopped: bool,
+    tally: Tally,
+}
+
+// The site at a place of its columns as a reference.
+fn reference_at(xs: &[i32], ys: &[i32], i: usize, swapped: bool) -> Reference
+    requires { ⌜ Coordinates (now xs) (now ys) × (i < length (now xs)) ⌝ }
+    ensures { λ r. ⌜ r ≡ referenceAt (now (xs .entry)) (now (ys .entry)) i swapped ⌝ }
 {
-    site::squared_gap(v, column[i])
+    Reference {
+        x: xs[i],
+        y: ys[i],
+        place: i as u32,
+        swapped,
+    }
+}
+
+// The squared x-difference of a reference and the site at a place of the other list.
+fn squared_gap_at(reference: Reference, xs: &[i32], i: usize) -> u64
+    requires { ⌜ i < length (now xs) ⌝ }
+    ensures { λ r. ⌜ r ≡ square (gap (reference .x) (getD (now (xs .entry)) i (pos 0))) ⌝ }
+{
+    site::squared_gap(reference.x, xs[i])
+}
+
+// The squared distance of a reference and the site at a place of the other list.
+fn squared_distance_at(reference: Reference, xs: &[i32], ys: &[i32], i: usize) -> u64
+    requires { ⌜ (within (reference .x) ≡ true) × (within (reference .y) ≡ true) × Coordinates (now xs) (now ys) × (i < length (now xs)) ⌝ }
+    ensures { λ r. ⌜
+        r ≡ squaredDistance (site (reference .x) (reference .y) 0) (site (getD (now (xs .entry)) i (pos 0)) (getD (now (ys .entry)) i (pos 0)) 0)
+        ⌝ }
+{
+    site::squared_distance(reference.x, reference.y, xs[i], ys[i])
 }
 
 // The pair of a reference and another site as an entry.
-fn pair_of(swapped: bool, distance: u64, reference: u32, other: u32) -> Entry
-    ensures { λ r. ⌜ r ≡ cond swapped (entry distance other reference) (entry distance reference other) ⌝ }
+fn pair_of(reference: Reference, distance: u64, other: u32) -> Entry
+    ensures { λ r. ⌜ r ≡ cond (reference .swapped) (entry distance other (reference .place)) (entry distance (reference .place) other) ⌝ }
 {
-    if swapped {
+    if reference.swapped {
         return Entry {
             distance,
             first: other,
-            second: reference,
+            second: reference.place,
         };
     }
     Entry {
         distance,
-        first: reference,
+        first: reference.place,
         second: other,
+    }
+}
+
+// A look from a reference at the site of a place of the other list. It stops the scan where the x-difference squared is past the
+// reach; otherwise the distance is worked out, and the pair takes its place by rank.
+fn look(
+    reference: Reference,
+    xs: &[i32],
+    ys: &[i32],
+    i: usize,
+    k: usize,
+    old: Tally,
+    distance: &mut [u64],
+    first: &mut [u32],
+    second: &mut [u32],
+) -> Looked
+    requires { ⌜ LookAsked reference (now xs) (now ys) i k old (results (now distance) (now first) (now second)) ⌝ }
+    ensures { λ l.
+        let before = results (now (distance .entry)) (now (first .entry)) (now (second .entry)) in
+        let after = results (now (distance .exit)) (now (first .exit)) (now (second .exit)) in
+        let candidate = lookFrom reference (spot (now (xs .entry)) (now (ys .entry)) i) in
+        ⌜ LookTold k before (old .count) (lookAt k candidate (stateOf old before)) after l ⌝ }
+{
+    let mut tally = old;
+    tally.looks += 1;
+    if tally.reach < squared_gap_at(reference, xs, i) {
+        return Looked {
+            stopped: true,
+            tally,
+        };
+    }
+    tally.distances += 1;
+    let squared = squared_distance_at(reference, xs, ys, i);
+    if tally.reach < squared {
+        return Looked {
+            stopped: false,
+            tally,
+        };
+    }
+    let e = pair_of(reference, squared, i as u32);
+    tally.count = entry::offer(distance, first, second, tally.count, k, e);
+    tally.reach = entry::reach(distance, tally.count, k);
+    Looked {
+        stopped: false,
+        tally,
     }
 }
 
 // A reference against the sites of a range of the other list, to the right, until a look stops it.
 fn scan_right(
+    reference: Reference,
     xs: &[i32],
     ys: &[i32],
     from: usize,
     to: usize,
-    x: i32,
-    y: i32,
-    place: u32,
-    swapped: bool,
     k: usize,
-    old: Scan,
+    old: Tally,
     distance: &mut [u64],
     first: &mut [u32],
     second: &mut [u32],
-) -> Scan
-    requires { ⌜ ScanAsked (now xs) (now ys) x y to k (old .count) (old .looks) (old .distances) (results (now distance) (now first) (now second)) ⌝ }
-    requires { ⌜ from ≤ to ⌝ }
-    ensures { λ r. ⌜
-        ScannedTo k (results (now (distance .entry)) (now (first .entry)) (now (second .entry))) (old .count)
-        (scan k (map (lookFrom swapped (spotOf x y place)) (rightward (now (xs .entry)) (now (ys .entry)) from (to - from)))
-        (stateOf (old .count) (results (now (distance .entry)) (now (first .entry)) (now (second .entry))) (old .looks) (old .distances)))
-        (results (now (distance .exit)) (now (first .exit)) (now (second .exit)))
-        (r .count) (r .looks) (r .distances) (r .at - from)
-        ⌝ }
+) -> Tally
+    requires { ⌜ ScanAsked reference (now xs) (now ys) from to k old (results (now distance) (now first) (now second)) ⌝ }
+    ensures { λ r.
+        let before = results (now (distance .entry)) (now (first .entry)) (now (second .entry)) in
+        let after = results (now (distance .exit)) (now (first .exit)) (now (second .exit)) in
+        let run = rightward (now (xs .entry)) (now (ys .entry)) from (to - from) in
+        ⌜ Tallied k before (old .count) (scan k (map (lookFrom reference) run) (stateOf old before) .state) after r ⌝ }
 {
     let mut at = from;
-    let mut count = old.count;
-    let mut looks = old.looks;
-    let mut distances = old.distances;
-    let mut reach = entry::reach(distance, count, k);
+    let mut tally = old;
     while at < to {
-        let i = at;
-        looks += 1;
-        let gap = squared_gap_at(xs, i, x);
-        if reach < gap {
-            return Scan {
-                at,
-                count,
-                looks,
-                distances,
-            };
+        let l = look(reference, xs, ys, at, k, tally, distance, first, second);
+        tally = l.tally;
+        if l.stopped {
+            return tally;
         }
-        distances += 1;
-        let squared = gap + squared_gap_at(ys, i, y);
-        at = i + 1;
-        if squared <= reach {
-            let e = pair_of(swapped, squared, place, i as u32);
-            count = entry::offer(distance, first, second, count, k, e);
-            reach = entry::reach(distance, count, k);
-        }
+        at += 1;
     }
-    Scan {
-        at,
-        count,
-        looks,
-        distances,
-    }
+    tally
 }
 
 // A reference against the other list's sites already taken, latest first, down to the left limit. The place where the scan ends
 // is the new left limit: it stops at the site in front of that place, which is never looked at again.
 fn scan_left(
+    reference: Reference,
     xs: &[i32],
     ys: &[i32],
     limit: usize,
     taken: usize,
-    x: i32,
-    y: i32,
-    place: u32,
-    swapped: bool,
     k: usize,
-    old: Scan,
+    old: Tally,
     distance: &mut [u64],
     first: &mut [u32],
     second: &mut [u32],
-) -> Scan
-    requires { ⌜ ScanAsked (now xs) (now ys) x y taken k (old .count) (old .looks) (old .distances) (results (now distance) (now first) (now second)) ⌝ }
-    requires { ⌜ limit ≤ taken ⌝ }
-    ensures { λ r. ⌜
-        ScannedTo k (results (now (distance .entry)) (now (first .entry)) (now (second .entry))) (old .count)
-        (scan k
-        (map (lookFrom swapped (spotOf x y place)) (leftward (now (xs .entry)) (now (ys .entry)) limit (taken - limit)))
-        (stateOf (old .count) (results (now (distance .entry)) (now (first .entry)) (now (second .entry))) (old .looks) (old .distances)))
-        (results (now (distance .exit)) (now (first .exit)) (now (second .exit)))
-        (r .count) (r .looks) (r .distances) (taken - r .at)
-        × ((limit ≤ r .at) × (r .at ≤ taken))
-        ⌝ }
+) -> Tally
+    requires { ⌜ ScanAsked reference (now xs) (now ys) limit taken k old (results (now distance) (now first) (now second)) ⌝ }
+    ensures { λ r.
+        let before = results (now (distance .entry)) (now (first .entry)) (now (second .entry)) in
+        let after = results (now (distance .exit)) (now (first .exit)) (now (second .exit)) in
+        let run = leftward (now (xs .entry)) (now (ys .entry)) limit (taken - limit) in
+        let scanned = scan k (map (lookFrom reference) run) (stateOf old before) in
+        ⌜ Tallied k before (old .count) (scanned .state) after r × (r .at + scanned .passed ≡ taken) ⌝ }
 {
     let mut at = taken;
-    let mut count = old.count;
-    let mut looks = old.looks;
-    let mut distances = old.distances;
-    let mut reach = entry::reach(distance, count, k);
+    let mut tally = old;
     let stop = loop {
         if at == limit {
             break at;
         }
-        let i = at - 1;
-        looks += 1;
-        let across = squared_gap_at(xs, i, x);
-        if reach < across {
+        let l = look(reference, xs, ys, at - 1, k, tally, distance, first, second);
+        tally = l.tally;
+        if l.stopped {
             break at;
         }
-        distances += 1;
-        let squared = across + squared_gap_at(ys, i, y);
-        at = i;
-        if squared <= reach {
-            let e = pair_of(swapped, squared, place, i as u32);
-            count = entry::offer(distance, first, second, count, k, e);
-            reach = entry::reach(distance, count, k);
-        }
+        at -= 1;
     };
-    Scan {
-        at: stop,
-        count,
-        looks,
-        distances,
-    }
-}
-
-// The site at place `at` as a reference, scanned to the right.
-fn reference_right(
-    rx: &[i32],
-    ry: &[i32],
-    at: usize,
-    swapped: bool,
-    xs: &[i32],
-    ys: &[i32],
-    from: usize,
-    to: usize,
-    k: usize,
-    old: Scan,
-    distance: &mut [u64],
-    first: &mut [u32],
-    second: &mut [u32],
-) -> Scan
-    requires { ⌜
-        ReferenceAsked (now rx) (now ry) (now xs) (now ys) at from to k (old .count) (old .looks) (old .distances)
-        (results (now distance) (now first) (now second))
-        ⌝ }
-    ensures { λ r. ⌜
-        ScannedTo k (results (now (distance .entry)) (now (first .entry)) (now (second .entry))) (old .count)
-        (scan k
-        (map (lookFrom swapped (spot (now (rx .entry)) (now (ry .entry)) at)) (rightward (now (xs .entry)) (now (ys .entry)) from (to - from)))
-        (stateOf (old .count) (results (now (distance .entry)) (now (first .entry)) (now (second .entry))) (old .looks) (old .distances)))
-        (results (now (distance .exit)) (now (first .exit)) (now (second .exit)))
-        (r .count) (r .looks) (r .distances) (r .at - from)
-        ⌝ }
-{
-    let place = at as u32;
-    let x = rx[at];
-    let y = ry[at];
-    scan_right(
-        xs,
-        ys,
-        from,
-        to,
-        x,
-        y,
-        place,
-        swapped,
-        k,
-        old,
-        distance,
-        first,
-        second,
-    )
-}
-
-// The site at place `at` as a reference, scanned to the left.
-fn reference_left(
-    rx: &[i32],
-    ry: &[i32],
-    at: usize,
-    swapped: bool,
-    xs: &[i32],
-    ys: &[i32],
-    limit: usize,
-    taken: usize,
-    k: usize,
-    old: Scan,
-    distance: &mut [u64],
-    first: &mut [u32],
-    second: &mut [u32],
-) -> Scan
-    requires { ⌜
-        ReferenceAsked (now rx) (now ry) (now xs) (now ys) at limit taken k (old .count) (old .looks) (old .distances)
-        (results (now distance) (now first) (now second))
-        ⌝ }
-    ensures { λ r. ⌜
-        ScannedTo k (results (now (distance .entry)) (now (first .entry)) (now (second .entry))) (old .count)
-        (scan k
-        (map (lookFrom swapped (spot (now (rx .entry)) (now (ry .entry)) at)) (leftward (now (xs .entry)) (now (ys .entry)) limit (taken - limit)))
-        (stateOf (old .count) (results (now (distance .entry)) (now (first .entry)) (now (second .entry))) (old .looks) (old .distances)))
-        (results (now (distance .exit)) (now (first .exit)) (now (second .exit)))
-        (r .count) (r .looks) (r .distances) (taken - r .at)
-        × ((limit ≤ r .at) × (r .at ≤ taken))
-        ⌝ }
-{
-    let place = at as u32;
-    let x = rx[at];
-    let y = ry[at];
-    scan_left(
-        xs,
-        ys,
-        limit,
-        taken,
-        x,
-        y,
-        place,
-        swapped,
-        k,
-        old,
-        distance,
-        first,
-        second,
-    )
+    tally.at = stop;
+    tally
 }
 
 // Whether the next reference is the first list's.
@@ -306,19 +240,19 @@ fn first_next(ax: &[i32], i: usize, a_to: usize, bx: &[i32], j: usize, b_to: usi
 }
 
 // What a sweep answers after its last scan.
-fn answer(s: Scan) -> Swept
-    requires { ⌜ s .count ≤ 4_096 ⌝ }
-    ensures { λ r. ⌜ (r .entries ≡ s .count) × (r .looks .0 ≡ s .looks) × (r .distances .0 ≡ s .distances) ⌝ }
+fn answer(tally: Tally) -> Swept
+    requires { ⌜ tally .count ≤ 4_096 ⌝ }
+    ensures { λ r. ⌜ (r .entries ≡ tally .count) × (r .looks .0 ≡ tally .looks) × (r .distances .0 ≡ tally .distances) ⌝ }
 {
     Swept {
-        entries: s.count as u32,
-        looks: Looks(s.looks),
-        distances: Distances(s.distances),
+        entries: tally.count as u32,
+        looks: Looks(tally.looks),
+        distances: Distances(tally.distances),
     }
 }
 
 // Two fingers over the strips: the reference with the smaller x is scanned to the right, and its finger moves on.
-pub fn classic(
+fn classic(
     ax: &[i32],
     ay: &[i32],
     bx: &[i32],
@@ -332,67 +266,43 @@ pub fn classic(
     distance: &mut [u64],
     first: &mut [u32],
     second: &mut [u32],
-) -> Swept
+) -> Tally
     requires { ⌜
         SweepAsked (now ax) (now ay) (now bx) (now by) «a_from» «a_to» «b_from» «b_to» k count
         (results (now distance) (now first) (now second))
         ⌝ }
-    ensures { λ r. ⌜
-        SweptStrips Classic (now (ax .entry)) (now (ay .entry)) (now (bx .entry)) (now (by .entry)) «a_from» «a_to» «b_from» «b_to» k count
-        (results (now (distance .entry)) (now (first .entry)) (now (second .entry)))
-        (results (now (distance .exit)) (now (first .exit)) (now (second .exit))) r
-        ⌝ }
+    ensures { λ r.
+        let before = results (now (distance .entry)) (now (first .entry)) (now (second .entry)) in
+        let after = results (now (distance .exit)) (now (first .exit)) (now (second .exit)) in
+        let a = rightward (now (ax .entry)) (now (ay .entry)) «a_from» («a_to» - «a_from») in
+        let b = rightward (now (bx .entry)) (now (by .entry)) «b_from» («b_to» - «b_from») in
+        ⌜ Tallied k before count (sweep Classic k a b (entriesOf count before)) after r ⌝ }
 {
     let mut i = a_from;
     let mut j = b_from;
-    let mut s = Scan {
+    let mut tally = Tally {
         at: 0,
         count,
         looks: 0,
         distances: 0,
+        reach: entry::reach(distance, count, k),
     };
     while i < a_to && j < b_to {
         if first_next(ax, i, a_to, bx, j, b_to) {
-            s = reference_right(
-                ax,
-                ay,
-                i,
-                false,
-                bx,
-                by,
-                j,
-                b_to,
-                k,
-                s,
-                distance,
-                first,
-                second,
-            );
+            let r = reference_at(ax, ay, i, false);
+            tally = scan_right(r, bx, by, j, b_to, k, tally, distance, first, second);
             i += 1;
         } else {
-            s = reference_right(
-                bx,
-                by,
-                j,
-                true,
-                ax,
-                ay,
-                i,
-                a_to,
-                k,
-                s,
-                distance,
-                first,
-                second,
-            );
+            let r = reference_at(bx, by, j, true);
+            tally = scan_right(r, ax, ay, i, a_to, k, tally, distance, first, second);
             j += 1;
         }
     }
-    answer(s)
+    tally
 }
 
 // References in ascending x, each against the other list's sites already taken, latest first, down to that list's left limit.
-pub fn reverse_run(
+fn reverse_run(
     ax: &[i32],
     ay: &[i32],
     bx: &[i32],
@@ -406,70 +316,46 @@ pub fn reverse_run(
     distance: &mut [u64],
     first: &mut [u32],
     second: &mut [u32],
-) -> Swept
+) -> Tally
     requires { ⌜
         SweepAsked (now ax) (now ay) (now bx) (now by) «a_from» «a_to» «b_from» «b_to» k count
         (results (now distance) (now first) (now second))
         ⌝ }
-    ensures { λ r. ⌜
-        SweptStrips ReverseRun (now (ax .entry)) (now (ay .entry)) (now (bx .entry)) (now (by .entry)) «a_from» «a_to» «b_from» «b_to» k count
-        (results (now (distance .entry)) (now (first .entry)) (now (second .entry)))
-        (results (now (distance .exit)) (now (first .exit)) (now (second .exit))) r
-        ⌝ }
+    ensures { λ r.
+        let before = results (now (distance .entry)) (now (first .entry)) (now (second .entry)) in
+        let after = results (now (distance .exit)) (now (first .exit)) (now (second .exit)) in
+        let a = rightward (now (ax .entry)) (now (ay .entry)) «a_from» («a_to» - «a_from») in
+        let b = rightward (now (bx .entry)) (now (by .entry)) «b_from» («b_to» - «b_from») in
+        ⌜ Tallied k before count (sweep ReverseRun k a b (entriesOf count before)) after r ⌝ }
 {
     let mut i = a_from;
     let mut j = b_from;
     let mut a_limit = a_from;
     let mut b_limit = b_from;
-    let mut s = Scan {
+    let mut tally = Tally {
         at: 0,
         count,
         looks: 0,
         distances: 0,
+        reach: entry::reach(distance, count, k),
     };
     'references: loop {
         if first_next(ax, i, a_to, bx, j, b_to) {
-            s = reference_left(
-                ax,
-                ay,
-                i,
-                false,
-                bx,
-                by,
-                b_limit,
-                j,
-                k,
-                s,
-                distance,
-                first,
-                second,
-            );
-            b_limit = s.at;
+            let r = reference_at(ax, ay, i, false);
+            tally = scan_left(r, bx, by, b_limit, j, k, tally, distance, first, second);
+            b_limit = tally.at;
             i += 1;
             continue 'references;
         }
         if b_to <= j {
             break 'references;
         }
-        s = reference_left(
-            bx,
-            by,
-            j,
-            true,
-            ax,
-            ay,
-            a_limit,
-            i,
-            k,
-            s,
-            distance,
-            first,
-            second,
-        );
-        a_limit = s.at;
+        let r = reference_at(bx, by, j, true);
+        tally = scan_left(r, ax, ay, a_limit, i, k, tally, distance, first, second);
+        a_limit = tally.at;
         j += 1;
     }
-    answer(s)
+    tally
 }
 
 // The sweep named.
@@ -500,7 +386,7 @@ pub fn run(
         ⌝ }
 {
     match way {
-        Way::Classic => classic(
+        Way::Classic => answer(classic(
             ax,
             ay,
             bx,
@@ -514,9 +400,9 @@ pub fn run(
             distance,
             first,
             second,
-        ),
+        )),
         Way::ReverseRun => {
-            reverse_run(
+            answer(reverse_run(
                 ax,
                 ay,
                 bx,
@@ -530,7 +416,7 @@ pub fn run(
                 distance,
                 first,
                 second,
-            )
+            ))
         }
     }
 }

@@ -1,144 +1,80 @@
--- A scan to the right: each turn is one look, by the law of its outcome.
-use Prim.Native.Nat.{_-_}
-use mathlib.Core.Bool.{true}
+-- A scan to the right: each turn is one look.
+use Prim.Native.Nat.{_-_, _≤_}
 use native.Mathlib.Omega.{arith}
 use borrow.Author.Needs.{needs}
-use mir.Syntax.{w32}
-use mir.Val.{toZ, ofZ}
-use mir.Facts.{toZ-ofZ}
 use Rattle.entry.specs.Results.{results}
-use Rattle.sweep.specs.Runs.{rightward, stateOf}
-use Rattle.sweep.specs.Terms.{ScanAsked}
-use Rattle.sweep.proofs.HeldLaws.{held-lengths, reach-asks, ready-after}
-use Rattle.sweep.proofs.ScanRuns.{across-within, up-within, asked-read, scanned-read}
-use Rattle.sweep.proofs.RightScan.{Right, right-starts, right-fits, right-ends, right-stops, right-passes, right-offers}
+use Rattle.sweep.specs.Runs.{rightward}
+use Rattle.sweep.proofs.RunLaws.{rightward-nil, rightward-cons, length-rightward}
+use Rattle.sweep.proofs.HeldLaws.{SameLengths, held-lengths}
+use Rattle.sweep.proofs.Scanning.{Scanning, scanning-starts, scanning-asks, scanning-ends, scanning-stops, scanning-goes}
 use Rattle.sweep.proofs.scan_right.Statement.{statement}
 use Rattle.sweep.proofs.scan_right.Tie as tie
 
 abbrev Inv-loop : tie.InvT-loop
-Inv-loop xs ys from to x y place swapped k distance₀ first₀ second₀ at₀ count₀ looks₀ distances₀ reach₀ distance first second at count looks distances reach =
-    Right xs ys (toZ w32 x) (toZ w32 y) place swapped from to k count₀ looks₀ distances₀ (results distance₀ first₀ second₀) (results distance first second) at count looks distances reach
+Inv-loop reference xs ys from to k distance₀ first₀ second₀ at₀ tally₀ distance first second at tally =
+    SameLengths (results distance₀ first₀ second₀) (results distance first second)
+    × (at ≤ to)
+    × Scanning k (results distance₀ first₀ second₀) tally₀ reference (rightward xs ys from (to - from)) (rightward xs ys at (to - at)) (results distance first second) tally
 
 abbrev μ-loop : tie.MeasureT-loop
-μ-loop xs ys from to x y place swapped k distance₀ first₀ second₀ at₀ count₀ looks₀ distances₀ reach₀ distance first second at count looks distances reach =
+μ-loop reference xs ys from to k distance₀ first₀ second₀ at₀ tally₀ distance first second at tally =
     to - at
 
-asked : (s : tie.Start Inv-loop μ-loop) → ScanAsked (s .args .xs .now) (s .args .ys .now) (toZ w32 (ofZ w32 (s .args .x))) (toZ w32 (ofZ w32 (s .args .y)))
-    (s .args .to) (s .args .k) (s .args .old .count) (s .args .old .looks) (s .args .old .distances) (results (s .args .distance .now) (s .args .first .now) (s .args .second .now))
-asked s = asked-read _ _ _ _ (toZ-ofZ (s .fits .x)) (toZ-ofZ (s .fits .y)) (s .pre .0)
-
-reach-requires : tie.Need-reach-requires Inv-loop μ-loop
-reach-requires c κs = search needs
-
 loop-holds : tie.Need-loop-holds Inv-loop μ-loop
-loop-holds c = right-starts _ _ _ _ _ _ _ _ _ _ _ _ _ (asked (c .before .before .before .before .before)) _ (c .before .before .before .before .before .pre .1) (c .reach .ensures)
+loop-holds c =
+    let s = c .before .before .before in
+    let n = length-rightward (s .args .xs .now) (s .args .ys .now) (s .args .from) (s .args .to - s .args .from) in
+    (search needs, s .pre .range, scanning-starts (s .pre) _ (omega arith))
 
-add-looks : tie.Need-add-looks Inv-loop μ-loop
-add-looks c =
-    let l = c .before in
-    let f = right-fits _ _ _ _ _ _ _ _ _ _ _ _ _ (asked (l .before .before .before .before .before .before)) _ _ _ _ _ _ (l .loop .inv) in
-    omega arith
-
-squared-gap-at-requires : tie.Need-squared-gap-at-requires Inv-loop μ-loop
-squared-gap-at-requires c κs =
-    let l = c .before in
-    let a = l .before .before .before .before .before .before .pre .0 in
-    omega (arith, a .to-inside)
+look-requires : tie.Need-look-requires Inv-loop μ-loop
+look-requires c κs =
+    let t = c .before .before .before in
+    let l = t .before in
+    scanning-asks (l .before .before .before .before .pre) (l .loop .inv .2) _ (rightward-cons _ _ _ _ (t .loop-test .taken)) (t .loop-test .taken)
 
 same-length : tie.Need-same-length Inv-loop μ-loop
-same-length c = held-lengths _ _ _ _ _ (c .before .before .before .loop .inv .progress .held) .0
+same-length c = search needs
 
 same-length-2 : tie.Need-same-length-2 Inv-loop μ-loop
-same-length-2 c = held-lengths _ _ _ _ _ (c .before .before .before .loop .inv .progress .held) .1
+same-length-2 c = search needs
 
 same-length-3 : tie.Need-same-length-3 Inv-loop μ-loop
-same-length-3 c = held-lengths _ _ _ _ _ (c .before .before .before .loop .inv .progress .held) .2
+same-length-3 c = search needs
 
 returns : tie.Need-returns Inv-loop μ-loop
 returns c =
-    let l = c .before .before .before in
-    let s = l .before .before .before .before .before .before in
-    scanned-read _ _ _ _ (toZ-ofZ (s .fits .x)) (toZ-ofZ (s .fits .y)) (s .args .place) (s .args .swapped)
-    (rightward (s .args .xs .now) (s .args .ys .now) (s .args .from) (s .args .to - s .args .from))
-    (stateOf (s .args .old .count) (results (s .args .distance .now) (s .args .first .now) (s .args .second .now)) (s .args .old .looks) (s .args .old .distances))
-    (right-stops _ _ _ _ _ _ _ _ _ _ _ _ _ (asked (l .before .before .before .before .before .before)) _ _ _ _ _ _ (l .loop .inv) (c .before .before .loop-test .taken) _ (c .before .squared-gap-at .ensures) (c .if1 .taken))
-
-add-distances : tie.Need-add-distances Inv-loop μ-loop
-add-distances c =
-    let l = c .before .before .before in
-    let f = right-fits _ _ _ _ _ _ _ _ _ _ _ _ _ (asked (l .before .before .before .before .before .before)) _ _ _ _ _ _ (l .loop .inv) in
-    omega arith
-
-squared-gap-at-requires-2 : tie.Need-squared-gap-at-requires-2 Inv-loop μ-loop
-squared-gap-at-requires-2 c κs =
-    let l = c .before .before .before in
-    let a = l .before .before .before .before .before .before .pre .0 in
-    omega (arith, a .to-inside, a .others .equal)
-
-add-squared : tie.Need-add-squared Inv-loop μ-loop
-add-squared c =
-    let l = c .before .before .before .before in
-    let a = across-within _ _ _ _ 0 true _ _ _ _ _ _ (asked (l .before .before .before .before .before .before)) (l .loop .at) (c .before .before .before .loop-test .taken) in
-    let b = up-within _ _ _ _ 0 true _ _ _ _ _ _ (asked (l .before .before .before .before .before .before)) (l .loop .at) (c .before .before .before .loop-test .taken) in
-    omega (arith, c .before .before .squared-gap-at .ensures, c .squared-gap-at2 .ensures)
+    let d = c .before .before .before .before .before .before .before .before in
+    let t = d .before .before .before .before in
+    let l = t .before in
+    scanning-stops (l .before .before .before .before .pre) (l .loop .inv .2) (rightward-cons _ _ _ _ (t .loop-test .taken)) (d .look .ensures) (c .if1 .taken) .tallied
 
 add-at : tie.Need-add-at Inv-loop μ-loop
-add-at c =
-    let l = c .before .before .before .before in
-    let f = right-fits _ _ _ _ _ _ _ _ _ _ _ _ _ (asked (l .before .before .before .before .before .before)) _ _ _ _ _ _ (l .loop .inv) in
-    omega arith
-
-cast-pair-of : tie.Need-cast-pair-of Inv-loop μ-loop
-cast-pair-of c =
-    let l = c .before .before .before .before .before in
-    let f = right-fits _ _ _ _ _ _ _ _ _ _ _ _ _ (asked (l .before .before .before .before .before .before)) _ _ _ _ _ _ (l .loop .inv) in
-    omega arith
-
-pair-of-requires : tie.Need-pair-of-requires Inv-loop μ-loop
-pair-of-requires c κs = search needs
-
-offer-requires : tie.Need-offer-requires Inv-loop μ-loop
-offer-requires c κs = c .before .before .before .before .before .before .before .before .before .loop .inv .progress .held .ready
-
-reach-requires-2 : tie.Need-reach-requires-2 Inv-loop μ-loop
-reach-requires-2 c κs = search needs
+add-at c = search needs
 
 loop-less : tie.Need-loop-less Inv-loop μ-loop
 loop-less c = search needs
 
 loop-again : tie.Need-loop-again Inv-loop μ-loop
 loop-again c =
-    let o = c .before .before .before .before .before .before .before .before in
-    let v = o .before .before .before .before .before .before in
-    let l = v .before .before .before .before in
-    right-offers _ _ _ _ _ _ _ _ _ _ _ _ _ (asked (l .before .before .before .before .before .before)) _ _ _ _ _ _ (l .loop .inv) (v .before .before .before .loop-test .taken) _ (v .before .before .squared-gap-at .ensures) (v .before .if1 .left) _ (v .squared-gap-at2 .ensures) _ _ _ _ (o .before .before .before .before .pair-of .ensures) (o .offer .ensures) (c .reach2 .ensures)
-
-loop-less-2 : tie.Need-loop-less-2 Inv-loop μ-loop
-loop-less-2 c = search needs
-
-loop-again-2 : tie.Need-loop-again-2 Inv-loop μ-loop
-loop-again-2 c =
-    let v = c .before in
-    let l = v .before .before .before .before in
-    right-passes _ _ _ _ _ _ _ _ _ _ _ _ _ (asked (l .before .before .before .before .before .before)) _ _ _ _ _ _ (l .loop .inv) (v .before .before .before .loop-test .taken) _ (v .before .before .squared-gap-at .ensures) (v .before .if1 .left) _ (v .squared-gap-at2 .ensures) (c .if2 .left)
+    let d = c .before .before .before .before .before .before .before .before in
+    let t = d .before .before .before .before in
+    let l = t .before in
+    let p = scanning-goes (l .before .before .before .before .pre) (l .loop .inv .2) (rightward-cons _ _ _ _ (t .loop-test .taken)) (d .look .ensures) (c .if1 .left) in
+    (held-lengths _ _ _ _ _ (p .held), search needs, p)
 
 same-length-4 : tie.Need-same-length-4 Inv-loop μ-loop
-same-length-4 c = held-lengths _ _ _ _ _ (c .before .loop .inv .progress .held) .0
+same-length-4 c = search needs
 
 same-length-5 : tie.Need-same-length-5 Inv-loop μ-loop
-same-length-5 c = held-lengths _ _ _ _ _ (c .before .loop .inv .progress .held) .1
+same-length-5 c = search needs
 
 same-length-6 : tie.Need-same-length-6 Inv-loop μ-loop
-same-length-6 c = held-lengths _ _ _ _ _ (c .before .loop .inv .progress .held) .2
+same-length-6 c = search needs
 
 returns-2 : tie.Need-returns-2 Inv-loop μ-loop
 returns-2 c =
     let l = c .before in
-    let s = l .before .before .before .before .before .before in
-    scanned-read _ _ _ _ (toZ-ofZ (s .fits .x)) (toZ-ofZ (s .fits .y)) (s .args .place) (s .args .swapped)
-    (rightward (s .args .xs .now) (s .args .ys .now) (s .args .from) (s .args .to - s .args .from))
-    (stateOf (s .args .old .count) (results (s .args .distance .now) (s .args .first .now) (s .args .second .now)) (s .args .old .looks) (s .args .old .distances))
-    (right-ends _ _ _ _ _ _ _ _ _ _ _ _ _ (asked (l .before .before .before .before .before .before)) _ _ _ _ _ _ (l .loop .inv) (c .loop-test .left))
+    scanning-ends (l .before .before .before .before .pre) (l .loop .inv .2) (rightward-nil _ _ _ _ (c .loop-test .left)) .tallied
 
 pub scan-right-spec : {M : Type 1} → statement M
 scan-right-spec =
@@ -146,26 +82,15 @@ scan-right-spec =
     (tie.spec
     Inv-loop
     μ-loop
-    reach-requires
     loop-holds
-    add-looks
-    squared-gap-at-requires
+    look-requires
     same-length
     same-length-2
     same-length-3
     returns
-    add-distances
-    squared-gap-at-requires-2
-    add-squared
     add-at
-    cast-pair-of
-    pair-of-requires
-    offer-requires
-    reach-requires-2
     loop-less
     loop-again
-    loop-less-2
-    loop-again-2
     same-length-4
     same-length-5
     same-length-6

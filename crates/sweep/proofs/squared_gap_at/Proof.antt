@@ -1,6 +1,7 @@
--- An element of a coordinate column, and the squared difference that the callee gives.
-use mathlib.Core.Path.{_≡_}
+-- A coordinate of the reference and one of the column, and the squared difference that the callee gives.
 use lib.IntN.{ℤ}
+use mir.Syntax.{w32}
+use mir.Val.{SFits}
 use mir.Facts.{toZ-ofZ}
 use Rattle.site.specs.Site.{gap, square}
 use Rattle.site.proofs.Machine.{at₂}
@@ -17,8 +18,12 @@ shared-slice-copy-out-squared-gap c = search needs
 squared-gap-requires : tie.Need-squared-gap-requires
 squared-gap-requires c κs = search needs
 
+fits-x : (c : tie.After-struct-told) → SFits w32 (c .before .before .args .reference .x)
+fits-x c = sfits-of (search needs)
+
 returns : tie.Need-returns
-returns c = at₂ (λ (a b : ℤ). square (gap a b)) (toZ-ofZ (c .before .before .fits .v)) (toZ-ofZ (sfits-of (c .before .squared-gap-arg .given))) (c .squared-gap .ensures)
+returns c =
+    at₂ (λ (a b : ℤ). square (gap a b)) (toZ-ofZ (fits-x (c .before))) (toZ-ofZ (sfits-of (c .before .before .squared-gap-arg .given))) (c .squared-gap .ensures)
 
 pub squared-gap-at-spec : {M : Type 1} → statement M
 squared-gap-at-spec =

@@ -1,0 +1,117 @@
+-- Laws of a scan on its way, whichever way it goes.
+use mathlib.Core.Path.{_≡_, refl, sym, ap, _∙_}
+use mathlib.Core.Bool.{true, false}
+use mathlib.Core.List.{List, [], _∷_, map}
+use Prim.Native.Nat.{ℕ, suc, _+_, _≤_, _<_, _^_}
+use native.Mathlib.Omega.{arith}
+use lib.IntN.{ℤ}
+use lib.ListN.{length}
+use Rattle.entry.specs.Results.{Results, entriesOf}
+use Rattle.entry.specs.Offered.{reachOf}
+use Rattle.sweep.specs.declared.Looked.{Looked}
+use Rattle.sweep.specs.declared.Reference.{Reference}
+use Rattle.sweep.specs.declared.Tally.{Tally}
+use Rattle.sweep.specs.Strip.{Placed}
+use Rattle.sweep.specs.Scan.{State, Scanned, beyond, looked, offered, lookAt, scan}
+use Rattle.sweep.specs.Runs.{spot, lookFrom, stateOf}
+use Rattle.sweep.specs.Terms.{LookAsked, ScanAsked, Held, Tallied, LookTold}
+use Rattle.sweep.proofs.StepLaws.{scan-nil, scan-stop, scan-on}
+use Rattle.sweep.proofs.HeldLaws.{held-starts, held-joins}
+
+-- A reference's scan over a run of sites, from the state that a tally and the columns hold.
+abbrev scanned : ℕ → Reference → List Placed → Results → Tally → Scanned
+scanned k o run r t = scan k (map (lookFrom o) run) (stateOf t r)
+
+-- A scan on its way: the sites left, from the state held now, lead where all of them led from the first state.
+pub record Scanning (k : ℕ) (before : Results) (old : Tally) (o : Reference) (all left : List Placed) (r : Results) (t : Tally) : Type 0 where
+  pub held : Held k before (old .count) r (t .count)
+  pub reach : t .reach ≡ reachOf k (entriesOf (t .count) r)
+  pub state : scanned k o left r t .state ≡ scanned k o all before old .state
+  pub passed : length left + scanned k o all before old .passed ≡ length all + scanned k o left r t .passed
+  pub looks-fit : t .looks + length left ≤ 2 ^ 63
+  pub distances-fit : t .distances + length left ≤ 2 ^ 63
+
+-- A scan that ended with `n` sites not passed.
+pub record Ended (k : ℕ) (before : Results) (old : Tally) (o : Reference) (all : List Placed) (n : ℕ) (r : Results) (t : Tally) : Type 0 where
+  pub tallied : Tallied k before (old .count) (scanned k o all before old .state) r t
+  pub passed : n + scanned k o all before old .passed ≡ length all
+
+-- Where a scan ended is no part of the state.
+pub tallied-at : {k old n : ℕ} {before r : Results} {s : State} {t : Tally} → Tallied k before old s r t
+    → Tallied k before old s r (record { at = n; count = t .count; looks = t .looks; distances = t .distances; reach = t .reach })
+unfolding stateOf
+tallied-at h = record { held = h .held; reach = h .reach; state = h .state }
+
+module _ {o : Reference} {xs ys : List ℤ} {from to k : ℕ} {before : Results} {old : Tally} (asked : ScanAsked o xs ys from to k old before) where
+  pub scanning-starts : (all : List Placed) → length all ≤ to → Scanning k before old o all all before old
+  scanning-starts all n =
+      let few = asked .others .few in
+      let inside = asked .to-inside in
+      record {
+        held = held-starts k (old .count) before (asked .tally .ready);
+        reach = asked .tally .reach;
+        state = refl;
+        passed = refl;
+        looks-fit = omega (arith, asked .looks-fit);
+        distances-fit = omega (arith, asked .distances-fit);
+      }
+
+  module _ {all left : List Placed} {r : Results} {t : Tally} (p : Scanning k before old o all left r t) where
+    -- Nothing is left.
+    pub scanning-ends : left ≡ [] → Ended k before old o all (length left) r t
+    scanning-ends none =
+        let nil : scanned k o left r t ≡ record { state = stateOf t r; passed = 0 } = rw none (scan-nil k (stateOf t r)) in
+        record {
+          tallied = record { held = p .held; reach = p .reach; state = ap (λ (s : Scanned). s .state) (sym nil) ∙ p .state };
+          passed = omega (arith, p .passed, ap length none, ap (λ (s : Scanned). s .passed) nil);
+        }
+
+    -- The next look asks no more than the scan.
+    pub scanning-asks : {rest : List Placed} (i : ℕ) → left ≡ spot xs ys i ∷ rest → i < to → LookAsked o xs ys i k t r
+    scanning-asks i is under =
+        let n = ap length is in
+        record {
+          across = asked .across;
+          up = asked .up;
+          others = asked .others;
+          inside = omega (arith, asked .to-inside);
+          tally = record { some = asked .tally .some; ready = p .held .ready; reach = p .reach };
+          looks-fit = omega (arith, p .looks-fit);
+          distances-fit = omega (arith, p .distances-fit);
+        }
+
+    module _ {x : Placed} {rest : List Placed} (is : left ≡ x ∷ rest) {after : Results} {l : Looked}
+        (told : LookTold k r (t .count) (lookAt k (lookFrom o x) (stateOf t r)) after l) where
+      joined : Held k before (old .count) after (l .tally .count)
+      joined = held-joins k before (old .count) r (t .count) (p .held) after (l .tally .count) (told .tally .held)
+
+      -- The look stopped the scan.
+      pub scanning-stops : l .stopped ≡ true → Ended k before old o all (length left) after (l .tally)
+      scanning-stops h =
+          let stop : beyond k (stateOf t r .entries) (lookFrom o x .gap) ≡ true = sym (told .stopped) ∙ h in
+          let now : stateOf (l .tally) after ≡ looked (stateOf t r) = rw stop at (told .tally .state) in
+          let whole : scanned k o left r t ≡ record { state = looked (stateOf t r); passed = 0 }
+          = rw is (scan-stop k (lookFrom o x) (map (lookFrom o) rest) (stateOf t r) stop) in
+          record {
+            tallied = record { held = joined; reach = told .tally .reach; state = now ∙ ap (λ (s : Scanned). s .state) (sym whole) ∙ p .state };
+            passed = omega (arith, p .passed, ap (λ (s : Scanned). s .passed) whole);
+          }
+
+      -- The look went on.
+      pub scanning-goes : l .stopped ≡ false → Scanning k before old o all rest after (l .tally)
+      unfolding stateOf offered
+      scanning-goes h =
+          let on : beyond k (stateOf t r .entries) (lookFrom o x .gap) ≡ false = sym (told .stopped) ∙ h in
+          let now : stateOf (l .tally) after ≡ offered k (lookFrom o x) (stateOf t r) = rw on at (told .tally .state) in
+          let then = scan-on k (lookFrom o x) (map (lookFrom o) rest) (stateOf t r) on in
+          let whole : scanned k o left r t ≡ record { state = scanned k o rest after (l .tally) .state; passed = suc (scanned k o rest after (l .tally) .passed) }
+          = rw (is, now) then in
+          let n = ap length is in
+          record {
+            held = joined;
+            reach = told .tally .reach;
+            state = ap (λ (s : Scanned). s .state) (sym whole) ∙ p .state;
+            passed = omega (arith, p .passed, ap (λ (s : Scanned). s .passed) whole);
+            looks-fit = omega (arith, p .looks-fit, ap (λ (s : State). s .looks) now);
+            distances-fit = omega (arith, p .distances-fit, ap (λ (s : State). s .distances) now);
+          }
