@@ -1,93 +1,91 @@
 -- What a distance list answers.
 use mathlib.Core.Path.{_≡_, refl, sym, ap, _∙_}
-use mathlib.Core.Bool.{cond}
 use mathlib.Core.List.{List, map}
-use Prim.Native.Nat.{ℕ, zero, suc, min, _≤_, _<_}
+use Prim.Native.Nat.{ℕ, min, _≤_, _<_}
+use native.Mathlib.Nat.{zero-add}
 use native.Mathlib.Omega.{arith}
 use borrow.Author.Tests.{lt-ltb, le-ltb, ltb-false}
-use lib.Dec.{ltb}
 use lib.ListN.{length}
-use Rattle.column.specs.Column.{overwritten}
-use Rattle.site.specs.Told.{refused, answered, unlessRefused, orElse}
+use Rattle.column.proofs.Stored.{stored-start}
+use Rattle.site.specs.Told.{refused, answered}
 use Rattle.site.specs.SiteList.{Columns, sites}
-use Rattle.site.specs.Refusal.{listRefusal, listsRefusal}
-use Rattle.site.proofs.Told.{told, told-refused}
-use Rattle.site.proofs.Told.{orElse-first, orElse-second, no-fault}
+use Rattle.site.specs.Refusal.{listsRefusal}
+use Rattle.site.proofs.Told.{told, told-refused, unless-kept, unless-done}
+use Rattle.site.proofs.Told.{first-refused, next-decides, orElse-first, orElse-second, no-fault}
+use Rattle.site.proofs.Accepted.{accepted-level, both-accepted}
+use Rattle.entry.specs.declared.Entry.{Entry}
 use Rattle.pairs.specs.DistanceList.{distanceList, distanceRefusal, distanceFirst, distanceSecond, distanceTold}
-use Rattle.pairs.specs.Run.{PairsWritten}
-use Rattle.pairs.proofs.Lawful.{or-first, both-lawful}
+use Rattle.pairs.specs.Run.{InOrder, nearPairs, Room, Written}
+use Rattle.pairs.proofs.Offsets.{in-order}
+use Rattle.pairs.proofs.DistanceRows.{list-is}
 
--- A lent place under a refusal, and under none.
-pub unless-kept : {A : Type 0} (n : ℕ) (before after : A) → (n ≡ 0 → ⊥) → before ≡ unlessRefused n before after
-unfolding unlessRefused
-unless-kept zero before after h = absurd (h refl)
-unless-kept (suc n) before after h = refl
+-- Two accepted lists.
+pub both-in-order : (a b : Columns) → listsRefusal a b ≡ 0 → (InOrder (a .x) (a .y)) × (InOrder (b .x) (b .y))
+both-in-order a b ok = let l = both-accepted a b ok in (in-order a (l .0), in-order b (l .1))
 
-pub unless-done : {A : Type 0} {n : ℕ} (before after : A) → n ≡ 0 → after ≡ unlessRefused n before after
-unfolding unlessRefused
-unless-done {n} before after e = rw e
+both-listed : (e : ℕ) (a b : Columns) → listsRefusal a b ≡ 0
+    → distanceList e (sites a) (sites b) ≡ nearPairs e (a .x) (a .y) (b .x) (b .y) 0
+both-listed e a b ok = let l = both-accepted a b ok in list-is e a b (accepted-level a (l .0)) (accepted-level b (l .1))
 
 module _ (a b : Columns) (e : ℕ) (first second : List ℕ) where
+  abbrev listed : List Entry
+  listed = distanceList e (sites a) (sites b)
+
+  -- The same pairs, of the coordinate columns.
+  abbrev near : List Entry
+  near = nearPairs e (a .x) (a .y) (b .x) (b .y) 0
+
   -- The refusal, by its tests.
-  pub lists-refused : {r : ℕ} → r ≡ listsRefusal a b → (r ≡ 0 → ⊥) → r ≡ distanceRefusal a b e first second
+  pub lists-refused : {q : ℕ} → q ≡ listsRefusal a b → (q ≡ 0 → ⊥) → q ≡ distanceRefusal a b e first second
   unfolding distanceRefusal
-  lists-refused {r} p h =
-      let next : ℕ = cond (ltb (min (length first) (length second)) (length (distanceList e (sites a) (sites b)))) 6 0 in
-      sym (or-first r next h) ∙ ap (λ (n : ℕ). orElse n next) p
+  lists-refused p h = first-refused _ p h
 
-  pub too-short : listsRefusal a b ≡ 0 → min (length first) (length second) < length (distanceList e (sites a) (sites b))
-      → 6 ≡ distanceRefusal a b e first second
-  unfolding distanceRefusal orElse
-  too-short p h = rw (p, lt-ltb (min (length first) (length second)) (length (distanceList e (sites a) (sites b))) h)
+  module _ {q n : ℕ} (p : q ≡ listsRefusal a b) (none : q ≡ 0) (count : n ≡ length near) where
+    counted : length listed ≡ n
+    counted = ap length (both-listed e a b (sym p ∙ none)) ∙ sym count
 
-  pub room : listsRefusal a b ≡ 0 → length (distanceList e (sites a) (sites b)) ≤ min (length first) (length second)
-      → 0 ≡ distanceRefusal a b e first second
-  unfolding distanceRefusal orElse
-  room p h = rw (p, le-ltb (min (length first) (length second)) (length (distanceList e (sites a) (sites b))) h)
+    pub too-short : min (length first) (length second) < n → 6 ≡ distanceRefusal a b e first second
+    unfolding distanceRefusal
+    too-short h = next-decides p none (rw (counted, lt-ltb (min (length first) (length second)) n h))
+
+    pub room : n ≤ min (length first) (length second) → 0 ≡ distanceRefusal a b e first second
+    unfolding distanceRefusal
+    room h = next-decides p none (rw (counted, le-ltb (min (length first) (length second)) n h))
 
   -- What no refusal tells.
   module _ (ok : distanceRefusal a b e first second ≡ 0) where
     accepted-lists : listsRefusal a b ≡ 0
     unfolding distanceRefusal
-    accepted-lists = orElse-first (listsRefusal a b) (cond (ltb (min (length first) (length second)) (length (distanceList e (sites a) (sites b)))) 6 0) ok
+    accepted-lists = orElse-first _ _ ok
 
-    accepted-room : length (distanceList e (sites a) (sites b)) ≤ min (length first) (length second)
+    accepted-room : length listed ≤ min (length first) (length second)
     unfolding distanceRefusal
-    accepted-room =
-        let m = min (length first) (length second) in
-        let n = length (distanceList e (sites a) (sites b)) in
-        ltb-false m n (no-fault (ltb m n) 5 (orElse-second (listsRefusal a b) (cond (ltb m n) 6 0) ok))
+    accepted-room = ltb-false _ _ (no-fault _ 5 (orElse-second (listsRefusal a b) _ ok))
 
-    pub accepted : (listRefusal a ≡ 0) × (listRefusal b ≡ 0)
-        × (length (distanceList e (sites a) (sites b)) ≤ length first) × (length (distanceList e (sites a) (sites b)) ≤ length second)
+    pub accepted : (InOrder (a .x) (a .y)) × (InOrder (b .x) (b .y)) × (Room near 0 first second)
     accepted =
-        let l = both-lawful a b accepted-lists in
+        let l = both-in-order a b accepted-lists in
         let m = accepted-room in
-        (l .0, l .1, omega arith, omega arith)
+        let n = ap length (both-listed e a b accepted-lists) in
+        (l .0, l .1, record { in-first = omega arith; in-second = omega arith })
 
   -- The answer and the columns.
   pub refused-is : {r : ℕ} → r ≡ distanceRefusal a b e first second → (r ≡ 0 → ⊥)
-      → (refused r ≡ distanceTold a b e first second) × ((first ≡ distanceFirst a b e first second) × (second ≡ distanceSecond a b e first second))
+      → (refused r ≡ distanceTold a b e first second)
+      × ((first ≡ distanceFirst a b e first second) × (second ≡ distanceSecond a b e first second))
   unfolding distanceTold distanceFirst distanceSecond
-  refused-is {r} p h =
-      let l = distanceList e (sites a) (sites b) in
-      let g : distanceRefusal a b e first second ≡ 0 → ⊥ = λ q. h (p ∙ q) in (
-        told-refused (length l) p h,
-        (
-          unless-kept (distanceRefusal a b e first second) first (overwritten (map (λ p. p .first) l) first) g,
-          unless-kept (distanceRefusal a b e first second) second (overwritten (map (λ p. p .second) l) second) g,
-        ),
-      )
+  refused-is p h = (told-refused _ p h, (unless-kept first _ p h, unless-kept second _ p h))
 
   pub answered-is : {n : ℕ} {first′ second′ : List ℕ} → distanceRefusal a b e first second ≡ 0
-      → PairsWritten (distanceList e (sites a) (sites b)) first second first′ second′ n
-      → (answered n ≡ distanceTold a b e first second) × ((first′ ≡ distanceFirst a b e first second) × (second′ ≡ distanceSecond a b e first second))
+      → Written near 0 first second first′ second′ n
+      → (answered n ≡ distanceTold a b e first second)
+      × ((first′ ≡ distanceFirst a b e first second) × (second′ ≡ distanceSecond a b e first second))
   unfolding distanceTold distanceFirst distanceSecond
-  answered-is {n} ok w =
-      let l = distanceList e (sites a) (sites b) in (
-        ap answered (w .count) ∙ told ok,
+  answered-is {n} {first′} {second′} ok w =
+      let v : Written listed 0 first second first′ second′ n = rw (both-listed e a b (accepted-lists ok)) w in (
+        ap answered (v .count ∙ zero-add (length listed)) ∙ told ok,
         (
-          w .in-first ∙ unless-done first (overwritten (map (λ p. p .first) l) first) ok,
-          w .in-second ∙ unless-done second (overwritten (map (λ p. p .second) l) second) ok,
+          v .in-first ∙ stored-start (map (λ p. p .first) listed) first ∙ unless-done first _ refl ok,
+          v .in-second ∙ stored-start (map (λ p. p .second) listed) second ∙ unless-done second _ refl ok,
         ),
       )

@@ -1,123 +1,163 @@
 -- A distance list row by row.
-use mathlib.Core.Path.{_≡_, sym, ap, _∙_}
+use mathlib.Core.Path.{_≡_, refl, sym, ap, ap₂, _∙_, fun-ext}
 use mathlib.Core.Bool.{Bool}
-use mathlib.Core.List.{List, [], _∷_, _++_, map, append-nil}
-use Prim.Native.Nat.{ℕ, _+_, _*_, _≤_, _<_}
-use native.Mathlib.Numerals.{add-one}
+use mathlib.Core.List.{List, [], _∷_, _++_, map, map-map}
+use Prim.Native.Nat.{ℕ, zero, suc, _+_, _*_, _-_, _≤_, _<_}
+use native.Mathlib.Nat.{mul-le-mul}
 use native.Mathlib.Omega.{arith}
 use lib.Dec.{leb}
 use lib.IntN.{ℤ, pos}
-use lib.ListN.{length, getD, take, drop, length-append, length-map, take-append-drop}
-use lib.Seq.{take-suc, take-all}
+use lib.ListN.{length, getD, length-append, length-map}
 use Rattle.order.specs.Lists.{keep}
-use Rattle.order.proofs.Lists.{keep-append, keep-nil}
-use Rattle.site.specs.declared.Site.{Site}
+use Rattle.order.proofs.Lists.{keep-append, keep-nil, keep-map, length-keep}
 use Rattle.site.specs.Site.{square}
-use Rattle.site.specs.SiteList.{Columns, site, sites}
-use Rattle.site.specs.Refusal.{listRefusal}
+use Rattle.site.specs.SiteList.{Columns, Level, sites}
+use Rattle.site.proofs.Columns.{sites-length}
+use Rattle.site.proofs.Distance.{numberless}
+use Rattle.site.proofs.Accepted.{coordinate-x, coordinate-y}
 use Rattle.entry.specs.declared.Entry.{Entry}
 use Rattle.sweep.specs.Strip.{Placed, whole, product, pair, pairs}
-use Rattle.sweep.proofs.ProductLaws.{product-nil, product-cons, product-append-left}
+use Rattle.sweep.specs.Runs.{spotOf, spot, rightward}
+use Rattle.sweep.proofs.PlaceLaws.{length-pairs, strip-whole}
+use Rattle.sweep.proofs.ProductLaws.{product-nil, product-cons}
+use Rattle.sweep.proofs.RunLaws.{rightward-nil, rightward-cons}
+use Rattle.sweep.proofs.NumberLaws.{strip-bare}
 use Rattle.pairs.specs.declared.Run.{Run}
 use Rattle.pairs.specs.DistanceList.{distanceList}
-use Rattle.pairs.specs.Run.{Behind, RunOf, others, nearTo, Reference}
-use Rattle.pairs.proofs.Lawful.{lawful, inside-x, inside-y}
-use Rattle.pairs.proofs.Places.{nowhere, placedAt, length-places, place-at}
-use Rattle.pairs.proofs.Rows.{row-run, near-pairs, behind-next}
+use Rattle.pairs.specs.Run.{Behind, RunOf, InOrder, Rising, offsetAt, near, nearSites, rowPairs, nearPairs, Reference}
+use Rattle.pairs.proofs.Rows.{row-run}
 
--- The near pairs of the first `i` references.
-unfoldable pub listed : ℕ → List Site → List Site → ℕ → List Entry
-listed e a b i = keep (λ p. leb (p .distance) (square e)) (pairs (take i (whole a)) (whole b))
+-- ---- no number
 
-pub listed-none : (e : ℕ) (a b : List Site) → listed e a b 0 ≡ []
-unfolding listed pairs
-listed-none e a b = rw (product-nil pair (whole b)) (keep-nil (λ p. leb (p .distance) (square e)))
+-- The site with the number left out.
+abbrev bare : Placed → Placed
+bare p = spotOf (p .site .x) (p .site .y) (p .place)
 
-pub listed-all : (e : ℕ) (a b : List Site) (i : ℕ) → length (whole a) ≤ i → listed e a b i ≡ distanceList e a b
-unfolding listed distanceList
-listed-all e a b i h = rw (take-all i (whole a) h)
+pair-bare : (p q : Placed) → pair p q ≡ pair (bare p) (bare q)
+unfolding pair
+pair-bare p q =
+    let s = p .site in
+    let t = q .site in
+    let e = numberless (s .x) (s .y) (t .x) (t .y) (s .number) (t .number) in
+    λ i. record { distance = e i; first = p .place; second = q .place }
 
-pub listed-le : (e : ℕ) (a b : List Site) (i : ℕ) → length (listed e a b i) ≤ length (distanceList e a b)
-unfolding listed distanceList pairs
-listed-le e a b i =
-    let test : Entry → Bool = λ p. leb (p .distance) (square e) in
-    let u : product pair (whole a) (whole b) ≡ product pair (take i (whole a)) (whole b) ++ product pair (drop i (whole a)) (whole b) =
-    ap (λ (r : List Placed). product pair r (whole b)) (sym (take-append-drop i (whole a)))
-    ∙ product-append-left pair (take i (whole a)) (drop i (whole a)) (whole b) in
-    let v = ap length (ap (keep test) u ∙ keep-append test (product pair (take i (whole a)) (whole b)) (product pair (drop i (whole a)) (whole b)))
-    ∙ length-append (keep test (product pair (take i (whole a)) (whole b))) (keep test (product pair (drop i (whole a)) (whole b))) in
-    omega arith
+pairs-bare : (p q : List Placed) → pairs p q ≡ pairs (map bare p) (map bare q)
+unfolding pairs product
+pairs-bare [] q = refl
+pairs-bare (a ∷ p) q =
+    ap₂ (λ (l m : List Entry). l ++ m)
+    (ap (λ (f : Placed → Entry). map f q) (fun-ext (pair-bare a)) ∙ sym (map-map (pair (bare a)) bare q))
+    (pairs-bare p q)
 
-module _ (a c : Columns) (e i : ℕ) (run : Run) (oka : listRefusal a ≡ 0) (okc : listRefusal c ≡ 0) (h : i < length (a .x)) (r : RunOf (a .x) (c .x) e i run) where
-  -- One row more.
-  pub listed-more : listed e (sites a) (sites c) (i + 1)
-      ≡ listed e (sites a) (sites c) i ++ map (pair (placedAt a i)) (nearTo (square e) (getD (a .x) i (pos 0)) (getD (a .y) i (pos 0)) (others run c))
-  unfolding listed pairs
-  listed-more =
-      let test : Entry → Bool = λ p. leb (p .distance) (square e) in
-      let p = whole (sites a) in
-      let q = whole (sites c) in
-      let u : take (i + 1) p ≡ take i p ++ (placedAt a i ∷ []) =
-      ap (λ (n : ℕ). take n p) (add-one i)
-      ∙ take-suc p i nowhere (omega (arith, length-places a oka))
-      ∙ ap (λ (o : Placed). take i p ++ (o ∷ [])) (place-at a oka i nowhere h) in
-      ap (λ (l : List Placed). keep test (product pair l q)) u
-      ∙ ap (keep test) (product-append-left pair (take i p) (placedAt a i ∷ []) q)
-      ∙ keep-append test (product pair (take i p) q) (product pair (placedAt a i ∷ []) q)
-      ∙ ap (λ (l : List Entry). keep test (product pair (take i p) q) ++ l)
-      (ap (keep test) (product-cons pair (placedAt a i) [] q ∙ ap (λ (l : List Entry). map (pair (placedAt a i)) q ++ l) (product-nil pair q) ∙ append-nil (map (pair (placedAt a i)) q))
-      ∙ near-pairs e (placedAt a i) q
-      ∙ ap (map (pair (placedAt a i))) (row-run a c e i run oka okc h r))
+whole-bare : (c : Columns) → Level c → map bare (whole (sites c)) ≡ rightward (c .x) (c .y) 0 (length (c .x) - 0)
+whole-bare c level =
+    ap (map bare) (sym (strip-whole (length (c .x)) (sites c) (omega (arith, sites-length c level))))
+    ∙ strip-bare c level 0 (length (c .x)) (omega arith)
 
-  pub length-listed-more : length (listed e (sites a) (sites c) (i + 1))
-      ≡ length (listed e (sites a) (sites c) i) + length (nearTo (square e) (getD (a .x) i (pos 0)) (getD (a .y) i (pos 0)) (others run c))
-  length-listed-more =
-      let l = listed e (sites a) (sites c) i in
-      let n = nearTo (square e) (getD (a .x) i (pos 0)) (getD (a .y) i (pos 0)) (others run c) in
-      ap length listed-more ∙ length-append l (map (pair (placedAt a i)) n) ∙ ap (λ (k : ℕ). length l + k) (length-map n (pair (placedAt a i)))
+-- A distance list reads no number.
+pub list-is : (e : ℕ) (a b : Columns) → Level a → Level b
+    → distanceList e (sites a) (sites b) ≡ nearPairs e (a .x) (a .y) (b .x) (b .y) 0
+unfolding distanceList nearPairs
+list-is e a b la lb =
+    ap (keep (λ p. leb (p .distance) (square e)))
+    (pairs-bare (whole (sites a)) (whole (sites b)) ∙ ap₂ pairs (whole-bare a la) (whole-bare b lb))
 
--- What holds of the run before the row of reference `i`.
-pub record Ready (a c : Columns) (e i : ℕ) (run : Run) : Type 0 where
-  pub within : i ≤ length (a .x)
-  pub behind : i < length (a .x) → Behind (a .x) (c .x) e i run
+-- ---- row by row
 
-module _ (a c : Columns) (e : ℕ) where
-  pub ready-starts : Ready a c e 0 (record { left = 0; right = 0 })
-  ready-starts =
-      record {
-        within = omega arith;
-        behind = λ h. record { left = omega arith; right = omega arith; below = λ k p. absurd (omega arith) };
-      }
+length-rightward : (xs ys : List ℤ) (from n : ℕ) → length (rightward xs ys from n) ≡ n
+unfolding rightward
+length-rightward xs ys from zero = refl
+length-rightward xs ys from (suc n) = ap suc (length-rightward xs ys (suc from) n)
 
-  pub ready-more : (i : ℕ) (run : Run) → listRefusal a ≡ 0 → i < length (a .x) → RunOf (a .x) (c .x) e i run → Ready a c e (i + 1) run
-  ready-more i run ok h r =
-      record {
-        within = omega arith;
-        behind = λ g. behind-next a c e i run ok g (r .behind);
-      }
+module _ (e : ℕ) (ax ay bx by : List ℤ) where
+  abbrev test : Entry → Bool
+  test p = leb (p .distance) (square e)
 
--- One row, as the functions on rows ask and answer it.
-module _ (a c : Columns) (e i : ℕ) (run : Run) {x y : ℤ} (oka : listRefusal a ≡ 0) (okc : listRefusal c ≡ 0) (h : i < length (a .x)) (r : RunOf (a .x) (c .x) e i run)
-    (p : x ≡ getD (a .x) i (pos 0)) (q : y ≡ getD (a .y) i (pos 0)) where
-  pub row-asks : Reference x y c run
-  row-asks =
-      record {
-        inside-x = rw p (inside-x a oka i h);
-        inside-y = rw q (inside-y a oka i (omega (arith, lawful a oka .level .y)));
-        lawful = okc;
-        ends = r .behind .right;
-      }
+  -- The first list's sites from a place on, all of the second's, and the pairs left.
+  abbrev references : ℕ → List Placed
+  references i = rightward ax ay i (length ax - i)
 
-  pub row-listed : listed e (sites a) (sites c) (i + 1) ≡ listed e (sites a) (sites c) i ++ map (pair (placedAt a i)) (nearTo (e * e) x y (others run c))
-  unfolding square
-  row-listed = rw (p, q) (listed-more a c e i run oka okc h r)
+  abbrev others : List Placed
+  others = rightward bx by 0 (length bx - 0)
 
-  row-counted : length (listed e (sites a) (sites c) (i + 1)) ≡ length (listed e (sites a) (sites c) i) + length (nearTo (e * e) x y (others run c))
-  unfolding square
-  row-counted = rw (p, q) (length-listed-more a c e i run oka okc h r)
+  abbrev left : ℕ → List Entry
+  left i = nearPairs e ax ay bx by i
 
-  pub row-counted-by : {n : ℕ} → n ≡ length (nearTo (e * e) x y (others run c)) → length (listed e (sites a) (sites c) (i + 1)) ≡ length (listed e (sites a) (sites c) i) + n
-  row-counted-by {n} d = omega (arith, row-counted, d)
+  pub pairs-none : (i : ℕ) → length ax ≤ i → left i ≡ []
+  unfolding nearPairs pairs
+  pairs-none i h = rw (rightward-nil ax ay i (length ax) h, product-nil pair others) (keep-nil test)
 
-  pub row-fits : length (listed e (sites a) (sites c) i) + length (nearTo (e * e) x y (others run c)) ≤ length (distanceList e (sites a) (sites c))
-  row-fits = omega (arith, row-counted, listed-le e (sites a) (sites c) (i + 1))
+  pairs-cons : (i : ℕ) → i < length ax
+      → left i
+      ≡ map (pair (spot ax ay i)) (nearSites (square e) (getD ax i (pos 0)) (getD ay i (pos 0)) bx by 0 (length bx))
+      ++ left (i + 1)
+  unfolding nearPairs pairs nearSites near spot pair
+  pairs-cons i h =
+      let rest = product pair (references (i + 1)) others in
+      ap (λ (p : List Placed). keep test (product pair p others)) (rightward-cons ax ay i (length ax) h)
+      ∙ ap (keep test) (product-cons pair (spot ax ay i) (references (i + 1)) others)
+      ∙ keep-append test (map (pair (spot ax ay i)) others) rest
+      ∙ ap (λ (l : List Entry). l ++ keep test rest) (keep-map test (pair (spot ax ay i)) others)
+
+  module _ (a : InOrder ax ay) (b : InOrder bx by) where
+    -- There are few pairs.
+    pub pairs-few : length (left 0) ≤ 4_294_836_225
+    unfolding nearPairs
+    pairs-few =
+        let i : length ax - 0 ≤ 65_535 = omega (arith, a .coordinates .few) in
+        let j : length bx - 0 ≤ 65_535 = omega (arith, b .coordinates .few) in
+        let size : length (pairs (references 0) others) ≡ (length ax - 0) * (length bx - 0) =
+        length-pairs (references 0) others
+        ∙ ap₂ _*_ (length-rightward ax ay 0 (length ax - 0)) (length-rightward bx by 0 (length bx - 0)) in
+        omega (arith, mul-le-mul i j, length-keep test (pairs (references 0) others))
+
+    -- One row, as the functions on rows ask and answer it.
+    module _ {i : ℕ} {run : Run} {x y : ℤ} (h : i < length ax) (r : RunOf ax bx e i run) (p : x ≡ getD ax i (pos 0))
+        (q : y ≡ getD ay i (pos 0)) where
+      pub row-asks : Reference x y bx by run
+      row-asks =
+          record {
+            inside-x = rw p (coordinate-x (a .coordinates) i h);
+            inside-y = rw q (coordinate-y (a .coordinates) i h);
+            others = b .coordinates;
+            ends = r .behind .right;
+          }
+
+      pub row-first : left i ≡ rowPairs e (spotOf x y i) bx by (run .left) (run .right) ++ left (i + 1)
+      unfolding square spot
+      row-first =
+          rw (p, q)
+          (pairs-cons i h
+          ∙ ap (λ (l : List Placed). map (pair (spot ax ay i)) l ++ left (i + 1))
+          (row-run (b .coordinates) r (getD ay i (pos 0)) (coordinate-x (a .coordinates) i h)))
+
+      pub row-counted : {n : ℕ} → n ≡ length (nearSites (e * e) x y bx by (run .left) (run .right))
+          → length (left i) ≡ n + length (left (i + 1))
+      row-counted {n} d =
+          let row = nearSites (e * e) x y bx by (run .left) (run .right) in
+          let f = pair (spotOf x y i) in
+          omega (arith, ap length row-first, length-append (map f row) (left (i + 1)), length-map row f)
+
+-- ---- the run before a row
+
+pub record Ready (a b : List ℤ) (e i : ℕ) (run : Run) : Type 0 where
+  pub within : i ≤ length a
+  pub behind : i < length a → Behind a b e i run
+
+pub ready-starts : {a b : List ℤ} {e : ℕ} → Ready a b e 0 (record { left = 0; right = 0 })
+ready-starts =
+    record {
+      within = omega arith;
+      behind = λ h. record { left = omega arith; right = omega arith; below = λ k p. absurd (omega arith) };
+    }
+
+-- The next reference stands further right.
+pub ready-more : {a b : List ℤ} {e i : ℕ} {run : Run} → Rising a → i < length a → RunOf a b e i run → Ready a b e (i + 1) run
+ready-more {a} {b} {e} {i} {run} rising h r =
+    record {
+      within = omega arith;
+      behind = λ g. record { left = r .behind .left; right = r .behind .right; below = below g };
+    }
+  where
+    below : i + 1 < length a → (k : ℕ) → k < run .left → offsetAt b k + e < offsetAt a (i + 1)
+    below g k p = omega (arith, r .behind .below k p, rising .rises i (i + 1) (omega arith) g)

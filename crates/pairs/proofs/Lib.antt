@@ -1,7 +1,4 @@
 -- The laws of the two lists of pairs.
-pub mod Parts
-pub mod Lawful
-pub mod Places
 pub mod Offsets
 pub mod Rows
 pub mod DistanceRows

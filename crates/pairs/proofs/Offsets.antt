@@ -1,25 +1,33 @@
 -- Offsets of coordinates: which sites are too far in x.
-use mathlib.Core.Path.{_≡_, refl}
-use mathlib.Core.Bool.{true, false, _&&_}
-use mathlib.Core.List.{List}
-use Prim.Native.Nat.{ℕ, _+_, _*_, _-_, _%_, _^_, _≤_, _<_}
+use mathlib.Core.Path.{_≡_, refl, ap, _∙_}
+use mathlib.Core.Bool.{Bool, true, false, not, _&&_}
+use mathlib.Core.List.{List, [], _∷_}
+use Prim.Native.Nat.{ℕ, zero, suc, _+_, _*_, _-_, _%_, _^_, _≤_, _<_}
 use native.Mathlib.Nat.{mul-lt-mul-of-pos-right, mul-le-mul, mul-le-mul-left, mul-le-mul-right}
 use native.Mathlib.Omega.{arith}
 use borrow.Author.Tests.{lt-leb, ltb-true, ltb-false}
 use lib.Dec.{ltb}
 use lib.IntN.{ℤ, pos, negsuc}
-use lib.ListN.{length}
+use lib.ListN.{length, getD}
 use lib.Signed.{leZ}
 use mir.Syntax.{w32, w64}
 use mir.Val.{Fits}
 use Rattle.site.specs.declared.Site.{Site}
 use Rattle.site.specs.Site.{within, gap, square, squaredDistance}
-use Rattle.site.specs.SiteList.{site}
+use Rattle.order.specs.Sorted.{Sorted}
+use Rattle.order.proofs.Lists.{all-at}
+use Rattle.site.specs.SiteList.{Columns, site, sites}
+use Rattle.site.specs.Refusal.{listRefusal}
+use Rattle.site.proofs.Columns.{nowhere, sites-at}
+use Rattle.site.proofs.Accepted.{accepted-level, accepted-length, accepted-order, accepted-coordinates, inside-x}
 use Rattle.site.proofs.Cases.{byTest, and-first}
-use Rattle.site.proofs.Integers.{up, down, le-sides, le-total, le-trans, size-up, size-down}
+use Rattle.site.proofs.Integers.{up, down, le-not-lt, le-sides, le-total, le-trans, size-up, size-down}
 use Rattle.site.proofs.Distance.{squared-gap-x, squared-gap-y}
+use Rattle.sweep.specs.Strip.{Placed, whole}
+use Rattle.sweep.proofs.PlaceLaws.{length-whole, whole-at}
+use Rattle.sweep.proofs.StripLaws.{leftOf, whole-sorted}
 use Rattle.pairs.specs.declared.Run.{Run}
-use Rattle.pairs.specs.Run.{offset, offsetAt, Rising, Skipped, Behind, RunOf, near}
+use Rattle.pairs.specs.Run.{offset, offsetAt, Rising, InOrder, Skipped, Behind, RunOf, near}
 
 within-tests : (x : ℤ) → within x ≡ true → (leZ (negsuc 999_999_999) x && leZ x (pos 1_000_000_000)) ≡ true
 unfolding within
@@ -34,6 +42,38 @@ offset-sides x h =
 
 pub offset-rises : (a b : ℤ) → within a ≡ true → within b ≡ true → leZ a b ≡ true → offset a ≤ offset b
 offset-rises a b h k t = omega (arith, offset-sides a h, offset-sides b k, le-sides a b t)
+
+-- The x of a lawful list never falls.
+sorted-at : {A : Type 0} (before : A → A → Bool) (l : List A) (d : A) (k m : ℕ) → Sorted before l → k < m → m < length l
+    → before (getD l m d) (getD l k d) ≡ false
+unfolding Sorted
+sorted-at before [] d k m s p q = absurd (omega arith)
+sorted-at before (a ∷ l) d k zero s p q = absurd (omega arith)
+sorted-at before (a ∷ l) d zero (suc m) s p q = all-at (λ b. before b a ≡ false) l m d (omega arith) (s .0)
+sorted-at before (a ∷ l) d (suc k) (suc m) s p q = sorted-at before l d k m (s .1) (omega arith) (omega arith)
+
+-- What is read past the end of a list.
+abbrev none : Placed
+none = record { place = 0; site = nowhere }
+
+module _ (c : Columns) (ok : listRefusal c ≡ 0) where
+  whole-at-x : (k : ℕ) → k < length (c .x) → getD (whole (sites c)) k none .site .x ≡ getD (c .x) k (pos 0)
+  whole-at-x k h =
+      ap (λ (o : Placed). o .site .x) (whole-at (sites c) k none nowhere (omega (arith, accepted-length c ok)))
+      ∙ ap (λ (s : Site). s .x) (sites-at c (accepted-level c ok) k nowhere h)
+
+  rises-at : (k m : ℕ) → k ≤ m → m < length (c .x) → offsetAt (c .x) k ≤ offsetAt (c .x) m
+  rises-at k m h g =
+      byTest (ltb k m)
+      (λ t.
+      let long : length (whole (sites c)) ≡ length (c .x) = length-whole (sites c) ∙ accepted-length c ok in
+      let s = sorted-at leftOf (whole (sites c)) none k m (whole-sorted (sites c) (accepted-order c ok)) (ltb-true k m t) (omega arith) in
+      offset-rises (getD (c .x) k (pos 0)) (getD (c .x) m (pos 0)) (inside-x c ok k (omega arith)) (inside-x c ok m g)
+      (le-not-lt (getD (c .x) k (pos 0)) (getD (c .x) m (pos 0)) ∙ ap not (rw (whole-at-x k (omega arith), whole-at-x m g) at s)))
+      (λ t. let e : k ≡ m = omega (arith, ltb-false k m t) in rw e (omega arith))
+
+  pub in-order : InOrder (c .x) (c .y)
+  in-order = record { coordinates = accepted-coordinates c ok; rising = record { rises = rises-at } }
 
 -- Offsets that are more than `e` apart.
 pub far-left : (a b : ℤ) (e : ℕ) → within a ≡ true → within b ≡ true → offset b + e < offset a → e < gap a b

@@ -1,135 +1,124 @@
 -- One row of a distance list: a reference, its run, and the near sites in it.
-use mathlib.Core.Path.{_≡_, refl, sym, ap, _∙_}
-use mathlib.Core.Bool.{Bool, true, false, not}
-use mathlib.Core.List.{List, [], _∷_, _++_, map}
-use Prim.Native.Nat.{ℕ, _+_, _-_, _≤_, _<_, max}
+use mathlib.Core.Path.{_≡_, refl, sym, ap, ap₂, _∙_}
+use mathlib.Core.Bool.{Bool, true, false}
+use mathlib.Core.List.{List, [], _∷_, _++_, append-nil}
+use Prim.Native.Nat.{ℕ, zero, suc, _+_, _-_, _≤_, _<_}
+use native.Mathlib.Nat.{add-zero, zero-add}
 use native.Mathlib.Omega.{arith}
 use borrow.Author.Tests.{ltb-true, ltb-false}
-use lib.Dec.{leb, ltb}
+use lib.Dec.{ltb}
 use lib.IntN.{ℤ, pos}
-use lib.ListN.{length, getD, take, drop, length-append, length-take, length-drop}
-use lib.Signed.{leZ}
-use Rattle.order.specs.Lists.{keep, sum}
-use Rattle.order.proofs.Lists.{keep-map, keep-nil, length-keep}
-use Rattle.site.specs.Site.{square, squaredOver, squaredDistance}
-use Rattle.site.proofs.Columns.{columnsAt}
-use Rattle.site.specs.SiteList.{Columns, site, sites}
-use Rattle.site.specs.Refusal.{listRefusal}
+use lib.ListN.{length, getD}
+use Rattle.order.proofs.Lists.{keep-append, keep-yes, keep-no, keep-nil}
+use Rattle.site.specs.Site.{within, square}
+use Rattle.site.specs.SiteList.{Coordinates, site}
 use Rattle.site.proofs.Cases.{byTest}
-use Rattle.site.proofs.Integers.{le-not-lt}
-use Rattle.sweep.specs.Strip.{Placed, whole, strip, pair}
-use Rattle.sweep.proofs.StripLaws.{leftOf, whole-sorted}
+use Rattle.site.proofs.Accepted.{coordinate-x, coordinate-y}
+use Rattle.sweep.specs.Strip.{Placed}
+use Rattle.sweep.specs.Runs.{spot, rightward}
+use Rattle.sweep.proofs.RunLaws.{rightward-nil, rightward-cons}
 use Rattle.pairs.specs.declared.Run.{Run}
-use Rattle.pairs.specs.Run.{offsetAt, Rising, Behind, RunOf, others, near, nearTo}
-use Rattle.pairs.proofs.Parts.{part, sorted-at, keep-part, keep-part-yes, keep-part-no, keep-part-le, part-none}
-use Rattle.pairs.proofs.Lawful.{lawful, inside-x}
-use Rattle.pairs.proofs.Places.{nowhere, placedAt, length-places, place-at}
-use Rattle.pairs.proofs.Offsets.{offset-rises, far-left, far-right, far}
+use Rattle.pairs.specs.Run.{RunOf, near, nearSites, Reference}
+use Rattle.pairs.proofs.Offsets.{far-left, far-right, far}
 
--- A site's number makes no difference.
-pub near-by : (limit : ℕ) (x y u v : ℤ) (n : ℕ) → near limit x y (site u v n) ≡ near limit x y (site u v 0)
-unfolding near squaredDistance squaredOver sum
-near-by limit x y u v n = refl
+module _ (limit : ℕ) (x y : ℤ) (xs ys : List ℤ) where
+  -- The test of a site, and of the site at a place.
+  abbrev test : Placed → Bool
+  test o = near limit x y (o .site)
 
-module _ (c : Columns) (ok : listRefusal c ≡ 0) where
-  -- The x of a lawful list never falls.
-  rising : (k m : ℕ) → k < m → m < length (c .x) → leZ (getD (c .x) k (pos 0)) (getD (c .x) m (pos 0)) ≡ true
-  rising k m h g =
-      let s = sorted-at leftOf (whole (sites c)) nowhere k m (whole-sorted (sites c) (lawful c ok .order)) h (omega (arith, length-places c ok)) in
-      le-not-lt (getD (c .x) k (pos 0)) (getD (c .x) m (pos 0))
-      ∙ ap not (rw (place-at c ok k nowhere (omega arith), place-at c ok m nowhere g) at s)
+  abbrev testAt : ℕ → Bool
+  testAt k = near limit x y (site (getD xs k (pos 0)) (getD ys k (pos 0)) 0)
 
-  rises-at : (k m : ℕ) → k ≤ m → m < length (c .x) → offsetAt (c .x) k ≤ offsetAt (c .x) m
-  rises-at k m h g =
-      byTest (ltb k m)
-      (λ t. offset-rises (getD (c .x) k (pos 0)) (getD (c .x) m (pos 0)) (inside-x c ok k (omega arith)) (inside-x c ok m g) (rising k m (ltb-true k m t) g))
-      (λ t. let e : k ≡ m = omega (arith, ltb-false k m t) in rw e (omega arith))
+  -- The near sites between two places.
+  abbrev between : ℕ → ℕ → List Placed
+  between from to = nearSites limit x y xs ys from to
 
-  pub offsets-rise : Rising (c .x)
-  offsets-rise = record { rises = rises-at }
+  pub near-none : (from to : ℕ) → to ≤ from → between from to ≡ []
+  unfolding nearSites
+  near-none from to h = rw (rightward-nil xs ys from to h) (keep-nil test)
 
-  -- The near sites from place `f` up to place `t`, one place after another.
-  module _ (limit : ℕ) (x y : ℤ) where
-    pub row-none : (f : ℕ) → nearTo limit x y (strip f f (sites c)) ≡ []
-    unfolding nearTo strip
-    row-none f = ap (keep (λ o. near limit x y (o .site))) (part-none f f (whole (sites c)) (omega arith)) ∙ keep-nil (λ o. near limit x y (o .site))
+  -- One place after another.
+  module _ (from to : ℕ) (h : from < to) {b : Bool} (e : b ≡ testAt from) where
+    pub near-yes : b ≡ true → between from to ≡ spot xs ys from ∷ between (from + 1) to
+    unfolding nearSites spot
+    near-yes p = rw (rightward-cons xs ys from to h) (keep-yes test (spot xs ys from) _ (sym e ∙ p))
 
-    module _ (f t : ℕ) (h : f ≤ t) (g : t < length (c .x)) where
-      test-at : {b : Bool} → near limit x y (site (getD (c .x) t (pos 0)) (getD (c .y) t (pos 0)) 0) ≡ b
-          → near limit x y (getD (whole (sites c)) t nowhere .site) ≡ b
-      test-at {b} p =
-          rw (place-at c ok t nowhere g)
-          (near-by limit x y (getD (c .x) t (pos 0)) (getD (c .y) t (pos 0)) (getD (c .number) t 0) ∙ p)
+    pub near-no : b ≡ false → between from to ≡ between (from + 1) to
+    unfolding nearSites spot
+    near-no p = rw (rightward-cons xs ys from to h) (keep-no test (spot xs ys from) _ (sym e ∙ p))
 
-      pub row-yes : {b : Bool} → b ≡ near limit x y (site (getD (c .x) t (pos 0)) (getD (c .y) t (pos 0)) 0) → b ≡ true
-          → nearTo limit x y (strip f (t + 1) (sites c)) ≡ nearTo limit x y (strip f t (sites c)) ++ (placedAt c t ∷ [])
-      unfolding nearTo strip
-      row-yes {b} e p =
-          keep-part-yes (λ o. near limit x y (o .site)) f t (whole (sites c)) nowhere h (omega (arith, length-places c ok)) (test-at (sym e ∙ p))
-          ∙ ap (λ (o : Placed). keep (λ o. near limit x y (o .site)) (part f t (whole (sites c))) ++ (o ∷ [])) (place-at c ok t nowhere g)
+  rightward-append : (n m from : ℕ) → rightward xs ys from (n + m) ≡ rightward xs ys from n ++ rightward xs ys (from + n) m
+  unfolding rightward
+  rightward-append zero m from = rw (zero-add, add-zero)
+  rightward-append (suc n) m from =
+      let e : suc n + m ≡ suc (n + m) = omega arith in
+      let u : suc from + n ≡ from + suc n = omega arith in
+      rw (e, ← u) (ap (λ (l : List Placed). spot xs ys from ∷ l) (rightward-append n m (suc from)))
 
-      pub row-no : {b : Bool} → b ≡ near limit x y (site (getD (c .x) t (pos 0)) (getD (c .y) t (pos 0)) 0) → b ≡ false
-          → nearTo limit x y (strip f (t + 1) (sites c)) ≡ nearTo limit x y (strip f t (sites c))
-      unfolding nearTo strip
-      row-no {b} e p =
-          keep-part-no (λ o. near limit x y (o .site)) f t (whole (sites c)) nowhere h (omega (arith, length-places c ok)) (test-at (sym e ∙ p))
+  -- Two parts that meet.
+  near-join : (from mid to : ℕ) → from ≤ mid → mid ≤ to → between from to ≡ between from mid ++ between mid to
+  unfolding nearSites
+  near-join from mid to h g =
+      let e : to - from ≡ (mid - from) + (to - mid) = omega arith in
+      let u : from + (mid - from) ≡ mid = omega arith in
+      rw (e, rightward-append (mid - from) (to - mid) from, u) (keep-append test _ _)
 
-    pub row-end : (f t j : ℕ) → f ≤ j → t ≤ j → j ≤ max f t → nearTo limit x y (strip f j (sites c)) ≡ nearTo limit x y (strip f t (sites c))
-    unfolding strip
-    row-end f t j h g k =
-        let e : j - f ≡ t - f = omega arith in
-        ap (λ (n : ℕ). nearTo limit x y (take n (drop f (whole (sites c))))) e
+  -- Places of which none is near.
+  near-far : (n from : ℕ) → ((k : ℕ) → from ≤ k → k < from + n → testAt k ≡ false) → between from (from + n) ≡ []
+  near-far zero from h = near-none from (from + 0) (omega arith)
+  near-far (suc n) from h =
+      let u : from + suc n ≡ (from + 1) + n = omega arith in
+      near-no from (from + suc n) (omega arith) refl (h from (omega arith) (omega arith))
+      ∙ ap (between (from + 1)) u
+      ∙ near-far n (from + 1) (λ k p q. h k (omega arith) (omega arith))
 
-    pub row-le : (f m t : ℕ) → f ≤ m → m ≤ t → length (nearTo limit x y (strip f m (sites c))) ≤ length (nearTo limit x y (strip f t (sites c)))
-    unfolding nearTo strip
-    row-le f m t h g = keep-part-le (λ o. near limit x y (o .site)) f m t (whole (sites c)) h g
+  far-between : (from to : ℕ) → from ≤ to → ((k : ℕ) → from ≤ k → k < to → testAt k ≡ false) → between from to ≡ []
+  far-between from to h g =
+      let u : from + (to - from) ≡ to = omega arith in
+      rw u at (near-far (to - from) from (λ k p q. g k p (omega arith)))
 
-    -- A near site makes the row longer.
-    pub row-longer : (f t end : ℕ) → f ≤ t → t < end → t < length (c .x) → {b : Bool}
-        → b ≡ near limit x y (site (getD (c .x) t (pos 0)) (getD (c .y) t (pos 0)) 0) → b ≡ true
-        → length (nearTo limit x y (strip f t (sites c))) < length (nearTo limit x y (strip f end (sites c)))
-    row-longer f t end h k g {b} e p =
-        let l = nearTo limit x y (strip f t (sites c)) in
-        omega (arith, ap length (row-yes f t h g e p), length-append l (placedAt c t ∷ []), row-le f (t + 1) end (omega arith) (omega arith))
+  -- All near sites stand from place `f` up to place `t` where no other is near.
+  near-part : (f t : ℕ) → f ≤ t → t ≤ length xs → ((k : ℕ) → k < f → testAt k ≡ false)
+      → ((k : ℕ) → t ≤ k → k < length xs → testAt k ≡ false) → between 0 (length xs) ≡ between f t
+  near-part f t h g before after =
+      near-join 0 f (length xs) (omega arith) (omega arith)
+      ∙ ap₂ (λ (l m : List Placed). l ++ m) (far-between 0 f (omega arith) (λ k p q. before k q))
+      (near-join f t (length xs) h g ∙ ap (λ (l : List Placed). between f t ++ l) (far-between t (length xs) g after))
+      ∙ append-nil (between f t)
 
-    pub row-small : (run : Run) → length (nearTo limit x y (others run c)) ≤ length (c .x)
-    unfolding nearTo others strip
-    row-small run =
-        let w = whole (sites c) in
-        omega (arith, length-keep (λ o. near limit x y (o .site)) (part (run .left) (run .right) w), length-take (run .right - run .left) (drop (run .left) w), length-drop (run .left) w, length-places c ok)
+-- What the test at a place of a run asks.
+pub near-asks : {x y x′ y′ : ℤ} {xs ys : List ℤ} {run : Run} (j : ℕ) → Reference x y xs ys run → x′ ≡ x → y′ ≡ y
+    → j < run .right
+    → (within x′ ≡ true) × (within y′ ≡ true) × (j < length xs) × (j < length ys)
+    × (within (getD xs j (pos 0)) ≡ true) × (within (getD ys j (pos 0)) ≡ true)
+near-asks {xs} {ys} j r p q h =
+    let below : j < length xs = omega (arith, r .ends) in (
+      rw p (r .inside-x),
+      rw q (r .inside-y),
+      below,
+      omega (arith, r .others .equal),
+      coordinate-x (r .others) j below,
+      coordinate-y (r .others) j below,
+    )
 
--- All near sites of a list are in the reference's run.
-pub row-run : (a c : Columns) (e i : ℕ) (run : Run) → listRefusal a ≡ 0 → listRefusal c ≡ 0 → i < length (a .x) → RunOf (a .x) (c .x) e i run
-    → nearTo (square e) (getD (a .x) i (pos 0)) (getD (a .y) i (pos 0)) (whole (sites c))
-    ≡ nearTo (square e) (getD (a .x) i (pos 0)) (getD (a .y) i (pos 0)) (others run c)
-unfolding nearTo others strip
-row-run a c e i run oka okc h r =
-    let x = getD (a .x) i (pos 0) in
-    let y = getD (a .y) i (pos 0) in
-    keep-part (λ o. near (square e) x y (o .site)) (whole (sites c)) nowhere (run .left) (run .right)
-    (λ k p q.
-    let g : k < length (c .x) = omega (arith, length-places c okc) in
-    rw (place-at c okc k nowhere g)
-    (far x y (columnsAt c k) e (far-left x (getD (c .x) k (pos 0)) e (inside-x a oka i h) (inside-x c okc k g) (r .behind .below k p))))
-    (λ k p q.
-    let g : k < length (c .x) = omega (arith, length-places c okc) in
-    rw (place-at c okc k nowhere g)
-    (far x y (columnsAt c k) e (far-right x (getD (c .x) k (pos 0)) e (inside-x a oka i h) (inside-x c okc k g) (r .above k p g))))
+-- The ends of a reference's run, and that all near sites of the list are between them.
+module _ {ax bx by : List ℤ} {e i : ℕ} {run : Run} (c : Coordinates bx by) (r : RunOf ax bx e i run) where
+  run-ends : run .left ≤ run .right
+  run-ends =
+      byTest (ltb (run .right) (run .left))
+      (λ t.
+      let h = ltb-true (run .right) (run .left) t in
+      let l = r .behind .left in
+      omega (arith, r .behind .below (run .right) h, r .above (run .right) (omega arith) (omega arith)))
+      (λ t. ltb-false (run .right) (run .left) t)
 
--- The pairs of a site that are near, as entries.
-pub near-pairs : (e : ℕ) (p : Placed) (q : List Placed)
-    → keep (λ z. leb (z .distance) (square e)) (map (pair p) q) ≡ map (pair p) (nearTo (square e) (p .site .x) (p .site .y) q)
-unfolding nearTo near pair squaredDistance squaredOver sum
-near-pairs e p q = keep-map (λ z. leb (z .distance) (square e)) (pair p) q
-
--- The next reference stands further right.
-pub behind-next : (a c : Columns) (e i : ℕ) (run : Run) → listRefusal a ≡ 0 → i + 1 < length (a .x) → Behind (a .x) (c .x) e i run → Behind (a .x) (c .x) e (i + 1) run
-behind-next a c e i run ok h b =
-    record {
-      left = b .left;
-      right = b .right;
-      below = λ k p. below-next k p;
-    }
-  where
-    below-next : (k : ℕ) → k < run .left → offsetAt (c .x) k + e < offsetAt (a .x) (i + 1)
-    below-next k p = omega (arith, b .below k p, offsets-rise a ok .rises i (i + 1) (omega arith) h)
+  pub row-run : (y : ℤ) → within (getD ax i (pos 0)) ≡ true
+      → nearSites (square e) (getD ax i (pos 0)) y bx by 0 (length bx)
+      ≡ nearSites (square e) (getD ax i (pos 0)) y bx by (run .left) (run .right)
+  row-run y inside =
+      let x = getD ax i (pos 0) in
+      near-part (square e) x y bx by (run .left) (run .right) run-ends (r .behind .right)
+      (λ k p.
+      let h : k < length bx = omega (arith, r .behind .left) in
+      far x y _ e (far-left x (getD bx k (pos 0)) e inside (coordinate-x c k h) (r .behind .below k p)))
+      (λ k p q. far x y _ e (far-right x (getD bx k (pos 0)) e inside (coordinate-x c k q) (r .above k p q)))

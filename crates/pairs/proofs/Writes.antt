@@ -1,103 +1,94 @@
--- Pairs written into the two columns.
-use mathlib.Core.Path.{_≡_, refl, sym, ap, _∙_, fun-ext}
-use mathlib.Core.List.{List, [], _∷_, _++_, map, map-append, map-map}
-use Prim.Native.Nat.{ℕ, _+_, _≤_, _<_}
-use native.Mathlib.Nat.{add-zero}
+-- Pairs written into the two columns, one run of pairs after another.
+use mathlib.Core.Path.{_≡_, refl, sym, ap, _∙_}
+use mathlib.Core.List.{List, [], _∷_, _++_, map, map-append}
+use Prim.Native.Nat.{ℕ, _+_, _≤_}
 use native.Mathlib.Omega.{arith}
 use lib.ListN.{length, set, length-append, length-map}
-use Rattle.column.specs.Column.{overwritten}
-use Rattle.column.proofs.Overwritten.{length-overwritten}
+use Rattle.column.specs.Column.{stored}
+use Rattle.column.proofs.Stored.{stored-length, stored-none, stored-after, sets-stored}
 use Rattle.entry.specs.declared.Entry.{Entry}
-use Rattle.sweep.specs.Strip.{Placed, pair}
-use Rattle.pairs.specs.Run.{writtenFrom, Written, PairsWritten}
-use Rattle.pairs.proofs.Parts.{written-none, written-more, length-written, written-past, overwritten-none}
+use Rattle.pairs.specs.Run.{Room, Written}
 
-pub written-starts : (l : List Placed) (place n : ℕ) (f s : List ℕ) → l ≡ [] → Written l place n f s f s n
-written-starts l place n f s e =
-    record {
-      count = rw e (sym (add-zero n));
-      in-first = rw e (written-none n f);
-      in-second = rw e (written-none n s);
-    }
+module _ {n r : ℕ} {f s f′ s′ : List ℕ} where
+  -- No pair.
+  pub written-none : f′ ≡ f → s′ ≡ s → r ≡ n → Written [] n f s f′ s′ r
+  written-none p q e =
+      record { count = omega (arith, e); in-first = p ∙ sym (stored-none n f); in-second = q ∙ sym (stored-none n s) }
 
-module _ {l : List Placed} {place n r : ℕ} {f s f′ s′ : List ℕ} (w : Written l place n f s f′ s′ r) where
-  pub written-lengths : n + length l ≤ length f → n + length l ≤ length s → (length f′ ≡ length f) × (length s′ ≡ length s)
-  written-lengths h g = (
-    ap length (w .in-first) ∙ length-written n (map (λ (o : Placed). place) l) f (rw (length-map l (λ (o : Placed). place)) h),
-    ap length (w .in-second) ∙ length-written n (map (λ (o : Placed). o .place) l) s (rw (length-map l (λ (o : Placed). o .place)) g),
-  )
-
-  -- One column with one value more.
-  column-more : (v : Placed → ℕ) (o : Placed) (c c′ : List ℕ) → n + length l < length c → c′ ≡ writtenFrom n (map v l) c
-      → set c′ r (v o) ≡ writtenFrom n (map v (l ++ (o ∷ []))) c
-  column-more v o c c′ h e =
-      let m : n + length (map v l) ≡ r = ap (λ (k : ℕ). n + k) (length-map l v) ∙ sym (w .count) in
-      ap (λ (t : List ℕ). set t r (v o)) e
-      ∙ ap (λ (k : ℕ). set (writtenFrom n (map v l) c) k (v o)) (sym m)
-      ∙ written-more n (map v l) c (v o) (rw (length-map l v) h)
-      ∙ ap (λ (t : List ℕ). writtenFrom n t c) (sym (map-append v l (o ∷ [])))
-
-  pub written-yes : (o : Placed) {l′ : List Placed} → l′ ≡ l ++ (o ∷ []) → n + length l < length f → n + length l < length s
-      → Written l′ place n f s (set f′ r place) (set s′ r (o .place)) (r + 1)
-  written-yes o {l′} e h g =
+  -- One pair.
+  pub written-one : (e : Entry) → f′ ≡ set f n (e .first) → s′ ≡ set s n (e .second) → r ≡ n + 1 → Room (e ∷ []) n f s
+      → Written (e ∷ []) n f s f′ s′ r
+  written-one e p q d room =
       record {
-        count = omega (arith, w .count, ap length e, length-append l (o ∷ []));
-        in-first = column-more (λ (o : Placed). place) o f f′ h (w .in-first) ∙ ap (λ (t : List Placed). writtenFrom n (map (λ (o : Placed). place) t) f) (sym e);
-        in-second = column-more (λ (o : Placed). o .place) o s s′ g (w .in-second) ∙ ap (λ (t : List Placed). writtenFrom n (map (λ (o : Placed). o .place) t) s) (sym e);
+        count = omega (arith, d);
+        in-first = p ∙ sets-stored (e .first ∷ []) f n (room .in-first);
+        in-second = q ∙ sets-stored (e .second ∷ []) s n (room .in-second);
       }
 
-  -- The same row by an equal list.
-  pub written-same : {l′ : List Placed} → l′ ≡ l → Written l′ place n f s f′ s′ r
-  written-same {l′} e = rw e w
-
--- The same columns under other names.
-pub written-as : {l : List Placed} {place n r r′ : ℕ} {f s f′ s′ f″ s″ : List ℕ} → f″ ≡ f′ → s″ ≡ s′ → r′ ≡ r
-    → Written l place n f s f′ s′ r → Written l place n f s f″ s″ r′
-written-as a b d w = record { count = d ∙ w .count; in-first = a ∙ w .in-first; in-second = b ∙ w .in-second }
-
-pub pairs-starts : (l : List Entry) (f s : List ℕ) → l ≡ [] → PairsWritten l f s f s 0
-pairs-starts l f s e =
-    record {
-      count = rw e refl;
-      in-first = rw e (overwritten-none f);
-      in-second = rw e (overwritten-none s);
-    }
-
-module _ {l : List Entry} {n : ℕ} {f s f′ s′ : List ℕ} (w : PairsWritten l f s f′ s′ n) where
-  pub pairs-lengths : length l ≤ length f → length l ≤ length s → (length f′ ≡ length f) × (length s′ ≡ length s)
-  pairs-lengths h g = (
-    ap length (w .in-first) ∙ length-overwritten (map (λ (p : Entry). p .first) l) f (rw (length-map l (λ (p : Entry). p .first)) h),
-    ap length (w .in-second) ∙ length-overwritten (map (λ (p : Entry). p .second) l) s (rw (length-map l (λ (p : Entry). p .second)) g),
+  pub written-lengths : {l : List Entry} → Room l n f s → Written l n f s f′ s′ r
+      → (length f′ ≡ length f) × (length s′ ≡ length s)
+  written-lengths {l} room w = (
+    ap length (w .in-first) ∙ stored-length n (map (λ e. e .first) l) f (rw length-map (room .in-first)),
+    ap length (w .in-second) ∙ stored-length n (map (λ e. e .second) l) s (rw length-map (room .in-second)),
   )
 
-  -- One column with one row more.
-  row-more : (v : Entry → ℕ) (u : Placed → ℕ) (p : Placed) (q : List Placed) (c c′ c″ : List ℕ) → length l + length q ≤ length c
-      → ((o : Placed) → v (pair p o) ≡ u o)
-      → c′ ≡ overwritten (map v l) c → c″ ≡ writtenFrom n (map u q) c′ → c″ ≡ overwritten (map v (l ++ map (pair p) q)) c
-  row-more v u p q c c′ c″ h k e d =
-      let m : n ≡ length (map v l) = w .count ∙ sym (length-map l v) in
-      let g : length (map v l) + length (map u q) ≤ length c = omega (arith, length-map l v, length-map q u) in
-      d
-      ∙ ap (λ (j : ℕ). writtenFrom j (map u q) c′) m
-      ∙ ap (writtenFrom (length (map v l)) (map u q)) e
-      ∙ written-past (map v l) (map u q) c g
-      ∙ ap (λ (t : List ℕ). overwritten t c)
-      (ap (λ (t : List ℕ). map v l ++ t) (ap (λ (t : Placed → ℕ). map t q) (fun-ext (λ (o : Placed). sym (k o))) ∙ sym (map-map v (pair p) q))
-      ∙ sym (map-append v l (map (pair p) q)))
+-- Some pairs and then others.
+module _ (l m : List Entry) {n : ℕ} {f s : List ℕ} (room : Room (l ++ m) n f s) where
+  pub room-first : Room l n f s
+  room-first =
+      let e = length-append l m in
+      record { in-first = omega (arith, room .in-first); in-second = omega (arith, room .in-second) }
 
-  pub pairs-more : (p : Placed) (q : List Placed) {l′ : List Entry} {n′ : ℕ} {f″ s″ : List ℕ} → l′ ≡ l ++ map (pair p) q
-      → length l + length q ≤ length f → length l + length q ≤ length s → Written q (p .place) n f′ s′ f″ s″ n′ → PairsWritten l′ f s f″ s″ n′
-  unfolding pair
-  pairs-more p q {l′} {n′} {f″} {s″} e h g r =
-      record {
-        count = omega (arith, r .count, w .count, ap length e, length-append l (map (pair p) q), length-map q (pair p));
-        in-first =
-            row-more (λ z. z .first) (λ o. p .place) p q f f′ f″ h (λ o. refl) (w .in-first) (r .in-first)
-            ∙ ap (λ (t : List Entry). overwritten (map (λ z. z .first) t) f) (sym e);
-        in-second =
-            row-more (λ z. z .second) (λ o. o .place) p q s s′ s″ g (λ o. refl) (w .in-second) (r .in-second)
-            ∙ ap (λ (t : List Entry). overwritten (map (λ z. z .second) t) s) (sym e);
-      }
+  module _ {k : ℕ} {f′ s′ : List ℕ} (w : Written l n f s f′ s′ k) where
+    pub room-rest : Room m k f′ s′
+    room-rest =
+        let e = length-append l m in
+        let same = written-lengths room-first w in
+        let c = w .count in
+        record { in-first = omega (arith, room .in-first); in-second = omega (arith, room .in-second) }
 
-  pub pairs-same : {l′ : List Entry} → l′ ≡ l → PairsWritten l′ f s f′ s′ n
-  pairs-same {l′} e = rw e w
+    column-then : (v : Entry → ℕ) (c c′ c″ : List ℕ) → n + length (l ++ m) ≤ length c → c′ ≡ stored n (map v l) c
+        → c″ ≡ stored k (map v m) c′ → c″ ≡ stored n (map v (l ++ m)) c
+    column-then v c c′ c″ h p q =
+        let e = w .count in
+        q
+        ∙ ap (stored k (map v m)) p
+        ∙ stored-after n k (map v l) (map v m) c (omega (arith, length-map l v)) (omega (arith, length-append l m))
+        ∙ ap (λ (t : List ℕ). stored n t c) (sym (map-append v l m))
+
+    pub written-then : (f″ s″ : List ℕ) (r : ℕ) → Written m k f′ s′ f″ s″ r → Written (l ++ m) n f s f″ s″ r
+    written-then f″ s″ r u =
+        record {
+          count = omega (arith, w .count, u .count, length-append l m);
+          in-first = column-then (λ e. e .first) f f′ f″ (room .in-first) (w .in-first) (u .in-first);
+          in-second = column-then (λ e. e .second) s s′ s″ (room .in-second) (w .in-second) (u .in-second);
+        }
+
+-- On the way from the columns `f` and `s` to all pairs `l` written: the pairs left have room, and with them written `l` is.
+pub record Writing (l : List Entry) (n : ℕ) (f s : List ℕ) (left : List Entry) (k : ℕ) (f′ s′ : List ℕ) : Type 0 where
+  pub same-first : length f′ ≡ length f
+  pub same-second : length s′ ≡ length s
+  pub room : Room left k f′ s′
+  pub finish : (f″ s″ : List ℕ) (r : ℕ) → Written left k f′ s′ f″ s″ r → Written l n f s f″ s″ r
+
+pub writing-starts : {l : List Entry} {n : ℕ} {f s : List ℕ} → Room l n f s → Writing l n f s l n f s
+writing-starts room = record { same-first = refl; same-second = refl; room = room; finish = λ f s r w. w }
+
+module _ {l left : List Entry} {n k : ℕ} {f s f′ s′ : List ℕ} (g : Writing l n f s left k f′ s′) where
+  module _ (m rest : List Entry) (e : left ≡ m ++ rest) where
+    pub writing-room : Room m k f′ s′
+    writing-room = room-first m rest (rw e at (g .room))
+
+    pub writing-more : {k′ : ℕ} {f″ s″ : List ℕ} → Written m k f′ s′ f″ s″ k′ → Writing l n f s rest k′ f″ s″
+    writing-more w =
+        let room : Room (m ++ rest) k f′ s′ = rw e at (g .room) in
+        let same = written-lengths writing-room w in
+        record {
+          same-first = same .0 ∙ g .same-first;
+          same-second = same .1 ∙ g .same-second;
+          room = room-rest m rest room w;
+          finish = λ a b r u. g .finish a b r (rw e (written-then m rest room w a b r u));
+        }
+
+  pub writing-ends : left ≡ [] → Written l n f s f′ s′ k
+  writing-ends e = g .finish f′ s′ k (rw e (written-none refl refl refl))

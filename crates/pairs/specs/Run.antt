@@ -1,19 +1,20 @@
--- What the parts of a distance list ask and promise: one reference's run of other sites, the near ones, and their places written.
+-- What the parts of a distance list ask and promise: a reference's run of other sites, the near ones, and their pairs written.
+-- No number is read, so all is said of coordinate columns.
 use mathlib.Core.Path.{_≡_}
 use mathlib.Core.Bool.{Bool, true}
-use mathlib.Core.List.{List, _++_, map}
-use Prim.Native.Nat.{ℕ, _+_, _≤_, _<_}
+use mathlib.Core.List.{List, map}
+use Prim.Native.Nat.{ℕ, _+_, _*_, _-_, _≤_, _<_}
 use lib.Dec.{leb}
 use lib.IntN.{ℤ, pos, negsuc}
-use lib.ListN.{length, take, drop, getD}
+use lib.ListN.{length, getD}
 use Rattle.order.specs.Lists.{keep}
-use Rattle.column.specs.Column.{overwritten}
+use Rattle.column.specs.Column.{stored}
 use Rattle.site.specs.declared.Site.{Site}
-use Rattle.site.specs.Site.{within, gap, squaredDistance}
-use Rattle.site.specs.SiteList.{Columns, site, sites}
-use Rattle.site.specs.Refusal.{listRefusal}
+use Rattle.site.specs.Site.{within, gap, square, squaredDistance}
+use Rattle.site.specs.SiteList.{Coordinates, site}
 use Rattle.entry.specs.declared.Entry.{Entry}
-use Rattle.sweep.specs.Strip.{Placed, strip}
+use Rattle.sweep.specs.Strip.{Placed, pair, pairs}
+use Rattle.sweep.specs.Runs.{rightward}
 use Rattle.pairs.specs.declared.Run.{Run}
 
 -- How far a coordinate is right of the least `i32`.
@@ -27,6 +28,11 @@ offsetAt xs k = offset (getD xs k (pos 0))
 -- Offsets never fall from one place to a later one.
 pub record Rising (xs : List ℤ) : Type 0 where
   pub rises : (k m : ℕ) → k ≤ m → m < length xs → offsetAt xs k ≤ offsetAt xs m
+
+-- Two coordinate columns of a lawful list.
+pub record InOrder (xs ys : List ℤ) : Type 0 where
+  pub coordinates : Coordinates xs ys
+  pub rising : Rising xs
 
 -- `r` is the first place from `from` on whose offset is `limit` or more.
 pub record Skipped (xs : List ℤ) (from limit r : ℕ) : Type 0 where
@@ -47,41 +53,38 @@ pub record RunOf (a b : List ℤ) (e i : ℕ) (run : Run) : Type 0 where
   pub behind : Behind a b e i run
   pub above : (k : ℕ) → run .right ≤ k → k < length b → offsetAt a i + e < offsetAt b k
 
--- The other sites of a run.
-unfoldable pub others : Run → Columns → List Placed
-others run c = strip (run .left) (run .right) (sites c)
-
 -- A site whose squared distance from a position is at most a limit.
 unfoldable pub near : ℕ → ℤ → ℤ → Site → Bool
 near limit x y s = leb (squaredDistance (site x y 0) s) limit
 
-unfoldable pub nearTo : ℕ → ℤ → ℤ → List Placed → List Placed
-nearTo limit x y q = keep (λ o. near limit x y (o .site)) q
+-- The near ones of the sites from place `from` up to, not including, place `to`.
+unfoldable pub nearSites : ℕ → ℤ → ℤ → List ℤ → List ℤ → ℕ → ℕ → List Placed
+nearSites limit x y xs ys from to = keep (λ o. near limit x y (o .site)) (rightward xs ys from (to - from))
 
--- A position inside the limits, and a run of a lawful list.
-pub record Reference (x y : ℤ) (c : Columns) (run : Run) : Type 0 where
+-- The pairs of a reference with them.
+abbrev pub rowPairs : ℕ → Placed → List ℤ → List ℤ → ℕ → ℕ → List Entry
+rowPairs e o xs ys from to = map (pair o) (nearSites (e * e) (o .site .x) (o .site .y) xs ys from to)
+
+-- The pairs of the first list's sites from place `from` on that are within `e`: from 0 on, a distance list.
+unfoldable pub nearPairs : ℕ → List ℤ → List ℤ → List ℤ → List ℤ → ℕ → List Entry
+nearPairs e ax ay bx by from =
+    keep (λ p. leb (p .distance) (square e))
+    (pairs (rightward ax ay from (length ax - from)) (rightward bx by 0 (length bx - 0)))
+
+-- A position inside the limits, and a run of two coordinate columns.
+pub record Reference (x y : ℤ) (xs ys : List ℤ) (run : Run) : Type 0 where
   pub inside-x : within x ≡ true
   pub inside-y : within y ≡ true
-  pub lawful : listRefusal c ≡ 0
-  pub ends : run .right ≤ length (c .x)
+  pub others : Coordinates xs ys
+  pub ends : run .right ≤ length xs
 
--- A column with `values` written from place `n` on.
-unfoldable pub writtenFrom : {A : Type 0} → ℕ → List A → List A → List A
-writtenFrom n values column = take n column ++ values ++ drop (n + length values) column
-
--- Both columns have room for as many from place `n` on.
-pub record Room (l : List Placed) (n : ℕ) (first second : List ℕ) : Type 0 where
+-- Both columns have room for the places of some pairs from place `n` on.
+pub record Room (l : List Entry) (n : ℕ) (first second : List ℕ) : Type 0 where
   pub in-first : n + length l ≤ length first
   pub in-second : n + length l ≤ length second
 
--- For each of some sites a pair stands in the columns from place `n` on, and `r` is the place past them.
-pub record Written (l : List Placed) (place n : ℕ) (first second first′ second′ : List ℕ) (r : ℕ) : Type 0 where
+-- The columns hold the places of some pairs from place `n` on, and `r` is the place past them.
+pub record Written (l : List Entry) (n : ℕ) (first second first′ second′ : List ℕ) (r : ℕ) : Type 0 where
   pub count : r ≡ n + length l
-  pub in-first : first′ ≡ writtenFrom n (map (λ o. place) l) first
-  pub in-second : second′ ≡ writtenFrom n (map (λ o. o .place) l) second
-
--- The columns hold the places of some pairs from their start on, and `r` is how many.
-pub record PairsWritten (l : List Entry) (first second first′ second′ : List ℕ) (r : ℕ) : Type 0 where
-  pub count : r ≡ length l
-  pub in-first : first′ ≡ overwritten (map (λ p. p .first) l) first
-  pub in-second : second′ ≡ overwritten (map (λ p. p .second) l) second
+  pub in-first : first′ ≡ stored n (map (λ p. p .first) l) first
+  pub in-second : second′ ≡ stored n (map (λ p. p .second) l) second

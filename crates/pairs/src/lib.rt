@@ -5,13 +5,12 @@ ghost use Prim.Native.Nat.{_+_, _*_, _-_, _≤_, _<_, _^_};
 ghost use lib.IntN.{pos};
 ghost use lib.ListN.{length, getD};
 ghost use Rattle.site.specs.Site.{within};
-ghost use Rattle.site.specs.SiteList.{columns, site, sites};
-ghost use Rattle.site.specs.Refusal.{listRefusal, listsRefusal};
+ghost use Rattle.site.specs.SiteList.{columns, site};
 ghost use Rattle.entry.specs.Results.{results};
+ghost use Rattle.sweep.specs.Runs.{spotOf};
 ghost use Rattle.pairs.specs.KList.{kListRefusal, kListResults, kListTold, listedTold};
-ghost use Rattle.entry.specs.Entry.{lawfulK};
-ghost use Rattle.pairs.specs.DistanceList.{distanceList, distanceRefusal, distanceFirst, distanceSecond, distanceTold, withinTold};
-ghost use Rattle.pairs.specs.Run.{offset, Rising, Skipped, Behind, RunOf, others, near, nearTo, Reference, Room, Written, PairsWritten};
+ghost use Rattle.pairs.specs.DistanceList.{distanceRefusal, distanceFirst, distanceSecond, distanceTold, withinTold};
+ghost use Rattle.pairs.specs.Run.{offset, Rising, InOrder, Skipped, Behind, RunOf, near, nearSites, rowPairs, nearPairs, Reference, Room, Written};
 use sweep::Distances;
 use sweep::Looks;
 use sweep::Way;
@@ -36,17 +35,6 @@ pub enum Within {
 struct Run {
     left: usize,
     right: usize,
-}
-
-// The refusal of two lists, 1, 2 or 3 of the first, else of the second; 0 for lawful ones.
-pub fn lists_refusal(ax: &[i32], ay: &[i32], an: &[u32], bx: &[i32], by: &[i32], bn: &[u32]) -> u32
-    ensures { λ r. ⌜ r ≡ listsRefusal (columns (now (ax .entry)) (now (ay .entry)) (now (an .entry))) (columns (now (bx .entry)) (now (by .entry)) (now (bn .entry))) ⌝ }
-{
-    let first = site::list_refusal(ax, ay, an);
-    if first != 0 {
-        return first;
-    }
-    site::list_refusal(bx, by, bn)
 }
 
 // How far a coordinate is right of the least `i32`.
@@ -93,7 +81,10 @@ fn next_run(a: &[i32], b: &[i32], i: usize, last: Run, e: u32) -> Run
 
 // Whether a site is near a position: its squared distance is at most `e` squared. A difference of y beyond `e` decides alone.
 fn is_near(x: i32, y: i32, bx: &[i32], by: &[i32], j: usize, e: u32) -> bool
-    requires { ⌜ (within x ≡ true) × (within y ≡ true) × (j < length (now bx)) × (j < length (now by)) × (within (getD (now bx) j (pos 0)) ≡ true) × (within (getD (now by) j (pos 0)) ≡ true) ⌝ }
+    requires { ⌜
+        (within x ≡ true) × (within y ≡ true) × (j < length (now bx)) × (j < length (now by))
+        × (within (getD (now bx) j (pos 0)) ≡ true) × (within (getD (now by) j (pos 0)) ≡ true)
+        ⌝ }
     ensures { λ r. ⌜ r ≡ near (e * e) x y (site (getD (now (bx .entry)) j (pos 0)) (getD (now (by .entry)) j (pos 0)) 0) ⌝ }
 {
     let reach = e as u64;
@@ -105,9 +96,9 @@ fn is_near(x: i32, y: i32, bx: &[i32], by: &[i32], j: usize, e: u32) -> bool
 }
 
 // How many sites of a run are near a position.
-fn count_row(x: i32, y: i32, bx: &[i32], by: &[i32], bn: &[u32], run: Run, e: u32) -> u64
-    requires { ⌜ Reference x y (columns (now bx) (now by) (now bn)) run ⌝ }
-    ensures { λ r. ⌜ r ≡ length (nearTo (e * e) x y (others run (columns (now (bx .entry)) (now (by .entry)) (now (bn .entry))))) ⌝ }
+fn count_row(x: i32, y: i32, bx: &[i32], by: &[i32], run: Run, e: u32) -> u64
+    requires { ⌜ Reference x y (now bx) (now by) run ⌝ }
+    ensures { λ r. ⌜ r ≡ length (nearSites (e * e) x y (now (bx .entry)) (now (by .entry)) (run .left) (run .right)) ⌝ }
 {
     let mut count: u64 = 0;
     let mut j = run.left;
@@ -122,16 +113,16 @@ fn count_row(x: i32, y: i32, bx: &[i32], by: &[i32], bn: &[u32], run: Run, e: u3
 }
 
 // How many pairs of two lawful lists are within `e`.
-fn count_all(ax: &[i32], ay: &[i32], an: &[u32], bx: &[i32], by: &[i32], bn: &[u32], e: u32) -> u64
-    requires { ⌜ (listRefusal (columns (now ax) (now ay) (now an)) ≡ 0) × (listRefusal (columns (now bx) (now by) (now bn)) ≡ 0) ⌝ }
-    ensures { λ r. ⌜ r ≡ length (distanceList e (sites (columns (now (ax .entry)) (now (ay .entry)) (now (an .entry)))) (sites (columns (now (bx .entry)) (now (by .entry)) (now (bn .entry))))) ⌝ }
+fn count_all(ax: &[i32], ay: &[i32], bx: &[i32], by: &[i32], e: u32) -> u64
+    requires { ⌜ (InOrder (now ax) (now ay)) × (InOrder (now bx) (now by)) ⌝ }
+    ensures { λ r. ⌜ r ≡ length (nearPairs e (now (ax .entry)) (now (ay .entry)) (now (bx .entry)) (now (by .entry)) 0) ⌝ }
 {
     let mut count: u64 = 0;
     let mut run = Run { left: 0, right: 0 };
     let mut i = 0;
     while i < ax.len() {
         run = next_run(ax, bx, i, run, e);
-        count += count_row(ax[i], ay[i], bx, by, bn, run, e);
+        count += count_row(ax[i], ay[i], bx, by, run, e);
         i += 1;
     }
     count
@@ -144,7 +135,6 @@ fn write_row(
     place: u32,
     bx: &[i32],
     by: &[i32],
-    bn: &[u32],
     run: Run,
     e: u32,
     n: usize,
@@ -152,12 +142,12 @@ fn write_row(
     second: &mut [u32],
 ) -> usize
     requires { ⌜
-        (Reference x y (columns (now bx) (now by) (now bn)) run)
-        × (Room (nearTo (e * e) x y (others run (columns (now bx) (now by) (now bn)))) n (now first) (now second))
+        (Reference x y (now bx) (now by) run)
+        × (Room (rowPairs e (spotOf x y place) (now bx) (now by) (run .left) (run .right)) n (now first) (now second))
         ⌝ }
     ensures { λ r. ⌜
-        Written (nearTo (e * e) x y (others run (columns (now (bx .entry)) (now (by .entry)) (now (bn .entry)))))
-        place n (now (first .entry)) (now (second .entry)) (now (first .exit)) (now (second .exit)) r
+        Written (rowPairs e (spotOf x y place) (now (bx .entry)) (now (by .entry)) (run .left) (run .right))
+        n (now (first .entry)) (now (second .entry)) (now (first .exit)) (now (second .exit)) r
         ⌝ }
 {
     let mut at = n;
@@ -178,23 +168,20 @@ fn write_row(
 fn write_all(
     ax: &[i32],
     ay: &[i32],
-    an: &[u32],
     bx: &[i32],
     by: &[i32],
-    bn: &[u32],
     e: u32,
     first: &mut [u32],
     second: &mut [u32],
 ) -> usize
     requires { ⌜
-        (listRefusal (columns (now ax) (now ay) (now an)) ≡ 0)
-        × (listRefusal (columns (now bx) (now by) (now bn)) ≡ 0)
-        × (length (distanceList e (sites (columns (now ax) (now ay) (now an))) (sites (columns (now bx) (now by) (now bn)))) ≤ length (now first))
-        × (length (distanceList e (sites (columns (now ax) (now ay) (now an))) (sites (columns (now bx) (now by) (now bn)))) ≤ length (now second))
+        (InOrder (now ax) (now ay))
+        × (InOrder (now bx) (now by))
+        × (Room (nearPairs e (now ax) (now ay) (now bx) (now by) 0) 0 (now first) (now second))
         ⌝ }
     ensures { λ r. ⌜
-        PairsWritten (distanceList e (sites (columns (now (ax .entry)) (now (ay .entry)) (now (an .entry)))) (sites (columns (now (bx .entry)) (now (by .entry)) (now (bn .entry)))))
-        (now (first .entry)) (now (second .entry)) (now (first .exit)) (now (second .exit)) r
+        Written (nearPairs e (now (ax .entry)) (now (ay .entry)) (now (bx .entry)) (now (by .entry)) 0)
+        0 (now (first .entry)) (now (second .entry)) (now (first .exit)) (now (second .exit)) r
         ⌝ }
 {
     let mut n: usize = 0;
@@ -202,7 +189,7 @@ fn write_all(
     let mut i = 0;
     while i < ax.len() {
         run = next_run(ax, bx, i, run, e);
-        n = write_row(ax[i], ay[i], i as u32, bx, by, bn, run, e, n, first, second);
+        n = write_row(ax[i], ay[i], i as u32, bx, by, run, e, n, first, second);
         i += 1;
     }
     n
@@ -220,13 +207,16 @@ fn distance_refusal(
     first: &[u32],
     second: &[u32],
 ) -> u32
-    ensures { λ r. ⌜ r ≡ distanceRefusal (columns (now (ax .entry)) (now (ay .entry)) (now (an .entry))) (columns (now (bx .entry)) (now (by .entry)) (now (bn .entry))) e (now (first .entry)) (now (second .entry)) ⌝ }
+    ensures { λ r.
+        let a = columns (now (ax .entry)) (now (ay .entry)) (now (an .entry)) in
+        let b = columns (now (bx .entry)) (now (by .entry)) (now (bn .entry)) in
+        ⌜ r ≡ distanceRefusal a b e (now (first .entry)) (now (second .entry)) ⌝ }
 {
-    let refusal = lists_refusal(ax, ay, an, bx, by, bn);
+    let refusal = site::lists_refusal(ax, ay, an, bx, by, bn);
     if refusal != 0 {
         return refusal;
     }
-    let count = count_all(ax, ay, an, bx, by, bn, e);
+    let count = count_all(ax, ay, bx, by, e);
     if (first.len() as u64) < count {
         return 6;
     }
@@ -248,23 +238,22 @@ pub fn distance_list(
     first: &mut [u32],
     second: &mut [u32],
 ) -> Within
-    ensures { λ r. ⌜ withinTold r ≡ distanceTold (columns (now (ax .entry)) (now (ay .entry)) (now (an .entry))) (columns (now (bx .entry)) (now (by .entry)) (now (bn .entry))) e (now (first .entry)) (now (second .entry)) ⌝ }
-    ensures { λ r. ⌜ now (first .exit) ≡ distanceFirst (columns (now (ax .entry)) (now (ay .entry)) (now (an .entry))) (columns (now (bx .entry)) (now (by .entry)) (now (bn .entry))) e (now (first .entry)) (now (second .entry)) ⌝ }
-    ensures { λ r. ⌜ now (second .exit) ≡ distanceSecond (columns (now (ax .entry)) (now (ay .entry)) (now (an .entry))) (columns (now (bx .entry)) (now (by .entry)) (now (bn .entry))) e (now (first .entry)) (now (second .entry)) ⌝ }
+    ensures { λ r.
+        let a = columns (now (ax .entry)) (now (ay .entry)) (now (an .entry)) in
+        let b = columns (now (bx .entry)) (now (by .entry)) (now (bn .entry)) in
+        let f = now (first .entry) in
+        let s = now (second .entry) in
+        ⌜
+        (withinTold r ≡ distanceTold a b e f s)
+        × ((now (first .exit) ≡ distanceFirst a b e f s) × (now (second .exit) ≡ distanceSecond a b e f s))
+        ⌝ }
 {
     let refusal = distance_refusal(ax, ay, an, bx, by, bn, e, first, second);
     if refusal != 0 {
         return Within::Refused(refusal);
     }
-    let count = write_all(ax, ay, an, bx, by, bn, e, first, second);
+    let count = write_all(ax, ay, bx, by, e, first, second);
     Within::Pairs(count as u64)
-}
-
-// Whether K is 1 to 4,096.
-pub fn lawful_k(k: u32) -> bool
-    ensures { λ r. ⌜ r ≡ lawfulK k ⌝ }
-{
-    1 <= k && k <= 4_096
 }
 
 // The refusal of a K list: 1, 2 or 3 of the first list, else of the second, then 4 for K, then 6 for columns too short; 0 for none.
@@ -280,26 +269,19 @@ fn k_list_refusal(
     first: &[u32],
     second: &[u32],
 ) -> u32
-    ensures { λ r. ⌜
-        r ≡ kListRefusal (columns (now (ax .entry)) (now (ay .entry)) (now (an .entry))) (columns (now (bx .entry)) (now (by .entry)) (now (bn .entry))) k
-        (results (now (distance .entry)) (now (first .entry)) (now (second .entry)))
-        ⌝ }
+    ensures { λ r.
+        let a = columns (now (ax .entry)) (now (ay .entry)) (now (an .entry)) in
+        let b = columns (now (bx .entry)) (now (by .entry)) (now (bn .entry)) in
+        ⌜ r ≡ kListRefusal a b k (results (now (distance .entry)) (now (first .entry)) (now (second .entry))) ⌝ }
 {
-    let refusal = lists_refusal(ax, ay, an, bx, by, bn);
+    let refusal = site::lists_refusal(ax, ay, an, bx, by, bn);
     if refusal != 0 {
         return refusal;
     }
-    if !lawful_k(k) {
+    if !entry::lawful_k(k) {
         return 4;
     }
-    let least = k as usize;
-    if distance.len() < least {
-        return 6;
-    }
-    if first.len() < least {
-        return 6;
-    }
-    if second.len() < least {
+    if !entry::room(k as usize, distance, first, second) {
         return 6;
     }
     0
@@ -319,15 +301,12 @@ pub fn k_list(
     first: &mut [u32],
     second: &mut [u32],
 ) -> Listed
-    ensures { λ r. ⌜
-        listedTold r ≡ kListTold way (columns (now (ax .entry)) (now (ay .entry)) (now (an .entry))) (columns (now (bx .entry)) (now (by .entry)) (now (bn .entry))) k
-        (results (now (distance .entry)) (now (first .entry)) (now (second .entry)))
-        ⌝ }
-    ensures { λ r. ⌜
-        results (now (distance .exit)) (now (first .exit)) (now (second .exit))
-        ≡ kListResults (columns (now (ax .entry)) (now (ay .entry)) (now (an .entry))) (columns (now (bx .entry)) (now (by .entry)) (now (bn .entry))) k
-        (results (now (distance .entry)) (now (first .entry)) (now (second .entry)))
-        ⌝ }
+    ensures { λ r.
+        let a = columns (now (ax .entry)) (now (ay .entry)) (now (an .entry)) in
+        let b = columns (now (bx .entry)) (now (by .entry)) (now (bn .entry)) in
+        let before = results (now (distance .entry)) (now (first .entry)) (now (second .entry)) in
+        let after = results (now (distance .exit)) (now (first .exit)) (now (second .exit)) in
+        ⌜ (listedTold r ≡ kListTold way a b k before) × (after ≡ kListResults a b k before) ⌝ }
 {
     let refusal = k_list_refusal(ax, ay, an, bx, by, bn, k, distance, first, second);
     if refusal != 0 {

@@ -1,100 +1,74 @@
--- `pairs::count_row` meets its contract. The invariant: the count is that of the near sites up to the place reached.
-use mathlib.Core.Path.{_≡_, _∙_, sym, ap, ap₂}
-use mathlib.Core.List.{[], _∷_}
+-- `pairs::count_row` meets its contract. The invariant: the count and the near sites left are all near sites.
+use mathlib.Core.Path.{_≡_, ap}
+use mathlib.Core.List.{List, []}
 use mathlib.Core.Logic.{⊎-elim}
-use Prim.Native.Nat.{_+_, _*_, _-_, _≤_, _<_, max}
+use Prim.Native.Nat.{ℕ, suc, _+_, _*_, _-_, _≤_, _<_}
 use native.Mathlib.Omega.{arith}
 use borrow.Author.Needs.{needs}
-use lib.IntN.{ℤ}
-use lib.ListN.{length, length-append}
+use lib.ListN.{length}
 use mir.Facts.{toZ-ofZ}
 use mir.Syntax.{w32}
 use mir.Val.{toZ, ofZ}
-use Rattle.site.specs.SiteList.{Columns, columns, sites}
-use Rattle.sweep.specs.Strip.{strip}
-use Rattle.pairs.specs.Run.{nearTo, others}
-use Rattle.pairs.proofs.Lawful.{lawful, inside-x, inside-y}
-use Rattle.pairs.proofs.Places.{placedAt}
-use Rattle.pairs.proofs.Rows.{row-none, row-yes, row-no, row-end}
+use Rattle.sweep.specs.Strip.{Placed}
+use Rattle.pairs.specs.Run.{nearSites}
+use Rattle.pairs.proofs.Rows.{near-none, near-yes, near-no, near-asks}
 use Rattle.pairs.proofs.count_row.Statement.{statement}
 use Rattle.pairs.proofs.count_row.Tie as tie
 
 abbrev Inv-loop : tie.InvT-loop
-Inv-loop x y bx by bn e count₀ j₀ end count j =
-    (j₀ ≤ j) × (j ≤ max j₀ end) × (count ≤ j) × (count ≡ length (nearTo (e * e) (toZ w32 x) (toZ w32 y) (strip j₀ j (sites (columns bx by bn)))))
+Inv-loop x y bx by e count₀ j₀ end count j =
+    let left : ℕ → ℕ = λ from. length (nearSites (e * e) (toZ w32 x) (toZ w32 y) bx by from end) in
+    (count ≤ j) × (count + left j ≡ left j₀)
 
 abbrev μ-loop : tie.MeasureT-loop
-μ-loop x y bx by bn e count₀ j₀ end count j = end - j
-
-abbrev lent : tie.Start Inv-loop μ-loop → Columns
-lent c = columns (c .args .bx .now) (c .args .by .now) (c .args .bn .now)
+μ-loop x y bx by e count₀ j₀ end count j = end - j
 
 loop-holds : tie.Need-loop-holds Inv-loop μ-loop
-loop-holds c =
-    let s = c .before in (
-      omega arith,
-      omega arith,
-      omega arith,
-      sym (ap length (row-none (lent s) (s .pre .lawful) (s .args .e * s .args .e) (toZ w32 (ofZ w32 (s .args .x))) (toZ w32 (ofZ w32 (s .args .y))) (s .args .run .left))),
-    )
+loop-holds c = (omega arith, omega arith)
 
-below : (c : tie.In-loop Inv-loop μ-loop) → c .before .loop .j < length (c .before .before .before .args .bx .now)
-below c = omega (arith, c .before .before .before .pre .ends, c .loop-test .taken)
-
-few : (c : tie.Start Inv-loop μ-loop) → length (c .args .bx .now) ≤ 65_535
-few c = lawful (lent c) (c .pre .lawful) .few
+below : (c : tie.In-loop Inv-loop μ-loop) → c .before .loop .j < 65_535
+below c = let s = c .before .before in omega (arith, s .pre .ends, s .pre .others .few, c .loop-test .taken)
 
 is-near-requires : tie.Need-is-near-requires Inv-loop μ-loop
 is-near-requires c κs =
-    let s = c .before .before .before in
-    let y : c .before .loop .j < length (s .args .by .now) = omega (arith, below c, lawful (lent s) (s .pre .lawful) .level .y) in (
-      rw (toZ-ofZ (s .fits .x)) (s .pre .inside-x),
-      rw (toZ-ofZ (s .fits .y)) (s .pre .inside-y),
-      below c,
-      y,
-      inside-x (lent s) (s .pre .lawful) (c .before .loop .j) (below c),
-      inside-y (lent s) (s .pre .lawful) (c .before .loop .j) y,
-    )
+    let s = c .before .before in
+    near-asks (c .before .loop .j) (s .pre) (toZ-ofZ (s .fits .x)) (toZ-ofZ (s .fits .y)) (c .loop-test .taken)
 
 add-count : tie.Need-add-count Inv-loop μ-loop
-add-count c = omega (arith, below (c .before .before), few (c .before .before .before .before .before), c .before .before .before .loop .inv)
+add-count c = omega (arith, below (c .before .before), c .before .before .before .loop .inv)
 
 add-j : tie.Need-add-j Inv-loop μ-loop
-add-j c = omega (arith, below (c .before .before), few (c .before .before .before .before .before))
+add-j c = omega (arith, below (c .before .before))
 
-loop-less : tie.Need-loop-less Inv-loop μ-loop
-loop-less c = search needs
-
--- The count after the test at a place.
-more : (c : tie.Joined1 Inv-loop μ-loop)
-    → let s = c .before .before .before .before .before in
-    let l = c .before .before .before .loop in
-    (c .if1 .count ≤ l .j + 1)
-    × (c .if1 .count ≡ length (nearTo (s .args .e * s .args .e) (toZ w32 (ofZ w32 (s .args .x))) (toZ w32 (ofZ w32 (s .args .y))) (strip (s .args .run .left) (l .j + 1) (sites (lent s)))))
-more c =
-    let s = c .before .before .before .before .before in
-    let l = c .before .before .before .loop in
-    let x = toZ w32 (ofZ w32 (s .args .x)) in
-    let y = toZ w32 (ofZ w32 (s .args .y)) in
-    let row = nearTo (s .args .e * s .args .e) x y (strip (s .args .run .left) (l .j) (sites (lent s))) in
-    ⊎-elim
-    (λ w. (omega arith, omega (arith, ap length (row-yes (lent s) (s .pre .lawful) (s .args .e * s .args .e) x y (s .args .run .left) (l .j) (l .inv .0) (below (c .before .before)) (c .before .is-near .ensures) (w .0 .taken)), length-append row (placedAt (lent s) (l .j) ∷ []))))
-    (λ w. (omega arith, omega (arith, ap length (row-no (lent s) (s .pre .lawful) (s .args .e * s .args .e) x y (s .args .run .left) (l .j) (l .inv .0) (below (c .before .before)) (c .before .is-near .ensures) (w .0 .left)))))
-    (c .if1 .came)
+-- The near sites from a place on.
+abbrev left : tie.Start Inv-loop μ-loop → ℕ → List Placed
+left s j =
+    let a = s .args in
+    nearSites (a .e * a .e) (toZ w32 (ofZ w32 (a .x))) (toZ w32 (ofZ w32 (a .y))) (a .bx .now) (a .by .now) j (a .run .right)
 
 loop-again : tie.Need-loop-again Inv-loop μ-loop
 loop-again c =
-    let l = c .before .before .before .loop in
-    (omega (arith, l .inv), omega (arith, l .inv, c .before .before .loop-test .taken), more c .0, more c .1)
+    let n = c .before in
+    let l = n .before .before .loop in
+    let s = n .before .before .before in
+    ⊎-elim
+    (λ w.
+    let e : length (left s (l .j)) ≡ suc (length (left s (l .j + 1))) =
+    ap length (near-yes _ _ _ _ _ (l .j) _ (n .before .loop-test .taken) (n .is-near .ensures) (w .0 .taken)) in
+    (omega arith, omega (arith, l .inv)))
+    (λ w.
+    let e : left s (l .j) ≡ left s (l .j + 1) =
+    near-no _ _ _ _ _ (l .j) _ (n .before .loop-test .taken) (n .is-near .ensures) (w .0 .left) in
+    (omega arith, omega (arith, l .inv, ap length e)))
+    (c .if1 .came)
 
 returns : tie.Need-returns Inv-loop μ-loop
-unfolding others
 returns c =
-    let s = c .before .before .before in
+    let s = c .before .before in
     let l = c .before .loop in
-    l .inv .3
-    ∙ ap length (row-end (lent s) (s .pre .lawful) (s .args .e * s .args .e) (toZ w32 (ofZ w32 (s .args .x))) (toZ w32 (ofZ w32 (s .args .y))) (s .args .run .left) (s .args .run .right) (l .j) (l .inv .0) (c .loop-test .left) (l .inv .1))
-    ∙ ap₂ (λ (x y : ℤ). length (nearTo (s .args .e * s .args .e) x y (strip (s .args .run .left) (s .args .run .right) (sites (lent s))))) (toZ-ofZ (s .fits .x)) (toZ-ofZ (s .fits .y))
+    let none : left s (l .j) ≡ [] = near-none _ _ _ _ _ (l .j) _ (c .loop-test .left) in
+    let all : l .count ≡ length (left s (s .args .run .left)) = omega (arith, l .inv, ap length none) in
+    rw (toZ-ofZ (s .fits .x), toZ-ofZ (s .fits .y)) at all
 
 pub count-row-spec : {M : Type 1} → statement M
 count-row-spec =
@@ -106,6 +80,6 @@ count-row-spec =
     is-near-requires
     add-count
     add-j
-    loop-less
+    (λ c. search needs)
     loop-again
     returns)

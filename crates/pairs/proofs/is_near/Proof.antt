@@ -14,27 +14,6 @@ use Rattle.pairs.proofs.Offsets.{far-y, square-fits}
 use Rattle.pairs.proofs.is_near.Statement.{statement}
 use Rattle.pairs.proofs.is_near.Tie as tie
 
-mul-offset : tie.Need-mul-offset
-mul-offset c = search needs
-
-shared-slice-copy-out-offset : tie.Need-shared-slice-copy-out-offset
-shared-slice-copy-out-offset c = search needs
-
-offset-requires : tie.Need-offset-requires
-offset-requires c κs = search needs
-
-add-wrapping-sub-u64 : tie.Need-add-wrapping-sub-u64
-add-wrapping-sub-u64 c = search needs
-
-offset-requires-2 : tie.Need-offset-requires-2
-offset-requires-2 c κs = search needs
-
-wrapping-sub-u64-requires : tie.Need-wrapping-sub-u64-requires
-wrapping-sub-u64-requires c κs = search needs
-
-mul-if1 : tie.Need-mul-if1
-mul-if1 c = search needs
-
 abbrev started : tie.After-wrapping-sub-u64 → tie.Start
 started c = c .before .before .before .before
 
@@ -48,18 +27,6 @@ returns c =
     (at₁ offset (toZ-ofZ (sfits-of (w .before .before .before .offset-arg .given))) (w .before .before .offset .ensures .0)) (w .before .before .offset .ensures .1)
     (at₁ offset (toZ-ofZ (s .fits .y)) (w .before .offset2 .ensures .0)) (w .before .offset2 .ensures .1)
     (w .wrapping-sub-u64 .ensures) (c .if1 .taken))
-
-mul-squared-distance : tie.Need-mul-squared-distance
-mul-squared-distance c = search needs
-
-shared-slice-copy-out-squared-distance : tie.Need-shared-slice-copy-out-squared-distance
-shared-slice-copy-out-squared-distance c = search needs
-
-mul-squared-distance-2 : tie.Need-mul-squared-distance-2
-mul-squared-distance-2 c = search needs
-
-shared-slice-copy-out-squared-distance-2 : tie.Need-shared-slice-copy-out-squared-distance-2
-shared-slice-copy-out-squared-distance-2 c = search needs
 
 squared-distance-requires : tie.Need-squared-distance-requires
 squared-distance-requires c κs =
@@ -86,18 +53,18 @@ pub is-near-spec : {M : Type 1} → statement M
 is-near-spec =
     tie.close
     (tie.spec
-    mul-offset
-    shared-slice-copy-out-offset
-    offset-requires
-    add-wrapping-sub-u64
-    offset-requires-2
-    wrapping-sub-u64-requires
-    mul-if1
+    (λ c. search needs)
+    (λ c. search needs)
+    (λ c κs. search needs)
+    (λ c. search needs)
+    (λ c κs. search needs)
+    (λ c κs. search needs)
+    (λ c. search needs)
     returns
-    mul-squared-distance
-    shared-slice-copy-out-squared-distance
-    mul-squared-distance-2
-    shared-slice-copy-out-squared-distance-2
+    (λ c. search needs)
+    (λ c. search needs)
+    (λ c. search needs)
+    (λ c. search needs)
     squared-distance-requires
     mul-result
     returns-2)

@@ -8,32 +8,8 @@ use Rattle.pairs.proofs.Offsets.{run-next}
 use Rattle.pairs.proofs.next_run.Statement.{statement}
 use Rattle.pairs.proofs.next_run.Tie as tie
 
-mul-offset : tie.Need-mul-offset
-mul-offset c = search needs
-
-shared-slice-copy-out-offset : tie.Need-shared-slice-copy-out-offset
-shared-slice-copy-out-offset c = search needs
-
-offset-requires : tie.Need-offset-requires
-offset-requires c κs = search needs
-
 learnt : (c : tie.After-offset) → c .offset .result ≡ offsetAt (c .before .before .args .a .now) (c .before .before .args .i)
 learnt c = at₁ offset (toZ-ofZ (sfits-of (c .before .offset-arg .given))) (c .offset .ensures .0)
-
-less-requires : tie.Need-less-requires
-less-requires c κs = search needs
-
-skip-below-requires : tie.Need-skip-below-requires
-skip-below-requires c κs = search needs
-
-add-skip-below : tie.Need-add-skip-below
-add-skip-below c = search needs
-
-add-skip-below-2 : tie.Need-add-skip-below-2
-add-skip-below-2 c = search needs
-
-skip-below-requires-2 : tie.Need-skip-below-requires-2
-skip-below-requires-2 c κs = search needs
 
 returns : tie.Need-returns
 returns c =
@@ -45,12 +21,12 @@ pub next-run-spec : {M : Type 1} → statement M
 next-run-spec =
     tie.close
     (tie.spec
-    mul-offset
-    shared-slice-copy-out-offset
-    offset-requires
-    less-requires
-    skip-below-requires
-    add-skip-below
-    add-skip-below-2
-    skip-below-requires-2
+    (λ c. search needs)
+    (λ c. search needs)
+    (λ c κs. search needs)
+    (λ c κs. search needs)
+    (λ c κs. search needs)
+    (λ c. search needs)
+    (λ c. search needs)
+    (λ c κs. search needs)
     returns)

@@ -20,15 +20,6 @@ abbrev μ-loop : tie.MeasureT-loop
 loop-holds : tie.Need-loop-holds Inv-loop μ-loop
 loop-holds c = (omega arith, omega arith, between-none _ _)
 
-mul-offset : tie.Need-mul-offset Inv-loop μ-loop
-mul-offset c = search needs
-
-shared-slice-copy-out-offset : tie.Need-shared-slice-copy-out-offset Inv-loop μ-loop
-shared-slice-copy-out-offset c = search needs
-
-offset-requires : tie.Need-offset-requires Inv-loop μ-loop
-offset-requires c κs = search needs
-
 learnt : (c : tie.After-offset Inv-loop μ-loop) → c .offset .result ≡ offsetAt (c .before .before .before .before .args .xs .now) (c .before .before .before .loop .i)
 learnt c = at₁ offset (toZ-ofZ (sfits-of (c .before .offset-arg .given))) (c .offset .ensures .0)
 
@@ -41,12 +32,6 @@ returns c =
       below = l .inv .2;
       stop = λ h. omega (arith, learnt (c .before), c .if1 .taken);
     }
-
-add-i : tie.Need-add-i Inv-loop μ-loop
-add-i c = search needs
-
-loop-less : tie.Need-loop-less Inv-loop μ-loop
-loop-less c = search needs
 
 loop-again : tie.Need-loop-again Inv-loop μ-loop
 loop-again c =
@@ -70,11 +55,11 @@ skip-below-spec =
     Inv-loop
     μ-loop
     loop-holds
-    mul-offset
-    shared-slice-copy-out-offset
-    offset-requires
+    (λ c. search needs)
+    (λ c. search needs)
+    (λ c κs. search needs)
     returns
-    add-i
-    loop-less
+    (λ c. search needs)
+    (λ c. search needs)
     loop-again
     returns-2)
