@@ -1,23 +1,27 @@
 -- Sites written and read again, and bytes read and written again.
 use mathlib.Core.Path.{_≡_, refl, sym, ap, ap₂, _∙_}
 use mathlib.Core.Bool.{true, _&&_}
-use mathlib.Core.List.{List, [], _∷_, _++_, append-assoc, map}
+use mathlib.Core.List.{List, [], _∷_, _++_, append-assoc}
 use Prim.Native.Nat.{ℕ, zero, suc, _+_, _*_, _≤_, _<_}
-use native.Mathlib.Nat.{add-zero}
 use native.Mathlib.Omega.{arith}
-use lib.IntN.{ℤ}
-use lib.ListN.{length, take, drop, getD, length-append, length-map}
+use lib.ListN.{length, take, drop, length-append}
 use lib.Seq.{take-add, drop-drop}
-use Rattle.order.specs.Lists.{all, All}
+use Rattle.order.specs.Lists.{All}
 use Rattle.site.specs.declared.Site.{Site}
 use Rattle.site.specs.Site.{within, lawfulSite}
-use Rattle.site.specs.SiteList.{Columns, Level, columns, site, zipSites, sites}
+use Rattle.site.specs.SiteList.{Columns, sites, columnsOf}
+use Rattle.site.specs.Refusal.{contentRefusal, listRefusal}
 use Rattle.site.proofs.Cases.{and-first, and-second}
-use Rattle.site.proofs.Lawful.{lawful-is}
+use Rattle.site.proofs.Lawful.{lawful-is, content-left}
+use Rattle.site.proofs.Columns.{sites-numbered, columns-sites, columns-length, columns-level}
+use Rattle.site.proofs.Accepted.{accepted-lawful}
+use Rattle.site_file.specs.declared.Which.{Which}
 use Rattle.site_file.specs.Bytes.{bytes4, word, unsigned}
-use Rattle.site_file.specs.File.{siteBytes, bodyBytes, siteIn, sitesFrom}
-use Rattle.site.specs.SiteList.{columnsOf}
+use Rattle.site_file.specs.File.{siteBytes, bodyBytes, siteIn, sitesFrom, sitesIn}
+use Rattle.site_file.specs.Calls.{readRefusal}
 use Rattle.site_file.specs.RoundTrip.{Bytes, Numbers}
+use Rattle.site_file.proofs.File.{list-length}
+use Rattle.site_file.proofs.Contents.{inside, read-laid, read-content}
 use Rattle.site_file.proofs.Words.{word-read, signed-back, unsigned-back, coordinate-fits, bytes-back, word-fits}
 
 -- A site that can be written: inside the limits, with a number of 32 bits.
@@ -101,36 +105,25 @@ body-back l at (suc n) h k =
     rw (site-back l at h (omega arith), body-back l (at + 12) n h (omega arith), e)
     (sym (take-add 12 (12 * n) (drop at l) ∙ ap (λ (r : List ℕ). take 12 (drop at l) ++ take (12 * n) r) (drop-drop 12 at l)))
 
-pub from-length : (l : List ℕ) (at n : ℕ) → length (sitesFrom l at n) ≡ n
-unfolding sitesFrom
-from-length l at zero = refl
-from-length l at (suc n) = ap suc (from-length l (at + 12) n)
+-- The sites of an accepted list can be written.
+all-both : {A : Type 0} (P Q : A → Type 0) (l : List A) → All P l → All Q l → All (λ a. P a × Q a) l
+unfolding All
+all-both P Q [] h k = tt
+all-both P Q (a ∷ l) h k = ((h .0, k .0), all-both P Q l (h .1) (k .1))
 
--- A place of a list that is read.
-pub from-at : (l : List ℕ) (at n i : ℕ) (d : Site) → i < n → getD (sitesFrom l at n) i d ≡ siteIn l (at + 12 * i)
-unfolding sitesFrom
-from-at l at zero i d h = absurd (omega arith)
-from-at l at (suc n) zero d h = rw (add-zero at)
-from-at l at (suc n) (suc i) d h =
-    let e : at + 12 + 12 * i ≡ at + 12 * suc i = omega arith in
-    rw (← e) (from-at l (at + 12) n i d (omega arith))
-
--- The sites of lawful columns can be written.
-zip-fit : (xs ys : List ℤ) (ns : List ℕ) → All (λ n. n < 4_294_967_296) ns → all lawfulSite (zipSites xs ys ns) ≡ true → All Fit (zipSites xs ys ns)
-unfolding All all zipSites
-zip-fit [] ys ns h t = tt
-zip-fit (x ∷ xs) [] ns h t = tt
-zip-fit (x ∷ xs) (y ∷ ys) [] h t = tt
-zip-fit (x ∷ xs) (y ∷ ys) (n ∷ ns) h t = (
-  (and-first (lawfulSite (site x y n)) (all lawfulSite (zipSites xs ys ns)) t, h .0),
-  zip-fit xs ys ns (h .1) (and-second (lawfulSite (site x y n)) (all lawfulSite (zipSites xs ys ns)) t),
-)
-
-pub sites-fit : (c : Columns) → Numbers c → all lawfulSite (sites c) ≡ true → All Fit (sites c)
-unfolding sites
-sites-fit c h t = zip-fit (c .x) (c .y) (c .number) h t
+pub sites-fit : (c : Columns) → listRefusal c ≡ 0 → Numbers c → All Fit (sites c)
+sites-fit c ok h = all-both _ _ (sites c) (accepted-lawful c ok .inside) (sites-numbered (λ n. n < 4_294_967_296) c h)
 
 pub columns-numbers : (l : List ℕ) (at n : ℕ) → Bytes l → Numbers (columnsOf (sitesFrom l at n))
 unfolding columnsOf sitesFrom siteIn All
 columns-numbers l at zero h = tt
 columns-numbers l at (suc n) h = (word-fits l (at + 8) h, columns-numbers l (at + 12) n h)
+
+-- The columns of a list of an accepted file are a lawful list.
+pub columns-accepted : (file : List ℕ) → readRefusal file ≡ 0 → (w : Which) → listRefusal (columnsOf (sitesIn file w)) ≡ 0
+columns-accepted file ok w =
+    let l = sitesIn file w in
+    let few = inside file w (read-laid file ok) .count in
+    content-left (columnsOf l) (columns-level l) (omega (arith, columns-length l, list-length file w))
+    ∙ ap contentRefusal (columns-sites l)
+    ∙ read-content file ok w

@@ -16,8 +16,8 @@ use mir.Facts.{toZ-ofZ, sfits-widen}
 use Rattle.order.proofs.Order.{byTest, never-both}
 use Rattle.site.proofs.Machine.{cast-back}
 use Rattle.site_file.specs.Bytes.{bytes4, unsigned, signed}
-use Rattle.site_file.specs.Stored.{stored}
-use Rattle.site_file.proofs.Stored.{sets-stored}
+use Rattle.column.specs.Column.{stored}
+use Rattle.column.proofs.Stored.{sets-stored}
 
 -- Four bytes stored one by one.
 pub word-stored : (l : List ℕ) (at n a b c d : ℕ) → at + 4 ≤ length l → a ≡ n % 256 → b ≡ n / 256 % 256 → c ≡ n / 65_536 % 256 → d ≡ n / 16_777_216 % 256 → set (set (set (set l at a) (at + 1) b) (at + 2) c) (at + 3) d ≡ stored at (bytes4 n) l

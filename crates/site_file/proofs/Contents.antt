@@ -1,26 +1,27 @@
 -- The refusals of a file, one test after another.
 use mathlib.Core.Path.{_≡_, refl, sym, _∙_}
-use mathlib.Core.Bool.{Bool, true, false}
+use mathlib.Core.Bool.{Bool, true, false, not, _&&_, _||_, and-true}
 use mathlib.Core.List.{List}
-use Prim.Native.Nat.{ℕ, zero, suc, _+_, _*_, _≤_, _<_}
+use Prim.Native.Nat.{ℕ, zero, suc, _+_, _*_, _-_, _≤_, _<_}
 use native.Mathlib.Omega.{arith}
-use borrow.Author.Tests.{lt-ltb, le-ltb, le-leb, lt-leb, ltb-true, ltb-false, eq-eqb, ne-eqb, eqb-true, eqb-false}
+use borrow.Author.Tests.{lt-ltb, le-ltb, lt-leb, ltb-false, eq-eqb, ne-eqb, eqb-true}
 use lib.Dec.{ltb, eqb}
-use lib.ListN.{length}
+use lib.ListN.{length, take}
 use Rattle.order.specs.Order.{ascending}
 use Rattle.order.specs.Lists.{all}
 use Rattle.site.specs.declared.Site.{Site}
 use Rattle.site.specs.Site.{lawfulSite, siteBefore}
 use Rattle.site.specs.Told.{refused, answered, tell, refuseIf, orElse}
+use Rattle.site.specs.SiteList.{siteAt}
 use Rattle.site.specs.Refusal.{contentRefusal}
-use Rattle.order.proofs.Order.{byTest}
-use Rattle.site.proofs.Told.{told, told-refused}
-use Rattle.site.proofs.Told.{orElse-first, orElse-second}
+use Rattle.site.proofs.Cases.{byTest, and-first, and-second, or-first, or-second}
+use Rattle.site.proofs.Told.{told, told-refused, first-refused, next-decides, orElse-first, orElse-second, no-fault, fault-none}
 use Rattle.site_file.specs.Bytes.{word}
 use Rattle.site_file.specs.declared.Which.{Which}
 use Rattle.site_file.specs.declared.Which.the-variants.{First, Second}
 use Rattle.site_file.specs.File.{secondStart, fileLength, startIn, countIn, siteIn, sitesFrom, sitesIn}
 use Rattle.site_file.specs.Calls.{layoutFault, contentsRefusal, readRefusal, readTold, siteRefusal, siteTold}
+use Rattle.site_file.proofs.File.{from-at}
 
 -- The tests of a file's contents, in their order.
 module _ (file : List ℕ) where
@@ -83,91 +84,85 @@ pub record Laid (file : List ℕ) : Type 0 where
   pub size : length file ≡ 16 + 12 * word file 4 + 12 * word file 12
 
 pub laid : (file : List ℕ) → contentsRefusal file ≡ 0 → Laid file
+unfolding contentsRefusal layoutFault startIn countIn secondStart fileLength
 laid file e =
-    let room : 16 ≤ length file =
-    byTest (ltb (length file) 16) (λ t. absurd (omega (arith, short-file file (ltb-true (length file) 16 t))))
-    (λ t. ltb-false (length file) 16 t) in
-    let n : word file 4 ≤ 65_535 =
-    byTest (ltb 65_535 (word file 4))
-    (λ t. absurd (omega (arith, first-long file room (ltb-true 65_535 (word file 4) t))))
-    (λ t. ltb-false 65_535 (word file 4) t) in
-    let m : word file 12 ≤ 65_535 =
-    byTest (ltb 65_535 (word file 12))
-    (λ t. absurd (omega (arith, second-long file room (ltb-true 65_535 (word file 12) t))))
-    (λ t. ltb-false 65_535 (word file 12) t) in
-    let first : word file 0 ≡ 16 =
-    byTest (eqb (word file 0) 16) (λ t. eqb-true (word file 0) 16 t)
-    (λ t. absurd (omega (arith, first-start-wrong file room n m (eqb-false (word file 0) 16 t)))) in
-    let second : word file 8 ≡ 16 + 12 * word file 4 =
-    byTest (eqb (word file 8) (16 + 12 * word file 4)) (λ t. eqb-true (word file 8) (16 + 12 * word file 4) t)
-    (λ t.
-    absurd
-    (omega (arith, second-start-wrong file room n m first (eqb-false (word file 8) (16 + 12 * word file 4) t)))) in
-    let size : length file ≡ 16 + 12 * word file 4 + 12 * word file 12 =
-    byTest (eqb (length file) (16 + 12 * word file 4 + 12 * word file 12))
-    (λ t. eqb-true (length file) (16 + 12 * word file 4 + 12 * word file 12) t)
-    (λ t.
-    absurd
-    (omega
-    (arith, length-wrong file room n m first second (eqb-false (length file) (16 + 12 * word file 4 + 12 * word file 12) t)))) in
-    record { room = room; n = n; m = m; first = first; second = second; size = size }
+    let later = orElse-second (refuseIf (ltb (length file) 16) 10) _ e in
+    let few = no-fault _ 0 (orElse-first (refuseIf (ltb 65_535 (word file 4) || ltb 65_535 (word file 12)) 1) _ later) in
+    let starts = fault-none _ 9 (orElse-second (refuseIf (ltb 65_535 (word file 4) || ltb 65_535 (word file 12)) 1) _ later) in
+    let rest = and-second (eqb (word file 0) 16) _ starts in
+    record {
+      room = ltb-false _ _ (no-fault (ltb (length file) 16) 9 (orElse-first _ _ e));
+      n = ltb-false _ _ (or-first (ltb 65_535 (word file 4)) (ltb 65_535 (word file 12)) few);
+      m = ltb-false _ _ (or-second (ltb 65_535 (word file 4)) (ltb 65_535 (word file 12)) few);
+      first = eqb-true _ _ (and-first (eqb (word file 0) 16) _ starts);
+      second = eqb-true _ _ (and-first (eqb (word file 8) (16 + 12 * word file 4)) _ rest);
+      size = eqb-true _ _ (and-second (eqb (word file 8) (16 + 12 * word file 4)) _ rest);
+    }
 
--- The tests of a list's sites.
-module _ (l : List Site) {b : Bool} (p : b ≡ all lawfulSite l) where
-  pub unlawful-site : b ≡ false → 2 ≡ contentRefusal l
-  unfolding contentRefusal orElse
-  unlawful-site t = rw (← p, t)
+-- The refusal of the sites left to test, where those before them are inside the limits, and in order or not.
+unfoldable pub contentLeft : Bool → List Site → ℕ
+contentLeft ordered l = orElse (refuseIf (not (all lawfulSite l)) 2) (refuseIf (not (ordered && ascending siteBefore l)) 3)
 
-  pub unordered-sites : {d : Bool} → b ≡ true → d ≡ ascending siteBefore l → d ≡ false → 3 ≡ contentRefusal l
-  unfolding contentRefusal orElse
-  unordered-sites t q f = rw (← p, t, ← q, f)
+pub content-starts : (l : List Site) → contentLeft true l ≡ contentRefusal l
+unfolding contentLeft contentRefusal
+content-starts l = refl
 
-  pub lawful-sites : {d : Bool} → b ≡ true → d ≡ ascending siteBefore l → d ≡ true → 0 ≡ contentRefusal l
-  unfolding contentRefusal orElse
-  lawful-sites t q f = rw (← p, t, ← q, f)
+regroup : (o b r : Bool) → ((o && (b && true)) && r) ≡ (o && (b && r))
+regroup true true r = refl
+regroup true false r = refl
+regroup false b r = refl
 
--- The first refusal of two.
-pub first-refusal : (a b : ℕ) → (a ≡ 0 → ⊥) → orElse a b ≡ a
-unfolding orElse
-first-refusal zero b h = absurd (h refl)
-first-refusal (suc a) b h = refl
+module _ (file : List ℕ) (at : ℕ) (o : Bool) where
+  pub content-stop : (left : ℕ) → 0 < left → lawfulSite (siteIn file at) ≡ false → 2 ≡ contentLeft o (sitesFrom file at left)
+  unfolding contentLeft orElse all sitesFrom
+  content-stop zero h t = absurd (omega arith)
+  content-stop (suc n) h t = rw t
 
-pub next-refusal : (a b : ℕ) → a ≡ 0 → orElse a b ≡ b
-unfolding orElse
-next-refusal zero b h = refl
-next-refusal (suc a) b h = absurd (omega arith)
+  pub content-step : (left : ℕ) {d : Bool} → 0 < left → lawfulSite (siteIn file at) ≡ true → d ≡ (o && ascending siteBefore (take 2 (sitesFrom file at left))) → contentLeft d (sitesFrom file (at + 12) (left - 1)) ≡ contentLeft o (sitesFrom file at left)
+  unfolding contentLeft ascending all sitesFrom
+  content-step zero h t p = absurd (omega arith)
+  content-step (suc zero) h t p = rw (t, p, regroup o true true)
+  content-step (suc (suc n)) h t p =
+      let e : suc (suc n) - 1 ≡ suc n = omega arith in
+      rw (t, p, e, regroup o (siteBefore (siteIn file at) (siteIn file (at + 12))) (ascending siteBefore (sitesFrom file (at + 12) (suc n))))
+
+  pub content-ends : (b : Bool) (left : ℕ) → left ≤ 0 → o ≡ b → refuseIf (not b) 3 ≡ contentLeft o (sitesFrom file at left)
+  unfolding contentLeft orElse all ascending sitesFrom
+  content-ends b zero h e = rw (e, and-true b)
+  content-ends b (suc n) h e = absurd (omega arith)
 
 -- What the parts of a reading answer.
 module _ (file : List ℕ) {r : ℕ} (p : r ≡ contentsRefusal file) where
-  pub read-contents : (r ≡ 0 → ⊥) → r ≡ readRefusal file
+  pub read-stops : (r ≡ 0 → ⊥) → r ≡ readRefusal file
   unfolding readRefusal
-  read-contents h = rw (← p) (sym (first-refusal _ _ h))
+  read-stops h = first-refused _ p h
 
-  pub read-first : r ≡ 0 → {n s : ℕ} → n ≡ word file 4 → s ≡ contentRefusal (sitesFrom file 16 n) → (s ≡ 0 → ⊥) → s ≡ readRefusal file
-  unfolding readRefusal sitesIn startIn countIn
-  read-first z pn ps h =
-      let none : contentsRefusal file ≡ 0 = sym p ∙ z in
-      rw (next-refusal _ _ none, laid file none .first, ← pn, ← ps) (sym (first-refusal _ _ h))
+  module _ (z : r ≡ 0) {n s : ℕ} (pn : n ≡ word file 4) (ps : s ≡ contentRefusal (sitesFrom file 16 n)) where
+    first-content : s ≡ contentRefusal (sitesIn file First)
+    unfolding sitesIn startIn countIn
+    first-content = rw (laid file (sym p ∙ z) .first, ← pn) ps
 
-  pub read-second : r ≡ 0 → {n m k s t : ℕ} → n ≡ word file 4 → s ≡ contentRefusal (sitesFrom file 16 n) → s ≡ 0 → k ≡ word file 8 → m ≡ word file 12 → t ≡ contentRefusal (sitesFrom file k m) → t ≡ readRefusal file
-  unfolding readRefusal sitesIn startIn countIn
-  read-second z pn ps h pk pm pt =
-      let none : contentsRefusal file ≡ 0 = sym p ∙ z in
-      rw (next-refusal _ _ none, laid file none .first, ← pn, ← ps, next-refusal _ _ h, ← pk, ← pm) pt
+    pub read-first : (s ≡ 0 → ⊥) → s ≡ readRefusal file
+    unfolding readRefusal
+    read-first h = next-decides p z (first-refused _ first-content h)
+
+    pub read-second : s ≡ 0 → {m k t : ℕ} → k ≡ word file 8 → m ≡ word file 12 → t ≡ contentRefusal (sitesFrom file k m) → t ≡ readRefusal file
+    unfolding readRefusal sitesIn startIn countIn
+    read-second h pk pm pt = next-decides p z (next-decides first-content h (rw (← pk, ← pm) pt))
 
 -- What a file that is not refused says.
 module _ (file : List ℕ) (h : readRefusal file ≡ 0) where
+  pub read-contents : contentsRefusal file ≡ 0
+  unfolding readRefusal
+  read-contents = orElse-first _ _ h
+
   pub read-laid : Laid file
-  unfolding readRefusal
-  read-laid = laid file (orElse-first _ _ h)
+  read-laid = laid file read-contents
 
-  pub read-first-lawful : contentRefusal (sitesIn file First) ≡ 0
+  pub read-content : (w : Which) → contentRefusal (sitesIn file w) ≡ 0
   unfolding readRefusal
-  read-first-lawful = orElse-first _ _ (orElse-second _ _ h)
-
-  pub read-second-lawful : contentRefusal (sitesIn file Second) ≡ 0
-  unfolding readRefusal
-  read-second-lawful = orElse-second _ _ (orElse-second _ _ h)
+  read-content First = orElse-first _ _ (orElse-second _ _ h)
+  read-content Second = orElse-second _ _ (orElse-second _ _ h)
 
 -- The answers of a reading.
 module _ (file : List ℕ) {r : ℕ} (p : r ≡ readRefusal file) where
@@ -181,25 +176,18 @@ module _ (file : List ℕ) {r : ℕ} (p : r ≡ readRefusal file) where
 
 -- Where a list of a lawful file lies.
 pub record Inside (file : List ℕ) (w : Which) : Type 0 where
+  pub start : 16 ≤ startIn file w
   pub count : countIn file w ≤ 65_535
   pub body : startIn file w + 12 * countIn file w ≤ length file
   pub small : length file ≤ 1_572_856
 
 pub inside : (file : List ℕ) (w : Which) → Laid file → Inside file w
 unfolding countIn startIn
-inside file First g = record { count = omega arith; body = omega arith; small = omega arith }
-inside file Second g = record { count = omega arith; body = omega arith; small = omega arith }
+inside file First g = record { start = omega arith; count = omega arith; body = omega arith; small = omega arith }
+inside file Second g = record { start = omega arith; count = omega arith; body = omega arith; small = omega arith }
 
--- The answers of consulting a file.
-module _ (file : List ℕ) (w : Which) (place : ℕ) {r : ℕ} (p : r ≡ contentsRefusal file) where
-  pub site-refused : (r ≡ 0 → ⊥) → refused r ≡ siteTold file w place
-  unfolding siteTold siteRefusal
-  site-refused h = told-refused _ (rw (← p) (sym (first-refusal r _ h))) h
-
-  pub site-past : r ≡ 0 → {n : ℕ} → n ≡ countIn file w → n ≤ place → refused 8 ≡ siteTold file w place
-  unfolding siteTold siteRefusal tell
-  site-past z pn h = rw (← p, next-refusal r _ z, ← pn, le-leb _ place h)
-
-  pub site-found : r ≡ 0 → {n k : ℕ} {s : Site} → n ≡ countIn file w → place < n → k ≡ startIn file w → s ≡ siteIn file (k + 12 * place) → answered s ≡ siteTold file w place
-  unfolding siteTold siteRefusal tell
-  site-found z pn h pk ps = rw (← p, next-refusal r _ z, ← pn, lt-leb _ place h, ← pk, ← ps)
+-- Consulting an accepted file finds the site of its list.
+pub site-found : (file : List ℕ) (w : Which) (place : ℕ) → contentsRefusal file ≡ 0 → place < countIn file w → siteTold file w place ≡ answered (siteAt (sitesIn file w) place)
+unfolding siteTold siteRefusal tell orElse sitesIn siteAt
+site-found file w place none h =
+    rw (none, lt-leb (countIn file w) place h, from-at file (startIn file w) (countIn file w) place _ h)

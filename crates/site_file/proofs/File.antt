@@ -1,12 +1,13 @@
 -- The sites in a file's bytes, one after another.
 use mathlib.Core.Path.{_≡_, refl, sym, ap, _∙_}
-use mathlib.Core.Bool.{Bool, true, false, _&&_}
+use mathlib.Core.Bool.{Bool, true, false, _&&_, and-true, and-false}
 use mathlib.Core.List.{List, _++_}
-use Prim.Native.Nat.{ℕ, zero, suc, _+_, _-_, _≤_, _<_}
+use Prim.Native.Nat.{ℕ, zero, suc, _+_, _*_, _≤_, _<_}
+use native.Mathlib.Nat.{add-zero}
 use native.Mathlib.Numerals.{add-one}
 use native.Mathlib.Omega.{arith}
 use lib.IntN.{ℤ, pos}
-use lib.ListN.{length, drop, getD, drop-of-length-le}
+use lib.ListN.{length, take, drop, getD, drop-of-length-le}
 use lib.Seq.{drop-cons}
 use mir.Syntax.{w32}
 use mir.Val.{SFits, toZ, ofZ}
@@ -15,28 +16,17 @@ use Rattle.order.specs.Order.{ascending}
 use Rattle.order.specs.Lists.{all}
 use Rattle.site.specs.declared.Site.{Site}
 use Rattle.site.specs.Site.{within, lawfulSite, siteBefore}
-use Rattle.site.specs.SiteList.{site, columns, zipSites, sites}
+use Rattle.site.specs.SiteList.{Columns, Level, site, sites}
+use Rattle.site.proofs.Columns.{nowhere, sites-length, sites-at}
 use Rattle.site_file.specs.declared.Which.{Which}
 use Rattle.site_file.specs.declared.Which.the-variants.{First, Second}
 use Rattle.site_file.specs.Bytes.{bytes4, word, unsigned, signed}
-use Rattle.site_file.specs.Stored.{stored}
-use Rattle.site_file.specs.File.{siteBytes, bodyBytes, startIn, countIn, siteIn, sitesFrom}
-use Rattle.site_file.proofs.Stored.{stored-none, stored-after}
-
-and-true : (b : Bool) → b ≡ (b && true)
-and-true true = refl
-and-true false = refl
+use Rattle.column.specs.Column.{stored}
+use Rattle.site_file.specs.File.{siteBytes, bodyBytes, startIn, countIn, siteIn, sitesFrom, sitesIn}
+use Rattle.column.proofs.Stored.{stored-none, stored-after}
 
 -- What the contents say of each list.
 module _ (file : List ℕ) where
-  pub start-first : {r : ℕ} {w : Which} → w ≡ First → r ≡ word file 0 → r ≡ startIn file w
-  unfolding startIn
-  start-first e p = rw e p
-
-  pub start-second : {r : ℕ} {w : Which} → w ≡ Second → r ≡ word file 8 → r ≡ startIn file w
-  unfolding startIn
-  start-second e p = rw e p
-
   pub count-first : {r : ℕ} {w : Which} → w ≡ First → r ≡ word file 4 → r ≡ countIn file w
   unfolding countIn
   count-first e p = rw e p
@@ -55,7 +45,7 @@ module _ (file : List ℕ) (at : ℕ) where
   pub lawful-made : {s : Site} {p q : Bool} → s ≡ siteIn file at → SFits w32 (s .x) → p ≡ within (toZ w32 (ofZ w32 (s .x))) → p ≡ true → SFits w32 (s .y) → q ≡ within (toZ w32 (ofZ w32 (s .y))) → q ≡ lawfulSite (siteIn file at)
   unfolding lawfulSite all
   lawful-made e hx px t hy py =
-      rw (← e, ← (px ∙ ap within (toZ-ofZ hx)), t, ← (py ∙ ap within (toZ-ofZ hy))) (and-true _)
+      rw (← e, ← (px ∙ ap within (toZ-ofZ hx)), t, ← (py ∙ ap within (toZ-ofZ hy))) (sym (and-true _))
 
   pub lawful-not : {s : Site} {p : Bool} → s ≡ siteIn file at → SFits w32 (s .x) → p ≡ within (toZ w32 (ofZ w32 (s .x))) → p ≡ false → false ≡ lawfulSite (siteIn file at)
   unfolding lawfulSite all
@@ -64,40 +54,43 @@ module _ (file : List ℕ) (at : ℕ) where
   pub ordered-made : {s t : Site} {r : Bool} → s ≡ siteIn file at → t ≡ siteIn file (at + 12) → SFits w32 (s .x) → SFits w32 (s .y) → SFits w32 (t .x) → SFits w32 (t .y) → r ≡ siteBefore (site (toZ w32 (ofZ w32 (s .x))) (toZ w32 (ofZ w32 (s .y))) (s .number)) (site (toZ w32 (ofZ w32 (t .x))) (toZ w32 (ofZ w32 (t .y))) (t .number)) → r ≡ siteBefore (siteIn file at) (siteIn file (at + 12))
   ordered-made e f hx hy kx ky p = rw (← e, ← f) (rw (toZ-ofZ hx, toZ-ofZ hy, toZ-ofZ kx, toZ-ofZ ky) at p)
 
-  -- One site of a run that is tested against the limits.
-  pub lawful-step : (left : ℕ) → 0 < left → lawfulSite (siteIn file at) ≡ true → all lawfulSite (sitesFrom file (at + 12) (left - 1)) ≡ all lawfulSite (sitesFrom file at left)
-  unfolding all sitesFrom
-  lawful-step zero h t = absurd (omega arith)
-  lawful-step (suc n) h t = let e : suc n - 1 ≡ n = omega arith in rw (t, e)
-
-  pub lawful-stop : (left : ℕ) → 0 < left → lawfulSite (siteIn file at) ≡ false → false ≡ all lawfulSite (sitesFrom file at left)
-  unfolding all sitesFrom
-  lawful-stop zero h t = absurd (omega arith)
-  lawful-stop (suc n) h t = rw t
-
-  pub lawful-end : (left : ℕ) → left ≤ 0 → true ≡ all lawfulSite (sitesFrom file at left)
-  unfolding all sitesFrom
-  lawful-end zero h = refl
-  lawful-end (suc n) h = absurd (omega arith)
-
-  -- One site of a run that is tested for its order.
-  pub ascending-step : (left : ℕ) → 1 < left → siteBefore (siteIn file at) (siteIn file (at + 12)) ≡ true → ascending siteBefore (sitesFrom file (at + 12) (left - 1)) ≡ ascending siteBefore (sitesFrom file at left)
+  -- The order of the next two sites, if there are two.
+  pub ordered-last : (ordered : Bool) (left : ℕ) → left < 2 → ordered ≡ (ordered && ascending siteBefore (take 2 (sitesFrom file at left)))
   unfolding ascending sitesFrom
-  ascending-step zero h t = absurd (omega arith)
-  ascending-step (suc zero) h t = absurd (omega arith)
-  ascending-step (suc (suc n)) h t = let e : suc (suc n) - 1 ≡ suc n = omega arith in rw (t, e)
+  ordered-last ordered zero h = sym (and-true ordered)
+  ordered-last ordered (suc zero) h = sym (and-true ordered)
+  ordered-last ordered (suc (suc n)) h = absurd (omega arith)
 
-  pub ascending-stop : (left : ℕ) → 1 < left → siteBefore (siteIn file at) (siteIn file (at + 12)) ≡ false → false ≡ ascending siteBefore (sitesFrom file at left)
+  ordered-two : (left : ℕ) → 2 ≤ left → ascending siteBefore (take 2 (sitesFrom file at left)) ≡ siteBefore (siteIn file at) (siteIn file (at + 12))
   unfolding ascending sitesFrom
-  ascending-stop zero h t = absurd (omega arith)
-  ascending-stop (suc zero) h t = absurd (omega arith)
-  ascending-stop (suc (suc n)) h t = rw t
+  ordered-two zero h = absurd (omega arith)
+  ordered-two (suc zero) h = absurd (omega arith)
+  ordered-two (suc (suc n)) h = and-true _
 
-  pub ascending-end : (left : ℕ) → left ≤ 1 → true ≡ ascending siteBefore (sitesFrom file at left)
-  unfolding ascending sitesFrom
-  ascending-end zero h = refl
-  ascending-end (suc zero) h = refl
-  ascending-end (suc (suc n)) h = absurd (omega arith)
+  module _ (ordered : Bool) (left : ℕ) (h : 2 ≤ left) {r : Bool} (p : r ≡ siteBefore (siteIn file at) (siteIn file (at + 12))) where
+    pub ordered-kept : r ≡ true → ordered ≡ (ordered && ascending siteBefore (take 2 (sitesFrom file at left)))
+    ordered-kept t = rw (ordered-two left h, ← p, t) (sym (and-true ordered))
+
+    pub ordered-lost : r ≡ false → false ≡ (ordered && ascending siteBefore (take 2 (sitesFrom file at left)))
+    ordered-lost t = rw (ordered-two left h, ← p, t) (sym (and-false ordered))
+
+-- The sites from a position on, by place.
+pub from-length : (l : List ℕ) (at n : ℕ) → length (sitesFrom l at n) ≡ n
+unfolding sitesFrom
+from-length l at zero = refl
+from-length l at (suc n) = ap suc (from-length l (at + 12) n)
+
+pub from-at : (l : List ℕ) (at n i : ℕ) (d : Site) → i < n → getD (sitesFrom l at n) i d ≡ siteIn l (at + 12 * i)
+unfolding sitesFrom
+from-at l at zero i d h = absurd (omega arith)
+from-at l at (suc n) zero d h = rw (add-zero at)
+from-at l at (suc n) (suc i) d h =
+    let e : at + 12 + 12 * i ≡ at + 12 * suc i = omega arith in
+    rw (← e) (from-at l (at + 12) n i d (omega arith))
+
+pub list-length : (file : List ℕ) (w : Which) → length (sitesIn file w) ≡ countIn file w
+unfolding sitesIn
+list-length file w = from-length file (startIn file w) (countIn file w)
 
 -- Three words stored in a row are a site.
 pub site-stored : (l : List ℕ) (at n : ℕ) (x y : ℤ) {p q r : List ℕ} {a b : ℕ} → at + 12 ≤ length l → SFits w32 x → SFits w32 y → a ≡ unsigned (toZ w32 (ofZ w32 x)) → p ≡ stored at (bytes4 a) l → b ≡ unsigned (toZ w32 (ofZ w32 y)) → q ≡ stored (at + 4) (bytes4 b) p → r ≡ stored (at + 8) (bytes4 n) q → r ≡ stored at (siteBytes (site x y n)) l
@@ -111,20 +104,13 @@ site-stored l at n x y h hx hy pa e pb f g =
     (one ∙ stored-after at (at + 8) (bytes4 u ++ bytes4 v) (bytes4 n) l refl (omega arith))
 
 -- One site stored, and then the rest of the list.
-module _ (xs ys : List ℤ) (ns : List ℕ) where
-  left : ℕ → List Site
-  left i = sites (columns (drop i xs) (drop i ys) (drop i ns))
+module _ (c : Columns) (level : Level c) where
+  pub sites-step : (l : List ℕ) (at i : ℕ) {m : List ℕ} → at + 12 ≤ length l → i < length (c .x) → SFits w32 (getD (c .x) i (pos 0)) → SFits w32 (getD (c .y) i (pos 0)) → m ≡ stored at (siteBytes (site (toZ w32 (ofZ w32 (getD (c .x) i (pos 0)))) (toZ w32 (ofZ w32 (getD (c .y) i (pos 0)))) (getD (c .number) i 0))) l → stored (at + 12) (bodyBytes (drop (i + 1) (sites c))) m ≡ stored at (bodyBytes (drop i (sites c))) l
+  unfolding bodyBytes siteBytes bytes4
+  sites-step l at i h lt hx hy e =
+      let left = drop-cons (sites c) i nowhere (omega (arith, sites-length c level)) in
+      rw (e, toZ-ofZ hx, toZ-ofZ hy, left, sites-at c level i nowhere lt, add-one) (stored-after at (at + 12) _ _ l refl h)
 
-  body-step : (i : ℕ) → i < length xs → length ys ≡ length xs → length ns ≡ length xs → bodyBytes (left i) ≡ siteBytes (site (getD xs i (pos 0)) (getD ys i (pos 0)) (getD ns i 0)) ++ bodyBytes (left (i + 1))
-  unfolding left bodyBytes sites zipSites
-  body-step i h p q =
-      rw (drop-cons xs i (pos 0) h, drop-cons ys i (pos 0) (omega arith), drop-cons ns i 0 (omega arith), add-one)
-
-  pub sites-step : (l : List ℕ) (at i : ℕ) {m : List ℕ} → at + 12 ≤ length l → i < length xs → length ys ≡ length xs → length ns ≡ length xs → SFits w32 (getD xs i (pos 0)) → SFits w32 (getD ys i (pos 0)) → m ≡ stored at (siteBytes (site (toZ w32 (ofZ w32 (getD xs i (pos 0)))) (toZ w32 (ofZ w32 (getD ys i (pos 0)))) (getD ns i 0))) l → stored (at + 12) (bodyBytes (sites (columns (drop (i + 1) xs) (drop (i + 1) ys) (drop (i + 1) ns)))) m ≡ stored at (bodyBytes (sites (columns (drop i xs) (drop i ys) (drop i ns)))) l
-  unfolding left siteBytes bytes4
-  sites-step l at i h lt p q hx hy e =
-      rw (e, toZ-ofZ hx, toZ-ofZ hy, body-step i lt p q) (stored-after at (at + 12) _ _ l refl h)
-
-  pub sites-end : (l : List ℕ) (at i : ℕ) → length xs ≤ i → l ≡ stored at (bodyBytes (sites (columns (drop i xs) (drop i ys) (drop i ns)))) l
-  unfolding bodyBytes sites zipSites
-  sites-end l at i h = rw (drop-of-length-le xs h) (sym (stored-none at l))
+  pub sites-end : (l : List ℕ) (at i : ℕ) → length (c .x) ≤ i → l ≡ stored at (bodyBytes (drop i (sites c))) l
+  unfolding bodyBytes
+  sites-end l at i h = rw (drop-of-length-le (sites c) {i = i} (omega (arith, sites-length c level))) (sym (stored-none at l))

@@ -5,7 +5,7 @@ use Prim.Native.Nat.{ℕ, _+_, _*_, _≤_, _<_}
 use borrow.Author.Tests.{le-leb, lt-leb, eq-eqb, ne-eqb}
 use Rattle.site.specs.declared.Site.{Site}
 use Rattle.site.specs.Told.{refused, answered, tell, orElse}
-use Rattle.site.proofs.Told.{told-refused}
+use Rattle.site.proofs.Told.{told-refused, first-refused}
 use Rattle.site_file.specs.declared.Which.{Which}
 use Rattle.site_file.specs.declared.Which.the-variants.{First, Second}
 use denote.Ref.{RefT, now}
@@ -14,7 +14,6 @@ use Rattle.site_file.specs.Bytes.{word}
 use Rattle.site_file.specs.File.{startIn, countIn, siteIn}
 use Rattle.site_file.specs.Calls.{contentsRefusal, siteRefusal, siteTold}
 use Rattle.site_file.specs.Held.{heldStart, ownStarts, heldRefusal, heldTold}
-use Rattle.site_file.proofs.Contents.{first-refusal}
 
 pub held-first : (first second : ℕ) {r : ℕ} {w : Which} → w ≡ First → r ≡ first → r ≡ heldStart first second w
 unfolding heldStart
@@ -33,7 +32,7 @@ held-start file Second p e q f = sym f ∙ q
 module _ (file : List ℕ) (first second : ℕ) (w : Which) (place : ℕ) {r : ℕ} (p : r ≡ contentsRefusal file) where
   pub held-refused : (r ≡ 0 → ⊥) → refused r ≡ heldTold file first second w place
   unfolding heldTold heldRefusal
-  held-refused h = told-refused _ (rw (← p) (sym (first-refusal r _ h))) h
+  held-refused h = told-refused _ (first-refused _ p h) h
 
   module _ (z : r ≡ 0) {a : ℕ} (pa : a ≡ word file 0) where
     pub held-first-wrong : (a ≡ first → ⊥) → refused 10 ≡ heldTold file first second w place

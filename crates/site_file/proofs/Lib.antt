@@ -1,5 +1,4 @@
 -- The laws of site files.
-pub mod Stored
 pub mod Bytes
 pub mod File
 pub mod Contents

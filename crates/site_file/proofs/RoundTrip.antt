@@ -1,72 +1,36 @@
 -- The reader accepts exactly what the writer can write, and yields the lists that were written.
 use mathlib.Core.Path.{_≡_, refl, sym, ap, _∙_}
-use mathlib.Core.Bool.{not}
 use mathlib.Core.List.{List, [], _++_, append-assoc, append-nil}
 use Prim.Native.Nat.{ℕ, _+_, _*_, _≤_, _<_}
 use native.Mathlib.Omega.{arith}
-use borrow.Author.Tests.{not-false}
-use lib.IntN.{pos}
-use lib.ListN.{length, take, drop, getD, length-append, length-drop, take-append-drop}
+use lib.ListN.{length, take, drop, length-append, length-drop, take-append-drop}
 use lib.Seq.{take-add, take-all, take-at, drop-drop}
-use Rattle.order.specs.Lists.{all, All}
+use Rattle.order.specs.Lists.{All}
 use Rattle.column.specs.Column.{overwritten}
 use Rattle.site.specs.declared.Site.{Site}
-use Rattle.site.specs.Site.{lawfulSite}
 use Rattle.site.specs.Told.{answered, unlessRefused, orElse}
-use Rattle.site.specs.SiteList.{Columns, site, sites, siteAt}
-use Rattle.site.specs.Refusal.{contentRefusal, listRefusal}
-use Rattle.site.proofs.Columns.{sites-length}
-use Rattle.site.proofs.Lawful.{content-left}
-use Rattle.site.proofs.Told.{orElse-first, no-fault}
+use Rattle.site.specs.SiteList.{Columns, sites, siteAt, columnsOf}
+use Rattle.site.specs.Refusal.{contentRefusal, listRefusal, listsRefusal}
+use Rattle.site.proofs.Told.{or-none}
+use Rattle.site.proofs.Columns.{columns-sites, columns-length}
+use Rattle.site.proofs.Accepted.{accepted-length, accepted-content}
 use Rattle.site_file.specs.declared.Which.{Which}
 use Rattle.site_file.specs.declared.Which.the-variants.{First, Second}
 use Rattle.site_file.specs.Bytes.{bytes4, word}
-use Rattle.site_file.specs.File.{secondStart, fileLength, bodyBytes, contentsBytes, fileBytes, startIn, countIn, siteIn, sitesFrom, sitesIn}
-use Rattle.site.specs.SiteList.{columnsOf}
+use Rattle.site_file.specs.File.{secondStart, fileLength, bodyBytes, contentsBytes, fileBytes, startIn, countIn, sitesFrom, sitesIn}
 use Rattle.site_file.specs.Calls.{writeRefusal, writeBuffer, contentsRefusal, readRefusal, siteTold}
 use Rattle.site_file.specs.RoundTrip.{Bytes, Numbers, output, EveryOutputAccepted, EveryAcceptedIsOutput}
-use Rattle.site_file.proofs.Contents.{Laid, contents-right, read-laid, read-first-lawful, read-second-lawful, read-answered, site-found}
-use Rattle.site.proofs.Accepted.{accepted-level}
+use Rattle.site_file.proofs.Words.{digits, bytes-back}
+use Rattle.site_file.proofs.File.{from-length, list-length}
+use Rattle.site_file.proofs.Contents.{Laid, contents-right, read-laid, read-answered, site-found}
 use Rattle.site_file.proofs.Writing.{Ready, ready, body-length, contents-length, write-ready, write-answered}
-use Rattle.site_file.proofs.Words.{word-read, bytes-back}
-use Rattle.site_file.proofs.Bodies.{Fit, bytes-length, sites-read, body-back, from-length, from-at, sites-fit, columns-numbers}
-use Rattle.site.proofs.Columns.{columns-sites, columns-length, columns-level}
+use Rattle.site_file.proofs.Bodies.{Fit, sites-read, body-back, sites-fit, columns-numbers, columns-accepted}
 
 -- The four words of a file's contents.
-module _ (n m : ℕ) (hn : n ≤ 65_535) (hm : m ≤ 65_535) (r : List ℕ) where
-  first-start : word (contentsBytes n m ++ r) 0 ≡ 16
-  unfolding contentsBytes
-  first-start =
-      let b : List ℕ = bytes4 n ++ (bytes4 (secondStart n) ++ bytes4 m) in
-      rw (append-assoc (bytes4 16) b r) (word-read [] (b ++ r) 16 0 refl (omega arith))
-
-  first-count : word (contentsBytes n m ++ r) 4 ≡ n
-  unfolding contentsBytes
-  first-count =
-      let b : List ℕ = bytes4 (secondStart n) ++ bytes4 m in
-      let e : (bytes4 16 ++ (bytes4 n ++ b)) ++ r ≡ bytes4 16 ++ (bytes4 n ++ (b ++ r)) = simp append-assoc in
-      rw e (word-read (bytes4 16) (b ++ r) n 4 (bytes-length 16) (omega arith))
-
-  second-start : word (contentsBytes n m ++ r) 8 ≡ 16 + 12 * n
-  unfolding contentsBytes secondStart
-  second-start =
-      let s : ℕ = 16 + 12 * n in
-      let p : List ℕ = bytes4 16 ++ bytes4 n in
-      let e : (bytes4 16 ++ (bytes4 n ++ (bytes4 s ++ bytes4 m))) ++ r ≡ p ++ (bytes4 s ++ (bytes4 m ++ r)) =
-      simp append-assoc in
-      let at : length p ≡ 8 =
-      omega (arith, length-append (bytes4 16) (bytes4 n), bytes-length 16, bytes-length n) in
-      rw e (word-read p (bytes4 m ++ r) s 8 at (omega arith))
-
-  second-count : word (contentsBytes n m ++ r) 12 ≡ m
-  unfolding contentsBytes
-  second-count =
-      let s : List ℕ = bytes4 (secondStart n) in
-      let p : List ℕ = (bytes4 16 ++ bytes4 n) ++ s in
-      let e : (bytes4 16 ++ (bytes4 n ++ (s ++ bytes4 m))) ++ r ≡ p ++ (bytes4 m ++ r) = simp append-assoc in
-      let at : length p ≡ 12 =
-      omega (arith, length-append (bytes4 16 ++ bytes4 n) s, length-append (bytes4 16) (bytes4 n), bytes-length 16, bytes-length n, bytes-length (secondStart n)) in
-      rw e (word-read p r m 12 at (omega arith))
+contents-words : (n m : ℕ) → n ≤ 65_535 → m ≤ 65_535 → (r : List ℕ) → (word (contentsBytes n m ++ r) 0 ≡ 16) × (word (contentsBytes n m ++ r) 4 ≡ n) × (word (contentsBytes n m ++ r) 8 ≡ 16 + 12 * n) × (word (contentsBytes n m ++ r) 12 ≡ m)
+unfolding contentsBytes secondStart bytes4 word
+contents-words n m hn hm r =
+    (refl, digits n (omega arith), digits (16 + 12 * n) (omega arith), digits m (omega arith))
 
 -- What a file of two lists says.
 module _ (a b : List Site) (hn : length a ≤ 65_535) (hm : length b ≤ 65_535) where
@@ -77,30 +41,15 @@ module _ (a b : List Site) (hn : length a ≤ 65_535) (hm : length b ≤ 65_535)
       omega
       (arith, length-append c (bodyBytes a ++ bodyBytes b), length-append (bodyBytes a) (bodyBytes b), contents-length (length a) (length b), body-length a, body-length b)
 
-  file-word-0 : word (fileBytes a b) 0 ≡ 16
+  file-words : (word (fileBytes a b) 0 ≡ 16) × (word (fileBytes a b) 4 ≡ length a) × (word (fileBytes a b) 8 ≡ 16 + 12 * length a) × (word (fileBytes a b) 12 ≡ length b)
   unfolding fileBytes
-  file-word-0 = first-start (length a) (length b) hn hm (bodyBytes a ++ bodyBytes b)
-
-  file-word-4 : word (fileBytes a b) 4 ≡ length a
-  unfolding fileBytes
-  file-word-4 = first-count (length a) (length b) hn hm (bodyBytes a ++ bodyBytes b)
-
-  file-word-8 : word (fileBytes a b) 8 ≡ 16 + 12 * length a
-  unfolding fileBytes
-  file-word-8 = second-start (length a) (length b) hn hm (bodyBytes a ++ bodyBytes b)
-
-  file-word-12 : word (fileBytes a b) 12 ≡ length b
-  unfolding fileBytes
-  file-word-12 = second-count (length a) (length b) hn hm (bodyBytes a ++ bodyBytes b)
+  file-words = contents-words (length a) (length b) hn hm (bodyBytes a ++ bodyBytes b)
 
   file-contents : 0 ≡ contentsRefusal (fileBytes a b)
   file-contents =
-      let f : List ℕ = fileBytes a b in
       let size = file-length in
-      let w = file-word-4 in
-      let v = file-word-12 in
-      contents-right f (omega arith) (omega arith) (omega arith) file-word-0
-      (omega (arith, file-word-8)) (omega arith)
+      let w = file-words in
+      contents-right (fileBytes a b) (omega arith) (omega arith) (omega arith) (w .0) (omega arith) (omega arith)
 
   file-bodies : All Fit a → All Fit b → (sitesFrom (fileBytes a b) 16 (length a) ≡ a) × (sitesFrom (fileBytes a b) (16 + 12 * length a) (length b) ≡ b)
   unfolding fileBytes
@@ -117,63 +66,49 @@ module _ (a b : List Site) (hn : length a ≤ 65_535) (hm : length b ≤ 65_535)
   module _ (fa : All Fit a) (fb : All Fit b) where
     file-first : sitesIn (fileBytes a b) First ≡ a
     unfolding sitesIn startIn countIn
-    file-first = rw (file-word-0, file-word-4) (file-bodies fa fb .0)
+    file-first = rw (file-words .0, file-words .1) (file-bodies fa fb .0)
 
     file-second : sitesIn (fileBytes a b) Second ≡ b
     unfolding sitesIn startIn countIn
-    file-second = rw (file-word-8, file-word-12) (file-bodies fa fb .1)
+    file-second = rw (file-words .2, file-words .3) (file-bodies fa fb .1)
 
     file-accepted : contentRefusal a ≡ 0 → contentRefusal b ≡ 0 → 0 ≡ readRefusal (fileBytes a b)
     unfolding readRefusal orElse
     file-accepted ha hb = rw (← file-contents, file-first, file-second, ha, hb)
 
--- The sites of a lawful list.
-module _ (c : Columns) (ok : listRefusal c ≡ 0) (few : length (c .x) ≤ 65_535) where
-  lawful-content : contentRefusal (sites c) ≡ 0
-  lawful-content = sym (content-left c (accepted-level c ok) few) ∙ ok
-
-  lawful-fit : Numbers c → All Fit (sites c)
-  unfolding contentRefusal
-  lawful-fit h =
-      sites-fit c h (not-false _ (no-fault (not (all lawfulSite (sites c))) 1 (orElse-first _ _ lawful-content)))
-
 -- The writer's output is the bytes of the two lists.
 output-bytes : (a b : Columns) (buffer : List ℕ) → Ready a b (length buffer) → writeRefusal a b (length buffer) ≡ 0 → output a b buffer ≡ fileBytes (sites a) (sites b)
 unfolding output writeBuffer unlessRefused overwritten fileLength
 output-bytes a b buffer k h =
-    let na : length (sites a) ≡ length (a .x) = sites-length a (k .first-level) in
-    let nb : length (sites b) ≡ length (b .x) = sites-length b (k .second-level) in
+    let na = accepted-length a (k .first) in
+    let nb = accepted-length b (k .second) in
     let size : length (fileBytes (sites a) (sites b)) ≡ 16 + 12 * length (a .x) + 12 * length (b .x) =
     omega (arith, file-length (sites a) (sites b) (omega arith) (omega arith)) in
     rw h (take-at (fileBytes (sites a) (sites b)) (drop (length (fileBytes (sites a) (sites b))) buffer) _ size)
 
 -- A site of the file, by place.
 yields-site : (file : List ℕ) (w : Which) (c : Columns) (place : ℕ) → 0 ≡ contentsRefusal file → sitesIn file w ≡ sites c → countIn file w ≡ length (c .x) → place < length (c .x) → siteTold file w place ≡ answered (siteAt (sites c) place)
-unfolding sitesIn siteAt
 yields-site file w c place ok same count h =
-    let at : siteAt (sites c) place ≡ siteIn file (startIn file w + 12 * place) =
-    ap (λ (l : List Site). siteAt l place) (sym same)
-    ∙ from-at file (startIn file w) (countIn file w) place (site (pos 0) (pos 0) 0) (omega arith) in
-    sym (site-found file w place ok refl refl (omega arith) refl at)
+    site-found file w place (sym ok) (omega arith) ∙ ap (λ (l : List Site). answered (siteAt l place)) same
 
 pub every-output-accepted : EveryOutputAccepted
 unfolding countIn
 every-output-accepted a b buffer ha hb h =
     let k = ready a b (length buffer) h in
-    let na : length (sites a) ≡ length (a .x) = sites-length a (k .first-level) in
-    let nb : length (sites b) ≡ length (b .x) = sites-length b (k .second-level) in
+    let na = accepted-length a (k .first) in
+    let nb = accepted-length b (k .second) in
     let la : length (sites a) ≤ 65_535 = omega arith in
     let lb : length (sites b) ≤ 65_535 = omega arith in
-    let fa = lawful-fit a (k .first) (k .n) ha in
-    let fb = lawful-fit b (k .second) (k .m) hb in
+    let fa = sites-fit a (k .first) ha in
+    let fb = sites-fit b (k .second) hb in
     let file : List ℕ = fileBytes (sites a) (sites b) in
     let ok : 0 ≡ contentsRefusal file = file-contents (sites a) (sites b) la lb in
-    let n : word file 4 ≡ length (a .x) = file-word-4 (sites a) (sites b) la lb ∙ na in
-    let m : word file 12 ≡ length (b .x) = file-word-12 (sites a) (sites b) la lb ∙ nb in
+    let n : word file 4 ≡ length (a .x) = file-words (sites a) (sites b) la lb .1 ∙ na in
+    let m : word file 12 ≡ length (b .x) = file-words (sites a) (sites b) la lb .3 ∙ nb in
     let first : sitesIn file First ≡ sites a = file-first (sites a) (sites b) la lb fa fb in
     let second : sitesIn file Second ≡ sites b = file-second (sites a) (sites b) la lb fa fb in
     let accepted : 0 ≡ readRefusal file =
-    file-accepted (sites a) (sites b) la lb fa fb (lawful-content a (k .first) (k .n)) (lawful-content b (k .second) (k .m)) in
+    file-accepted (sites a) (sites b) la lb fa fb (accepted-content a (k .first)) (accepted-content b (k .second)) in
     rw (output-bytes a b buffer k h)
     (record {
       accepted = sym (read-answered file accepted refl (sym n) (sym m));
@@ -218,26 +153,18 @@ file-back file h g =
     rw (from-length, from-length, g .first, g .second, first, second, bodies, head) (take-append-drop 16 file)
 
 pub every-accepted-is-output : EveryAcceptedIsOutput
-unfolding sitesIn countIn
+unfolding sitesIn countIn listsRefusal
 every-accepted-is-output file h ok =
     let g = read-laid file ok in
     let a : Columns = columnsOf (sitesIn file First) in
     let b : Columns = columnsOf (sitesIn file Second) in
-    let na : length (a .x) ≡ word file 4 =
-    columns-length (sitesIn file First) ∙ from-length file (startIn file First) (word file 4) in
-    let nb : length (b .x) ≡ word file 12 =
-    columns-length (sitesIn file Second) ∙ from-length file (startIn file Second) (word file 12) in
-    let la : listRefusal a ≡ 0 =
-    content-left a (columns-level (sitesIn file First)) (omega (arith, g .n))
-    ∙ ap contentRefusal (columns-sites (sitesIn file First))
-    ∙ read-first-lawful file ok in
-    let lb : listRefusal b ≡ 0 =
-    content-left b (columns-level (sitesIn file Second)) (omega (arith, g .m))
-    ∙ ap contentRefusal (columns-sites (sitesIn file Second))
-    ∙ read-second-lawful file ok in
+    let na : length (a .x) ≡ word file 4 = columns-length (sitesIn file First) ∙ list-length file First in
+    let nb : length (b .x) ≡ word file 12 = columns-length (sitesIn file Second) ∙ list-length file Second in
+    let la : listRefusal a ≡ 0 = columns-accepted file ok First in
+    let lb : listRefusal b ≡ 0 = columns-accepted file ok Second in
     let size : 16 + 12 * length (a .x) + 12 * length (b .x) ≡ length file = omega (arith, g .size) in
     let none : (buffer : List ℕ) → length file ≤ length buffer → 0 ≡ writeRefusal a b (length buffer) =
-    λ buffer room. write-ready a b (length buffer) refl la refl lb (omega arith) in
+    λ buffer room. write-ready a b (length buffer) refl (or-none _ _ la ∙ lb) (omega arith) in
     let bytes : fileBytes (sites a) (sites b) ≡ file =
     rw (columns-sites (sitesIn file First), columns-sites (sitesIn file Second)) (file-back file h g) in (
       a,

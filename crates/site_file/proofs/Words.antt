@@ -7,8 +7,8 @@ use native.Mathlib.Omega.{arith}
 use borrow.Author.Tests.{leb-true}
 use lib.Dec.{ltb, leb}
 use lib.IntN.{ℤ, pos, negsuc}
-use lib.ListN.{length, take, drop, getD, length-drop}
-use lib.Seq.{getD-append-add, getD-drop}
+use lib.ListN.{length, take, drop, getD, length-drop, drop-of-length-le}
+use lib.Seq.{getD-append-add, getD-drop, take-all}
 use mir.Syntax.{w32}
 use mir.Val.{SFits, toZ, ofZ}
 use mir.Facts.{toZ-ofZ, ofZ-toZ}
@@ -29,7 +29,7 @@ second-byte n = sym (div-div-eq-div-mul n 256 256)
 third-byte : (n : ℕ) → n / 16_777_216 ≡ n / 256 / 256 / 256
 third-byte n = sym (div-div-eq-div-mul n 65_536 256) ∙ ap (λ (k : ℕ). k / 256) (second-byte n)
 
-digits : (n : ℕ) → n < 4_294_967_296 → n % 256 + 256 * (n / 256 % 256) + 65_536 * (n / 65_536 % 256) + 16_777_216 * (n / 16_777_216 % 256) ≡ n
+pub digits : (n : ℕ) → n < 4_294_967_296 → n % 256 + 256 * (n / 256 % 256) + 65_536 * (n / 65_536 % 256) + 16_777_216 * (n / 16_777_216 % 256) ≡ n
 digits n h =
     let small : n / 256 / 256 / 256 < 256 = omega arith in
     rw (second-byte, third-byte, mod-eq-of-lt small) (omega arith)
@@ -136,6 +136,30 @@ byte (b ∷ l) (suc i) h = byte l i (h .1)
 pub word-drop : (l : List ℕ) (at : ℕ) → word l at ≡ word (drop at l) 0
 unfolding word
 word-drop l at = rw (getD-drop at l 0 0, getD-drop at l 1 0, getD-drop at l 2 0, getD-drop at l 3 0, add-zero at)
+
+-- The rest of a list, as the code lends it.
+pub rest-of : {A : Type 0} (l : List A) (at : ℕ) → take (length l - at) (drop at l) ≡ drop at l
+rest-of l at = take-all (length l - at) (drop at l) (omega (arith, length-drop at l))
+
+word-first-of : (l : List ℕ) {a b c d r : ℕ} → r ≡ a + 256 * b + 65_536 * c + 16_777_216 * d → a ≡ getD l 0 0 → b ≡ getD l 1 0 → c ≡ getD l 2 0 → d ≡ getD l 3 0 → r ≡ word l 0
+unfolding word
+word-first-of l p pa pb pc pd = omega arith
+
+-- A word is made of bytes of the rest of a list, and is 0 past its end.
+module _ (l : List ℕ) (at : ℕ) where
+  abbrev rest : List ℕ
+  rest = take (length l - at) (drop at l)
+
+  pub word-made : {a b c d r : ℕ} → r ≡ a + 256 * b + 65_536 * c + 16_777_216 * d → a ≡ getD rest 0 0 → b ≡ getD rest 1 0 → c ≡ getD rest 2 0 → d ≡ getD rest 3 0 → r ≡ word l at
+  word-made p pa pb pc pd =
+      word-first-of rest p pa pb pc pd ∙ ap (λ (m : List ℕ). word m 0) (rest-of l at) ∙ sym (word-drop l at)
+
+word-nothing : word [] 0 ≡ 0
+unfolding word
+word-nothing = refl
+
+pub word-none : (l : List ℕ) (at : ℕ) → length l < at → 0 ≡ word l at
+word-none l at h = rw (word-drop l at, drop-of-length-le l {i = at} (omega arith), word-nothing)
 
 pub bytes-back : (l : List ℕ) (at : ℕ) → Bytes l → at + 4 ≤ length l → bytes4 (word l at) ≡ take 4 (drop at l)
 bytes-back l at h k =

@@ -1,27 +1,22 @@
 -- Writing: its refusals, and the parts of a file stored one after another.
 use mathlib.Core.Path.{_≡_, refl, sym, ap, _∙_}
 use mathlib.Core.List.{List, [], _∷_, _++_, append-assoc}
-use Prim.Native.Nat.{ℕ, zero, suc, _+_, _*_, _≤_, _<_}
+use Prim.Native.Nat.{ℕ, _+_, _*_, _≤_, _<_}
 use native.Mathlib.Nat.{zero-add}
 use native.Mathlib.Omega.{arith}
 use borrow.Author.Tests.{lt-ltb, le-ltb, ltb-false}
-use lib.Dec.{leb}
 use lib.ListN.{length, length-append}
-use Rattle.column.specs.Column.{overwritten}
+use Rattle.column.specs.Column.{overwritten, stored}
+use Rattle.column.proofs.Stored.{stored-start, stored-after}
 use Rattle.site.specs.declared.Site.{Site}
 use Rattle.site.specs.Told.{refused, answered, unlessRefused, orElse}
-use Rattle.site.specs.SiteList.{Columns, Level, sites}
-use Rattle.site.specs.Refusal.{equalLengths, listRefusal, listsRefusal}
-use Rattle.site.proofs.Told.{told, told-refused, unless-kept}
-use Rattle.site.proofs.Columns.{sites-length}
-use Rattle.site.proofs.Accepted.{accepted-level, accepted-few}
-use Rattle.site.proofs.Told.{orElse-first, orElse-second, no-fault}
+use Rattle.site.specs.SiteList.{Columns, sites}
+use Rattle.site.specs.Refusal.{listRefusal, listsRefusal}
+use Rattle.site.proofs.Told.{told, told-refused, unless-kept, first-refused, next-decides, orElse-first, orElse-second, no-fault}
+use Rattle.site.proofs.Accepted.{accepted-few, accepted-length, both-accepted}
 use Rattle.site_file.specs.Bytes.{bytes4}
-use Rattle.site_file.specs.Stored.{stored}
 use Rattle.site_file.specs.File.{secondStart, fileLength, siteBytes, bodyBytes, contentsBytes, fileBytes}
 use Rattle.site_file.specs.Calls.{writeRefusal, writeTold, writeBuffer}
-use Rattle.site_file.proofs.Stored.{stored-start, stored-after}
-use Rattle.site_file.proofs.Contents.{first-refusal, next-refusal}
 
 -- A body has 12 bytes for each site.
 pub body-length : (l : List Site) → length (bodyBytes l) ≡ 12 * length l
@@ -40,63 +35,44 @@ contents-stored l n m h e f g k =
     stored-after 0 8 w (bytes4 (16 + 12 * n)) l refl (omega arith) in
     rw (k, g, f, e, two, three) (stored-after 0 12 (w ++ bytes4 (16 + 12 * n)) (bytes4 m) l refl (omega arith))
 
+-- Two accepted lists are not long.
+pub both-few : (a b : Columns) → listsRefusal a b ≡ 0 → (length (a .x) ≤ 65_535) × (length (b .x) ≤ 65_535)
+both-few a b h = let lists = both-accepted a b h in (accepted-few a (lists .0), accepted-few b (lists .1))
+
 -- The refusals of writing, one test after another.
-module _ (a b : Columns) (room : ℕ) {r : ℕ} (p : r ≡ listRefusal a) where
-  pub write-first : (r ≡ 0 → ⊥) → r ≡ writeRefusal a b room
-  unfolding writeRefusal listsRefusal
-  write-first h = rw (← p, first-refusal r _ h) (sym (first-refusal r _ h))
+module _ (a b : Columns) (room : ℕ) {r : ℕ} (p : r ≡ listsRefusal a b) where
+  pub write-lists : (r ≡ 0 → ⊥) → r ≡ writeRefusal a b room
+  unfolding writeRefusal
+  write-lists h = first-refused _ p h
 
-  module _ (z : r ≡ 0) {s : ℕ} (q : s ≡ listRefusal b) where
-    pub write-second : (s ≡ 0 → ⊥) → s ≡ writeRefusal a b room
-    unfolding writeRefusal listsRefusal
-    write-second h = rw (← p, ← q, next-refusal r s z) (sym (first-refusal s _ h))
+  pub write-short : r ≡ 0 → room < 16 + 12 * length (a .x) + 12 * length (b .x) → 6 ≡ writeRefusal a b room
+  unfolding writeRefusal fileLength
+  write-short z h = next-decides p z (rw (lt-ltb room (16 + 12 * length (a .x) + 12 * length (b .x)) h))
 
-    pub write-short : s ≡ 0 → room < 16 + 12 * length (a .x) + 12 * length (b .x) → 6 ≡ writeRefusal a b room
-    unfolding writeRefusal listsRefusal fileLength
-    write-short y h =
-        rw (
-          ← p,
-          ← q,
-          next-refusal r s z,
-          next-refusal s _ y,
-          lt-ltb room (16 + 12 * length (a .x) + 12 * length (b .x)) h,
-        )
-
-    pub write-ready : s ≡ 0 → 16 + 12 * length (a .x) + 12 * length (b .x) ≤ room → 0 ≡ writeRefusal a b room
-    unfolding writeRefusal listsRefusal fileLength
-    write-ready y h =
-        rw (
-          ← p,
-          ← q,
-          next-refusal r s z,
-          next-refusal s _ y,
-          le-ltb room (16 + 12 * length (a .x) + 12 * length (b .x)) h,
-        )
+  pub write-ready : r ≡ 0 → 16 + 12 * length (a .x) + 12 * length (b .x) ≤ room → 0 ≡ writeRefusal a b room
+  unfolding writeRefusal fileLength
+  write-ready z h = next-decides p z (rw (le-ltb room (16 + 12 * length (a .x) + 12 * length (b .x)) h))
 
 -- What is known where nothing refuses.
 pub record Ready (a b : Columns) (room : ℕ) : Type 0 where
   pub first : listRefusal a ≡ 0
   pub second : listRefusal b ≡ 0
-  pub first-level : Level a
-  pub second-level : Level b
   pub n : length (a .x) ≤ 65_535
   pub m : length (b .x) ≤ 65_535
   pub space : 16 + 12 * length (a .x) + 12 * length (b .x) ≤ room
 
 pub ready : (a b : Columns) (room : ℕ) → writeRefusal a b room ≡ 0 → Ready a b room
-unfolding writeRefusal listsRefusal fileLength
+unfolding writeRefusal fileLength
 ready a b room h =
-    let lists = orElse-first (orElse (listRefusal a) (listRefusal b)) _ h in
-    let first = orElse-first (listRefusal a) (listRefusal b) lists in
-    let second = orElse-second (listRefusal a) (listRefusal b) lists in
+    let none = orElse-first (listsRefusal a b) _ h in
+    let lists = both-accepted a b none in
+    let few = both-few a b none in
     record {
-      first = first;
-      second = second;
-      first-level = accepted-level a first;
-      second-level = accepted-level b second;
-      n = accepted-few a first;
-      m = accepted-few b second;
-      space = ltb-false room _ (no-fault _ 5 (orElse-second (orElse (listRefusal a) (listRefusal b)) _ h));
+      first = lists .0;
+      second = lists .1;
+      n = few .0;
+      m = few .1;
+      space = ltb-false room _ (no-fault _ 5 (orElse-second (listsRefusal a b) _ h));
     }
 
 pub contents-length : (n m : ℕ) → length (contentsBytes n m) ≡ 16
@@ -135,6 +111,6 @@ module _ (a b : Columns) (buffer : List ℕ) {r : ℕ} (p : r ≡ writeRefusal a
   unfolding writeBuffer unlessRefused
   write-stored z e f g =
       let k = ready a b (length buffer) (sym p ∙ z) in
-      let na : length (sites a) ≡ length (a .x) = sites-length a (k .first-level) in
-      let nb : length (sites b) ≡ length (b .x) = sites-length b (k .second-level) in
+      let na : length (sites a) ≡ length (a .x) = accepted-length a (k .first) in
+      let nb : length (sites b) ≡ length (b .x) = accepted-length b (k .second) in
       rw (sym p ∙ z, g, f, e, ← na, ← nb) (file-stored (sites a) (sites b) buffer (omega arith))

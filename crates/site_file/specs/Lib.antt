@@ -1,6 +1,5 @@
 -- What a reader must believe of site files; the laws are in `proofs/`.
 pub mod Bytes
-pub mod Stored
 pub mod File
 pub mod Calls
 pub mod Held

@@ -1,14 +1,14 @@
 // The site file: writing two lists, reading a file, and consulting it site by site.
 ghost use mathlib.Core.Path.{_≡_};
-ghost use Prim.Native.Nat.{_+_, _*_, _%_, _≤_, _<_};
-ghost use lib.ListN.{length, getD};
+ghost use mathlib.Core.Bool.{_&&_};
+ghost use Prim.Native.Nat.{_+_, _*_, _%_, _≤_};
+ghost use lib.ListN.{length, getD, take};
 ghost use Rattle.order.specs.Order.{ascending};
-ghost use Rattle.order.specs.Lists.{all};
 ghost use Rattle.site.specs.Site.{lawfulSite, siteBefore};
-ghost use Rattle.site.specs.SiteList.{site, columns, sites};
-ghost use Rattle.site.specs.Refusal.{contentRefusal, listRefusal};
+ghost use Rattle.site.specs.SiteList.{Level, site, columns, sites};
+ghost use Rattle.site.specs.Refusal.{contentRefusal};
 ghost use Rattle.site_file.specs.Bytes.{bytes4, word, unsigned, signed};
-ghost use Rattle.site_file.specs.Stored.{stored};
+ghost use Rattle.column.specs.Column.{stored};
 ghost use Rattle.site_file.specs.File.{siteBytes, bodyBytes, contentsBytes, startIn, countIn, siteIn, sitesFrom};
 ghost use Rattle.site_file.specs.Held.{heldStart, heldTold};
 ghost use Rattle.site_file.specs.Calls.{
@@ -56,22 +56,50 @@ pub struct Reader<'a> {
     pub second: u32,
 }
 
-// A byte as a number.
-fn wide(byte: u8) -> u32
-    ensures { λ r. ⌜ (r ≡ byte) × (r < 256) ⌝ }
+// Four bytes as a number, the lowest first.
+fn number_of(a: u8, b: u8, c: u8, d: u8) -> u32
+    ensures { λ r. ⌜ r ≡ a + 256 * b + 65536 * c + 16777216 * d ⌝ }
 {
-    byte as u32
+    a as u32 + 256 * (b as u32) + 65536 * (c as u32) + 16777216 * (d as u32)
 }
 
-// The number in the four bytes at a position.
-pub fn word_at(file: &[u8], at: usize) -> u32
+// The byte at a position, 0 past the end.
+fn byte_at(file: &[u8], at: usize) -> u8
+    ensures { λ r. ⌜ r ≡ getD (now (file .entry)) at 0 ⌝ }
+{
+    if at < file.len() {
+        return file[at];
+    }
+    0
+}
+
+// The number in the four bytes at a position inside a file.
+fn whole_word(file: &[u8], at: usize) -> u32
     requires { ⌜ at + 4 ≤ length (now file) ⌝ }
     ensures { λ r. ⌜ r ≡ word (now (file .entry)) at ⌝ }
 {
-    wide(file[at])
-        + 256 * wide(file[at + 1])
-        + 65536 * wide(file[at + 2])
-        + 16777216 * wide(file[at + 3])
+    number_of(file[at], file[at + 1], file[at + 2], file[at + 3])
+}
+
+// The number in the four bytes at a position, bytes past the end being 0. A word of whole contents takes one test.
+pub fn word_at(file: &[u8], at: usize) -> u32
+    ensures { λ r. ⌜ r ≡ word (now (file .entry)) at ⌝ }
+{
+    if at <= 12 {
+        if 16 <= file.len() {
+            return whole_word(file, at);
+        }
+    }
+    if file.len() < at {
+        return 0;
+    }
+    let rest = &file[at..];
+    number_of(
+        byte_at(rest, 0),
+        byte_at(rest, 1),
+        byte_at(rest, 2),
+        byte_at(rest, 3),
+    )
 }
 
 // An unsigned number of 32 bits as a signed one.
@@ -127,10 +155,10 @@ fn put_site(buffer: &mut [u8], at: usize, x: i32, y: i32, number: u32)
 // A list stored as the bytes of its sites.
 fn put_sites(buffer: &mut [u8], start: usize, x: &[i32], y: &[i32], number: &[u32])
     requires { ⌜ start + 12 * length (now x) ≤ length (now buffer) ⌝ }
-    requires { ⌜ (length (now y) ≡ length (now x)) × (length (now number) ≡ length (now x)) ⌝ }
+    requires { ⌜ Level (columns (now x) (now y) (now number)) ⌝ }
     ensures { λ _.
-        ⌜ now (buffer .exit)
-        ≡ stored start (bodyBytes (sites (columns (now (x .entry)) (now (y .entry)) (now (number .entry))))) (now (buffer .entry)) ⌝ }
+        let c = columns (now (x .entry)) (now (y .entry)) (now (number .entry)) in
+        ⌜ now (buffer .exit) ≡ stored start (bodyBytes (sites c)) (now (buffer .entry)) ⌝ }
 {
     let mut at = start;
     let mut i = 0;
@@ -163,16 +191,13 @@ fn write_refusal(
     room: usize,
 ) -> u32
     ensures { λ r.
-        ⌜ r
-        ≡ writeRefusal (columns (now (ax .entry)) (now (ay .entry)) (now (an .entry))) (columns (now (bx .entry)) (now (by .entry)) (now (bn .entry))) room ⌝ }
+        let a = columns (now (ax .entry)) (now (ay .entry)) (now (an .entry)) in
+        let b = columns (now (bx .entry)) (now (by .entry)) (now (bn .entry)) in
+        ⌜ r ≡ writeRefusal a b room ⌝ }
 {
-    let first = site::list_refusal(ax, ay, an);
-    if first != 0 {
-        return first;
-    }
-    let second = site::list_refusal(bx, by, bn);
-    if second != 0 {
-        return second;
+    let lists = site::lists_refusal(ax, ay, an, bx, by, bn);
+    if lists != 0 {
+        return lists;
     }
     if room < 16 + 12 * ax.len() + 12 * bx.len() {
         return 6;
@@ -190,12 +215,11 @@ pub fn write(
     bn: &[u32],
     buffer: &mut [u8],
 ) -> Written
-    ensures told { λ r.
-        ⌜ writtenTold r
-        ≡ writeTold (columns (now (ax .entry)) (now (ay .entry)) (now (an .entry))) (columns (now (bx .entry)) (now (by .entry)) (now (bn .entry))) (length (now (buffer .entry))) ⌝ }
-    ensures bytes { λ _.
-        ⌜ now (buffer .exit)
-        ≡ writeBuffer (columns (now (ax .entry)) (now (ay .entry)) (now (an .entry))) (columns (now (bx .entry)) (now (by .entry)) (now (bn .entry))) (now (buffer .entry)) ⌝ }
+    ensures { λ r.
+        let a = columns (now (ax .entry)) (now (ay .entry)) (now (an .entry)) in
+        let b = columns (now (bx .entry)) (now (by .entry)) (now (bn .entry)) in
+        ⌜ (writtenTold r ≡ writeTold a b (length (now (buffer .entry))))
+        × (now (buffer .exit) ≡ writeBuffer a b (now (buffer .entry))) ⌝ }
 {
     let refusal = write_refusal(ax, ay, an, bx, by, bn, buffer.len());
     if refusal != 0 {
@@ -210,14 +234,14 @@ pub fn write(
 }
 
 // The site whose bytes begin at a position.
-pub fn site_at(file: &[u8], at: usize) -> Site
+fn site_at(file: &[u8], at: usize) -> Site
     requires { ⌜ at + 12 ≤ length (now file) ⌝ }
     ensures { λ r. ⌜ r ≡ siteIn (now (file .entry)) at ⌝ }
 {
     Site {
-        x: signed(word_at(file, at)),
-        y: signed(word_at(file, at + 4)),
-        number: word_at(file, at + 8),
+        x: signed(whole_word(file, at)),
+        y: signed(whole_word(file, at + 4)),
+        number: whole_word(file, at + 8),
     }
 }
 
@@ -233,48 +257,20 @@ fn lawful_at(file: &[u8], at: usize) -> bool
     false
 }
 
-// Whether the site at a position comes before the site after it.
-fn ordered_at(file: &[u8], at: usize) -> bool
-    requires { ⌜ at + 24 ≤ length (now file) ⌝ }
-    ensures { λ r. ⌜ r ≡ siteBefore (siteIn (now (file .entry)) at) (siteIn (now (file .entry)) (at + 12)) ⌝ }
+// Whether sites in order so far stay so: the site at a position comes before the one after it, if there is one.
+fn ordered_at(file: &[u8], at: usize, left: usize, ordered: bool) -> bool
+    requires { ⌜ at + 12 * left ≤ length (now file) ⌝ }
+    ensures { λ r. ⌜ r ≡ (ordered && ascending siteBefore (take 2 (sitesFrom (now (file .entry)) at left))) ⌝ }
 {
+    if left < 2 {
+        return ordered;
+    }
     let s = site_at(file, at);
     let t = site_at(file, at + 12);
-    site::before(s.x, s.y, s.number, t.x, t.y, t.number)
-}
-
-// Whether all of the sites from a position on are inside the limits.
-fn all_lawful(file: &[u8], start: usize, count: usize) -> bool
-    requires { ⌜ start + 12 * count ≤ length (now file) ⌝ }
-    ensures { λ r. ⌜ r ≡ all lawfulSite (sitesFrom (now (file .entry)) start count) ⌝ }
-{
-    let mut at = start;
-    let mut left = count;
-    while 0 < left {
-        if !lawful_at(file, at) {
-            return false;
-        }
-        at += 12;
-        left -= 1;
+    if site::before(s.x, s.y, s.number, t.x, t.y, t.number) {
+        return ordered;
     }
-    true
-}
-
-// Whether the sites from a position on are strictly ascending.
-fn all_ascending(file: &[u8], start: usize, count: usize) -> bool
-    requires { ⌜ start + 12 * count ≤ length (now file) ⌝ }
-    ensures { λ r. ⌜ r ≡ ascending siteBefore (sitesFrom (now (file .entry)) start count) ⌝ }
-{
-    let mut at = start;
-    let mut left = count;
-    while 1 < left {
-        if !ordered_at(file, at) {
-            return false;
-        }
-        at += 12;
-        left -= 1;
-    }
-    true
+    false
 }
 
 // The refusal of the sites from a position on: 2, 3 or none.
@@ -282,13 +278,18 @@ fn content_refusal(file: &[u8], start: usize, count: usize) -> u32
     requires { ⌜ start + 12 * count ≤ length (now file) ⌝ }
     ensures { λ r. ⌜ r ≡ contentRefusal (sitesFrom (now (file .entry)) start count) ⌝ }
 {
-    if !all_lawful(file, start, count) {
-        return 2;
+    let mut ordered = true;
+    let mut at = start;
+    let mut left = count;
+    while 0 < left {
+        if !lawful_at(file, at) {
+            return 2;
+        }
+        ordered = ordered_at(file, at, left, ordered);
+        at += 12;
+        left -= 1;
     }
-    if !all_ascending(file, start, count) {
-        return 3;
-    }
-    0
+    if ordered { 0 } else { 3 }
 }
 
 // The refusal of a file's contents and length: 10, 1 or none.
@@ -333,20 +334,8 @@ fn read_refusal(file: &[u8]) -> u32
     content_refusal(file, word_at(file, 8) as usize, word_at(file, 12) as usize)
 }
 
-// What a file's contents say of a list: its start.
-fn start_in(file: &[u8], which: Which) -> u32
-    requires { ⌜ 16 ≤ length (now file) ⌝ }
-    ensures { λ r. ⌜ r ≡ startIn (now (file .entry)) which ⌝ }
-{
-    match which {
-        Which::First => word_at(file, 0),
-        Which::Second => word_at(file, 8),
-    }
-}
-
 // What a file's contents say of a list: its site count.
-fn count_in(file: &[u8], which: Which) -> u32
-    requires { ⌜ 16 ≤ length (now file) ⌝ }
+pub fn count_in(file: &[u8], which: Which) -> u32
     ensures { λ r. ⌜ r ≡ countIn (now (file .entry)) which ⌝ }
 {
     match which {
@@ -367,55 +356,6 @@ pub fn read(file: &[u8]) -> FileRead
         first: word_at(file, 4),
         second: word_at(file, 12),
     }
-}
-
-// Consults a file: the site of a list at a place, or the refusal. Nothing is copied but that site.
-pub fn site_of(file: &[u8], which: Which, place: u32) -> SiteRead
-    ensures { λ r. ⌜ siteReadTold r ≡ siteTold (now (file .entry)) which place ⌝ }
-{
-    let refusal = contents_refusal(file);
-    if refusal != 0 {
-        return SiteRead::Refused(refusal);
-    }
-    if count_in(file, which) <= place {
-        return SiteRead::Refused(8);
-    }
-    SiteRead::Found(site_at(file, (start_in(file, which) + 12 * place) as usize))
-}
-
-// A byte as a number, 0 past the end.
-fn byte_or_zero(file: &[u8], at: usize) -> u32
-    ensures { λ r. ⌜ (r ≡ getD (now (file .entry)) at 0) × (r < 256) ⌝ }
-{
-    if at < file.len() {
-        return wide(file[at]);
-    }
-    0
-}
-
-// The number in the four bytes at a position of the contents, bytes past the end being 0.
-fn word_or_zero(file: &[u8], at: usize) -> u32
-    requires { ⌜ at ≤ 8 ⌝ }
-    ensures { λ r. ⌜ r ≡ word (now (file .entry)) at ⌝ }
-{
-    byte_or_zero(file, at)
-        + 256 * byte_or_zero(file, at + 1)
-        + 65536 * byte_or_zero(file, at + 2)
-        + 16777216 * byte_or_zero(file, at + 3)
-}
-
-// The start of the first list, as the contents say it.
-fn first_start(file: &[u8]) -> u32
-    ensures { λ r. ⌜ r ≡ startIn (now (file .entry)) Which.First ⌝ }
-{
-    word_or_zero(file, 0)
-}
-
-// The start of the second list, as the contents say it.
-fn second_start(file: &[u8]) -> u32
-    ensures { λ r. ⌜ r ≡ startIn (now (file .entry)) Which.Second ⌝ }
-{
-    word_or_zero(file, 8)
 }
 
 // The held start of a list.
@@ -459,8 +399,8 @@ pub fn open<'a>(file: &'a [u8]) -> Reader<'a>
         × (r .first ≡ startIn (now (file .entry)) Which.First)
         × (r .second ≡ startIn (now (file .entry)) Which.Second) ⌝ }
 {
-    let first = first_start(file);
-    let second = second_start(file);
+    let first = word_at(file, 0);
+    let second = word_at(file, 8);
     Reader {
         file,
         first,
@@ -475,7 +415,7 @@ pub fn site_in<'a>(r: Reader<'a>, which: Which, place: u32) -> SiteRead
     site_from(r.file, r.first, r.second, which, place)
 }
 
-// Consults a file through a reader of it.
+// Consults a file through a reader of it: the site of a list at a place, or the refusal. Only that site is copied.
 pub fn consult(file: &[u8], which: Which, place: u32) -> SiteRead
     ensures { λ s. ⌜ siteReadTold s ≡ siteTold (now (file .entry)) which place ⌝ }
 {

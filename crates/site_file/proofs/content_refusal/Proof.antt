@@ -1,28 +1,68 @@
--- `site_file::content_refusal` meets its contract.
-use borrow.Author.Tests.{not-true, not-false}
-use Rattle.site_file.proofs.Contents.{unlawful-site, unordered-sites, lawful-sites}
+-- `site_file::content_refusal` meets its contract: what is left to test answers for the whole.
+use mathlib.Core.Path.{_≡_, sym, _∙_}
+use mathlib.Core.Bool.{true, false}
+use Prim.Native.Nat.{_+_, _*_, _≤_}
 use borrow.Author.Needs.{needs}
+use borrow.Author.Tests.{not-true, not-false}
+use lib.ListN.{length}
+use Rattle.site.specs.Refusal.{contentRefusal}
+use Rattle.site_file.specs.File.{sitesFrom}
+use Rattle.site_file.proofs.Contents.{contentLeft, content-starts, content-stop, content-step, content-ends}
 use Rattle.site_file.proofs.content_refusal.Statement.{statement}
 use Rattle.site_file.proofs.content_refusal.Tie as tie
 
-all-lawful-requires : tie.Need-all-lawful-requires
-all-lawful-requires c κs = search needs
+abbrev Inv-loop : tie.InvT-loop
+Inv-loop file start count ordered₀ at₀ left₀ ordered at left =
+    (at + 12 * left ≤ length file) × (contentLeft ordered (sitesFrom file at left) ≡ contentRefusal (sitesFrom file start count))
 
-returns : tie.Need-returns
+abbrev μ-loop : tie.MeasureT-loop
+μ-loop file start count ordered₀ at₀ left₀ ordered at left = left
+
+loop-holds : tie.Need-loop-holds Inv-loop μ-loop
+loop-holds c = (search needs, content-starts _)
+
+lawful-at-requires : tie.Need-lawful-at-requires Inv-loop μ-loop
+lawful-at-requires c κs = search needs
+
+returns : tie.Need-returns Inv-loop μ-loop
 returns c =
-    unlawful-site _ (c .before .all-lawful .ensures) (not-true _ (c .if1 .taken))
+    content-stop _ _ _ _ (c .before .before .loop-test .taken) (sym (c .before .lawful-at .ensures) ∙ not-true _ (c .if1 .taken)) ∙ c .before .before .before .loop .inv .1
 
-all-ascending-requires : tie.Need-all-ascending-requires
-all-ascending-requires c κs = search needs
+ordered-at-requires : tie.Need-ordered-at-requires Inv-loop μ-loop
+ordered-at-requires c κs = search needs
 
-returns-2 : tie.Need-returns-2
-returns-2 c =
-    unordered-sites _ (c .before .before .before .all-lawful .ensures) (not-false _ (c .before .before .if1 .left)) (c .before .all-ascending .ensures) (not-true _ (c .if2 .taken))
+add-at : tie.Need-add-at Inv-loop μ-loop
+add-at c = search needs
 
-returns-3 : tie.Need-returns-3
-returns-3 c =
-    lawful-sites _ (c .before .before .before .all-lawful .ensures) (not-false _ (c .before .before .if1 .left)) (c .before .all-ascending .ensures) (not-false _ (c .if2 .left))
+sub-left : tie.Need-sub-left Inv-loop μ-loop
+sub-left c = search needs
+
+loop-less : tie.Need-loop-less Inv-loop μ-loop
+loop-less c = search needs
+
+loop-again : tie.Need-loop-again Inv-loop μ-loop
+loop-again c =
+    (search needs, content-step _ _ _ _ (c .before .before .before .loop-test .taken) (sym (c .before .before .lawful-at .ensures) ∙ not-false _ (c .before .if1 .left)) (c .ordered-at .ensures) ∙ c .before .before .before .before .loop .inv .1)
+
+returns-2 : tie.Need-returns-2 Inv-loop μ-loop
+returns-2 c = content-ends _ _ _ true _ (c .before .loop-test .left) (c .if2 .taken) ∙ c .before .before .loop .inv .1
+
+returns-3 : tie.Need-returns-3 Inv-loop μ-loop
+returns-3 c = content-ends _ _ _ false _ (c .before .loop-test .left) (c .if2 .left) ∙ c .before .before .loop .inv .1
 
 pub content-refusal-spec : {M : Type 1} → statement M
 content-refusal-spec =
-    tie.close (tie.spec all-lawful-requires returns all-ascending-requires returns-2 returns-3)
+    tie.close
+    (tie.spec
+    Inv-loop
+    μ-loop
+    loop-holds
+    lawful-at-requires
+    returns
+    ordered-at-requires
+    add-at
+    sub-left
+    loop-less
+    loop-again
+    returns-2
+    returns-3)

@@ -5,7 +5,7 @@ use native.Mathlib.Omega.{arith}
 use borrow.Author.Needs.{needs}
 use lib.ListN.{length, drop}
 use Rattle.site.specs.SiteList.{columns, sites}
-use Rattle.site_file.specs.Stored.{stored}
+use Rattle.column.specs.Column.{stored}
 use Rattle.site_file.specs.File.{bodyBytes}
 use Rattle.site_file.proofs.File.{sites-step, sites-end}
 use Rattle.site_file.proofs.put_sites.Statement.{statement}
@@ -16,7 +16,7 @@ Inv-loop buffer₀ start x y number at₀ i₀ buffer at i =
     (at ≡ start + 12 * i)
     × (i ≤ length x)
     × (length buffer ≡ length buffer₀)
-    × (stored at (bodyBytes (sites (columns (drop i x) (drop i y) (drop i number)))) buffer
+    × (stored at (bodyBytes (drop i (sites (columns x y number)))) buffer
     ≡ stored start (bodyBytes (sites (columns x y number))) buffer₀)
 
 abbrev μ-loop : tie.MeasureT-loop
@@ -61,7 +61,7 @@ loop-again c = (
   search needs,
   search needs,
   c .before .before .put-site .kept .0 ∙ c .before .before .before .before .before .before .before .before .loop .inv .2,
-  sites-step _ _ _ _ _ _ (omega arith) (c .before .before .before .before .before .before .before .loop-test .taken) (c .before .before .before .before .before .before .before .before .before .before .before .pre .1 .0) (c .before .before .before .before .before .before .before .before .before .before .before .pre .1 .1) (record { sfits = c .before .before .before .before .before .put-site-arg2 .given }) (record { sfits = c .before .before .before .before .put-site-arg3 .given }) (c .before .before .put-site .ensures) ∙ c .before .before .before .before .before .before .before .before .loop .inv .3,
+  sites-step _ (c .before .before .before .before .before .before .before .before .before .before .before .pre .1) _ _ _ (omega arith) (c .before .before .before .before .before .before .before .loop-test .taken) (record { sfits = c .before .before .before .before .before .put-site-arg2 .given }) (record { sfits = c .before .before .before .before .put-site-arg3 .given }) (c .before .before .put-site .ensures) ∙ c .before .before .before .before .before .before .before .before .loop .inv .3,
 )
 
 same-length : tie.Need-same-length Inv-loop μ-loop
@@ -69,7 +69,7 @@ same-length c = search needs
 
 returns : tie.Need-returns Inv-loop μ-loop
 returns c =
-    sites-end _ _ _ _ _ _ (c .loop-test .left) ∙ c .before .loop .inv .3
+    sites-end _ (c .before .before .before .before .pre .1) _ _ _ (c .loop-test .left) ∙ c .before .loop .inv .3
 
 pub put-sites-spec : {M : Type 1} → statement M
 put-sites-spec =

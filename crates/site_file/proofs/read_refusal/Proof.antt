@@ -1,7 +1,7 @@
 -- `site_file::read_refusal` meets its contract.
 use mathlib.Core.Path.{sym, _∙_}
 use native.Mathlib.Omega.{arith}
-use Rattle.site_file.proofs.Contents.{laid, read-contents, read-first, read-second}
+use Rattle.site_file.proofs.Contents.{laid, read-stops, read-first, read-second}
 use borrow.Author.Needs.{needs}
 use Rattle.site_file.proofs.read_refusal.Statement.{statement}
 use Rattle.site_file.proofs.read_refusal.Tie as tie
@@ -11,7 +11,7 @@ contents-refusal-requires c κs = search needs
 
 returns : tie.Need-returns
 returns c =
-    read-contents _ (c .before .contents-refusal .ensures) (c .if1 .taken)
+    read-stops _ (c .before .contents-refusal .ensures) (c .if1 .taken)
 
 word-at-requires : tie.Need-word-at-requires
 word-at-requires c κs =

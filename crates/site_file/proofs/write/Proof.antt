@@ -1,6 +1,7 @@
 -- `site_file::write` meets its contract.
 use mathlib.Core.Path.{sym, _∙_}
 use native.Mathlib.Omega.{arith}
+use Rattle.site.proofs.Accepted.{accepted-level}
 use Rattle.site_file.proofs.Writing.{ready, write-refused, write-answered, write-untouched, write-stored}
 use Rattle.site_file.specs.Calls.{writtenTold}
 use borrow.Author.Needs.{needs}
@@ -29,7 +30,7 @@ put-contents-requires c κs =
 
 put-sites-requires : tie.Need-put-sites-requires
 put-sites-requires c κs =
-    let g = ready _ _ _ (sym (c .before .before .before .before .before .before .write-refusal .ensures) ∙ c .before .before .before .before .before .if1 .left) in (omega (arith, c .before .before .before .put-contents .kept .0), (g .first-level .y, g .first-level .number))
+    let g = ready _ _ _ (sym (c .before .before .before .before .before .before .write-refusal .ensures) ∙ c .before .before .before .before .before .if1 .left) in (omega (arith, c .before .before .before .put-contents .kept .0), accepted-level _ (g .first))
 
 mul-put-sites : tie.Need-mul-put-sites
 mul-put-sites c =
@@ -41,7 +42,7 @@ add-put-sites c =
 
 put-sites-requires-2 : tie.Need-put-sites-requires-2
 put-sites-requires-2 c κs =
-    let g = ready _ _ _ (sym (c .before .before .before .before .before .before .before .before .before .before .write-refusal .ensures) ∙ c .before .before .before .before .before .before .before .before .before .if1 .left) in (omega (arith, c .before .before .before .put-sites .kept .0, c .before .before .before .before .before .before .before .put-contents .kept .0), (g .second-level .y, g .second-level .number))
+    let g = ready _ _ _ (sym (c .before .before .before .before .before .before .before .before .before .before .write-refusal .ensures) ∙ c .before .before .before .before .before .before .before .before .before .if1 .left) in (omega (arith, c .before .before .before .put-sites .kept .0, c .before .before .before .before .before .before .before .put-contents .kept .0), accepted-level _ (g .second))
 
 mul-t11 : tie.Need-mul-t11
 mul-t11 c =
