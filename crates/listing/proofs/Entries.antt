@@ -1,12 +1,12 @@
 -- The lines of the entries, one by one.
-use mathlib.Core.Path.{_≡_, refl, sym, _∙_}
+use mathlib.Core.Path.{_≡_, refl, _∙_}
 use mathlib.Core.Bool.{true}
 use mathlib.Core.List.{List, [], _∷_}
 use Prim.Native.Nat.{ℕ, suc, _+_, _*_, _≤_, _<_}
 use native.Mathlib.Nat.{mul-le-mul}
 use native.Mathlib.Numerals.{add-one}
 use native.Mathlib.Omega.{arith}
-use lib.ListN.{length, drop, getD, length-append, drop-of-length-le, List·getD-eq-default}
+use lib.ListN.{length, drop, getD, length-append, drop-of-length-le}
 use lib.Seq.{drop-cons}
 use mir.Syntax.{w64}
 use mir.Val.{Fits}
@@ -14,19 +14,10 @@ use Rattle.entry.specs.declared.Entry.{Entry}
 use Rattle.entry.specs.Entry.{entry}
 use Rattle.entry.specs.Results.{Results, entriesOf, roomFor}
 use Rattle.entry.proofs.Columns.{room-lengths, length-entries, entry-at}
-use Rattle.listing.specs.Listing.{numberIn, entryLine, entryLines, heading, entriesText}
+use Rattle.listing.specs.Listing.{entryLine, entryLines, heading, entriesText}
 use Rattle.listing.specs.Put.{Put}
 use Rattle.listing.proofs.Lines.{entry-length, heading-length}
 use Rattle.listing.proofs.Writing.{Writing, put-length, put-then, writing-starts, writing-more, writing-ends}
-
--- What `number_at` answers.
-pub number-within : (numbers : List ℕ) (place : ℕ) {r : ℕ} → r ≡ getD numbers place 0 → r ≡ numberIn numbers place
-unfolding numberIn
-number-within numbers place e = e
-
-pub number-past : (numbers : List ℕ) (place : ℕ) → length numbers ≤ place → 0 ≡ numberIn numbers place
-unfolding numberIn
-number-past numbers place h = sym (List·getD-eq-default numbers 0 h)
 
 -- The line that `put_entry_at` writes.
 pub line-put : (i d : ℕ) {at next x y a b : ℕ} {before after : List ℕ} → x ≡ a → y ≡ b → Put at (entryLine (i + 1) d x y) before after next → Put at (entryLine (suc i) d a b) before after next

@@ -9,6 +9,7 @@ use Rattle.site_file.specs.Bytes.{word, signed}
 use Rattle.site_file.specs.File.{secondStart, fileLength, startIn, countIn, siteIn, sitesFrom, sitesIn}
 use Rattle.site_file.specs.Calls.{layoutFault, contentsRefusal, readRefusal}
 use Rattle.site.specs.Told.{orElse}
+use Rattle.site.specs.SiteList.{siteAt}
 use Rattle.site.specs.Refusal.{contentRefusal}
 use Rattle.site.specs.Site.{within, lawfulSite, gap, square, squaredOver, squaredDistance, siteBefore}
 use Rattle.order.specs.Lists.{all, sum}
@@ -38,7 +39,7 @@ sampleText =
 
 -- The sample; then its file with K = 0, with K = 0 and cut short, and less than K.
 listings : (listing sampleInput ≡ sampleText) × (listing (replicate 4 0 ++ drop 4 sampleInput) ≡ refusedText 4) × (listing (replicate 4 0 ++ take 75 (drop 4 sampleInput)) ≡ refusedText 10) × (listing (take 3 sampleInput) ≡ refusedText 10)
-unfolding sampleInput sampleText powersBelow digitAt trimmed decimal line numberAt entryLine entryLines heading entriesText listingText refusedText listingRefusal listing word signed secondStart fileLength startIn countIn siteIn sitesFrom sitesIn layoutFault contentsRefusal readRefusal orElse contentRefusal within lawfulSite gap square squaredOver squaredDistance siteBefore all sum lex ascending insert inserts sort best rankBefore bestK placedFrom whole pair product pairs lawfulK
+unfolding sampleInput sampleText powersBelow digitAt trimmed decimal line siteAt numberAt entryLine entryLines heading entriesText listingText refusedText listingRefusal listing word signed secondStart fileLength startIn countIn siteIn sitesFrom sitesIn layoutFault contentsRefusal readRefusal orElse contentRefusal within lawfulSite gap square squaredOver squaredDistance siteBefore all sum lex ascending insert inserts sort best rankBefore bestK placedFrom whole pair product pairs lawfulK
 listings = (refl, refl, refl, refl)
 
 -- An input that is too long, whatever it holds.

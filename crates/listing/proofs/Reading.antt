@@ -1,7 +1,7 @@
 -- Sites of a file, read into columns one by one.
 use mathlib.Core.Path.{_≡_, refl, sym, ap, _∙_}
 use mathlib.Core.List.{List, map}
-use Prim.Native.Nat.{ℕ, suc, _+_, _*_, _≤_, _<_}
+use Prim.Native.Nat.{ℕ, suc, _+_, _≤_, _<_}
 use native.Mathlib.Numerals.{add-one}
 use native.Mathlib.Omega.{arith}
 use lib.IntN.{ℤ, pos}
@@ -11,14 +11,19 @@ use mir.Syntax.{w32}
 use mir.Val.{SFits, toZ, ofZ}
 use mir.Facts.{toZ-ofZ}
 use Rattle.site.specs.declared.Site.{Site}
-use Rattle.site.specs.SiteList.{Columns, columns, site, sites}
-use Rattle.site.specs.Told.{orElse}
-use Rattle.site.specs.Refusal.{contentRefusal, listRefusal, listsRefusal}
-use Rattle.site.proofs.Lawful.{content-left}
-use Rattle.site_file.specs.File.{siteIn, sitesFrom}
-use Rattle.site.specs.SiteList.{columnsOf}
-use Rattle.site_file.proofs.Bodies.{from-length, from-at}
-use Rattle.site.proofs.Columns.{columns-sites, columns-length, columns-level}
+use Rattle.site.specs.SiteList.{Columns, columns, sites, siteAt, columnsOf}
+use Rattle.site.specs.Told.{refused, answered, orElse}
+use Rattle.site.specs.Refusal.{listsRefusal}
+use Rattle.site.proofs.Columns.{nowhere, columns-sites}
+use Rattle.site_file.specs.declared.Which.{Which}
+use Rattle.site_file.specs.declared.Which.the-variants.{First, Second}
+use Rattle.site_file.specs.declared.SiteRead.{SiteRead}
+use Rattle.site_file.specs.declared.SiteRead.the-variants.{Found, Refused}
+use Rattle.site_file.specs.File.{countIn, sitesIn}
+use Rattle.site_file.specs.Calls.{contentsRefusal, readRefusal, siteTold, siteReadTold}
+use Rattle.site_file.proofs.File.{list-length}
+use Rattle.site_file.proofs.Contents.{inside, read-laid, site-found}
+use Rattle.site_file.proofs.Bodies.{columns-accepted}
 use Rattle.listing.specs.Listing.{listingText}
 use Rattle.listing.specs.Put.{Put, Lawful, Sized, FileLists}
 
@@ -44,7 +49,7 @@ module _ {A : Type 0} (values : List A) where
   filled-ends {column} i h f =
       sym (take-all i column (omega (arith, f .size))) ∙ f .first ∙ take-all i values h
 
--- ---- the sites of a file
+-- ---- the sites of a list
 
 -- What is stored of a site that was read.
 module _ (i : ℕ) {s t : Site} (e : s ≡ t) where
@@ -57,88 +62,95 @@ module _ (i : ℕ) {s t : Site} (e : s ≡ t) where
   pub number-stored : (ns : List ℕ) → set ns i (s .number) ≡ set ns i (t .number)
   number-stored ns = ap (set ns i) (ap (λ r. r .number) e)
 
-nowhere : Site
-nowhere = site (pos 0) (pos 0) 0
+-- A place of an accepted file is never refused: the site there is read.
+module _ (file : List ℕ) (w : Which) (i : ℕ) (r : SiteRead) (told : siteReadTold r ≡ siteTold file w i) (none : contentsRefusal file ≡ 0) (h : i < countIn file w) where
+  found : siteReadTold r ≡ answered (siteAt (sitesIn file w) i)
+  found = told ∙ site-found file w i none h
 
--- The first `i` sites are read.
-pub record Reading (file : List ℕ) (start count : ℕ) (xs ys : List ℤ) (ns : List ℕ) (i : ℕ) : Type 0 where
-  pub most : i ≤ count
-  pub room : start + 12 * count ≤ length file
-  pub x-size : length xs ≡ count
-  pub y-size : length ys ≡ count
-  pub number-size : length ns ≡ count
-  pub x : Filled (map (λ s. s .x) (sitesFrom file start count)) xs i
-  pub y : Filled (map (λ s. s .y) (sitesFrom file start count)) ys i
-  pub number : Filled (map (λ s. s .number) (sitesFrom file start count)) ns i
+  pub found-site : {s : Site} → r ≡ Found s → s ≡ siteAt (sitesIn file w) i
+  unfolding siteReadTold
+  found-site {s} e = let same : answered s ≡ answered (siteAt (sitesIn file w) i) = sym (ap siteReadTold e) ∙ found in cc
 
-module _ (file : List ℕ) (start count : ℕ) where
-  size : {B : Type 0} (f : Site → B) → length (map f (sitesFrom file start count)) ≡ count
-  size f = length-map (sitesFrom file start count) f ∙ from-length file start count
+  pub found-always : {n : ℕ} → r ≡ Refused n → ⊥
+  unfolding siteReadTold
+  found-always {n} e =
+      let never : refused n ≡ answered (siteAt (sitesIn file w) i) = sym (ap siteReadTold e) ∙ found in
+      let z : _≡_ {A = ℕ} 0 1 = cc in
+      omega arith
 
-  value : {B : Type 0} (f : Site → B) (i : ℕ) → i < count → f (siteIn file (start + 12 * i)) ≡ getD (map f (sitesFrom file start count)) i (f nowhere)
-  value f i h =
-      sym (List·getD-map f (sitesFrom file start count) i nowhere ∙ ap f (from-at file start count i nowhere h))
+-- The first `i` of a list's `n` sites stand in columns of its length.
+pub record Reading (l : List Site) (n : ℕ) (xs ys : List ℤ) (ns : List ℕ) (i : ℕ) : Type 0 where
+  pub count : length l ≡ n
+  pub sized : Sized n (columns xs ys ns)
+  pub x : Filled (map (λ s. s .x) l) xs i
+  pub y : Filled (map (λ s. s .y) l) ys i
+  pub number : Filled (map (λ s. s .number) l) ns i
 
-  pub reading-starts : {xs ys : List ℤ} {ns : List ℕ} → start + 12 * count ≤ length file → length xs ≡ count → length ys ≡ count → length ns ≡ count → Reading file start count xs ys ns 0
-  reading-starts h p q r =
+module _ (l : List Site) where
+  size : {B : Type 0} {n : ℕ} (f : Site → B) → length l ≡ n → length (map f l) ≡ n
+  size f e = length-map l f ∙ e
+
+  value : {B : Type 0} (f : Site → B) (i : ℕ) → f (siteAt l i) ≡ getD (map f l) i (f nowhere)
+  unfolding siteAt
+  value f i = sym (List·getD-map f l i nowhere)
+
+  pub reading-starts : {n : ℕ} {xs ys : List ℤ} {ns : List ℕ} → length l ≡ n → Sized n (columns xs ys ns) → Reading l (length xs) xs ys ns 0
+  reading-starts e h =
       record {
-        most = omega arith;
-        room = h;
-        x-size = p;
-        y-size = q;
-        number-size = r;
-        x = filled-starts _ (p ∙ sym (size (λ s. s .x)));
-        y = filled-starts _ (q ∙ sym (size (λ s. s .y)));
-        number = filled-starts _ (r ∙ sym (size (λ s. s .number)));
+        count = e ∙ sym (h .x);
+        sized = record { x = refl; y = h .y ∙ sym (h .x); number = h .number ∙ sym (h .x) };
+        x = filled-starts _ (h .x ∙ sym (size (λ s. s .x) e));
+        y = filled-starts _ (h .y ∙ sym (size (λ s. s .y) e));
+        number = filled-starts _ (h .number ∙ sym (size (λ s. s .number) e));
       }
 
-  pub reading-more : (i : ℕ) {xs ys us vs : List ℤ} {ns ms : List ℕ} → i < count
-      → us ≡ set xs i (siteIn file (start + 12 * i) .x)
-      → vs ≡ set ys i (siteIn file (start + 12 * i) .y)
-      → ms ≡ set ns i (siteIn file (start + 12 * i) .number)
-      → Reading file start count xs ys ns i → Reading file start count us vs ms (i + 1)
-  unfolding nowhere
-  reading-more i {xs} {ys} {us} {vs} {ns} {ms} h e f g w =
+  pub reading-more : {n : ℕ} (i : ℕ) {xs ys us vs : List ℤ} {ns ms : List ℕ} → i < n
+      → us ≡ set xs i (siteAt l i .x) → vs ≡ set ys i (siteAt l i .y) → ms ≡ set ns i (siteAt l i .number)
+      → Reading l n xs ys ns i → Reading l n us vs ms (i + 1)
+  reading-more {n} i {xs} {ys} {us} {vs} {ns} h e f g w =
       rw (add-one, e, f, g)
       (record {
-        most = omega arith;
-        room = w .room;
-        x-size = length-set xs i _ ∙ w .x-size;
-        y-size = length-set ys i _ ∙ w .y-size;
-        number-size = length-set ns i _ ∙ w .number-size;
-        x = filled-more _ (pos 0) i (omega (arith, size (λ s. s .x))) (value (λ s. s .x) i h) (w .x);
-        y = filled-more _ (pos 0) i (omega (arith, size (λ s. s .y))) (value (λ s. s .y) i h) (w .y);
-        number = filled-more _ 0 i (omega (arith, size (λ s. s .number))) (value (λ s. s .number) i h) (w .number);
+        count = w .count;
+        sized = record { x = length-set xs i _ ∙ w .sized .x; y = length-set ys i _ ∙ w .sized .y; number = length-set ns i _ ∙ w .sized .number };
+        x = filled-more _ (pos 0) i (omega (arith, size (λ s. s .x) (w .count))) (value (λ s. s .x) i) (w .x);
+        y = filled-more _ (pos 0) i (omega (arith, size (λ s. s .y) (w .count))) (value (λ s. s .y) i) (w .y);
+        number = filled-more _ 0 i (omega (arith, size (λ s. s .number) (w .count))) (value (λ s. s .number) i) (w .number);
       })
 
-  pub reading-ends : (i : ℕ) {xs ys : List ℤ} {ns : List ℕ} → count ≤ i → Reading file start count xs ys ns i → columns xs ys ns ≡ columnsOf (sitesFrom file start count)
+  pub reading-ends : {n : ℕ} (i : ℕ) {xs ys : List ℤ} {ns : List ℕ} → n ≤ i → Reading l n xs ys ns i → columns xs ys ns ≡ columnsOf l
   unfolding columnsOf
   reading-ends i h w =
-      let x = filled-ends _ i (omega (arith, size (λ s. s .x))) (w .x) in
-      let y = filled-ends _ i (omega (arith, size (λ s. s .y))) (w .y) in
-      let number = filled-ends _ i (omega (arith, size (λ s. s .number))) (w .number) in
+      let x = filled-ends _ i (omega (arith, size (λ s. s .x) (w .count))) (w .x) in
+      let y = filled-ends _ i (omega (arith, size (λ s. s .y) (w .count))) (w .y) in
+      let number = filled-ends _ i (omega (arith, size (λ s. s .number) (w .count))) (w .number) in
       rw (x, y, number)
 
--- ---- the columns of two lists that no test refuses
+-- The next place of a list of a file, and of its columns.
+pub reading-here : (file : List ℕ) (w : Which) {n : ℕ} {xs ys : List ℤ} {ns : List ℕ} (i : ℕ) → i < n → Reading (sitesIn file w) n xs ys ns i → (i < countIn file w) × Sized (countIn file w) (columns xs ys ns)
+reading-here file w i h r = rw (sym (list-length file w) ∙ r .count) (h, r .sized)
 
-column-lawful : (s : List Site) → contentRefusal s ≡ 0 → length s ≤ 65_535 → listRefusal (columnsOf s) ≡ 0
-column-lawful s h n =
-    content-left (columnsOf s) (columns-level s) (rw (columns-length s) n) ∙ rw (columns-sites s) h
+-- ---- the columns of both lists of an accepted file
 
-module _ (file : List ℕ) (first second n m k : ℕ) {a b : Columns} (p : a ≡ columnsOf (sitesFrom file first n)) (q : b ≡ columnsOf (sitesFrom file second m)) where
-  pub read-lawful : {buffer : List ℕ} → FileLists file first second n m k buffer → Lawful a b k buffer
+module _ (file : List ℕ) (k : ℕ) {a b : Columns} (p : a ≡ columnsOf (sitesIn file First)) (q : b ≡ columnsOf (sitesIn file Second)) where
+  pub read-lawful : {buffer : List ℕ} → FileLists file k buffer → Lawful a b k buffer
   unfolding listsRefusal orElse
   read-lawful f =
-      let one = column-lawful (sitesFrom file first n) (f .lawful .0) (omega (arith, from-length file first n, f .few .0)) in
-      let two = column-lawful (sitesFrom file second m) (f .lawful .1) (omega (arith, from-length file second m, f .few .1)) in
-      record { lists = rw (p, q, one) two; some = f .some; room = f .room }
+      record {
+        lists = rw (p, q, columns-accepted file (f .accepted) First) (columns-accepted file (f .accepted) Second);
+        some = f .some;
+        room = f .room;
+      }
 
-  pub read-text : {z : ℕ} {before after : List ℕ} → Put 0 (listingText k (sites a) (sites b)) before after z → Put 0 (listingText k (sitesFrom file first n) (sitesFrom file second m)) before after z
-  read-text t = rw (p, q, columns-sites (sitesFrom file first n), columns-sites (sitesFrom file second m)) at t
+  pub read-text : {z : ℕ} {before after : List ℕ} → Put 0 (listingText k (sites a) (sites b)) before after z → Put 0 (listingText k (sitesIn file First) (sitesIn file Second)) before after z
+  read-text t = rw (p, q, columns-sites (sitesIn file First), columns-sites (sitesIn file Second)) at t
+
+-- The lists of a file of at most 48,016 bytes have at most 4,000 sites.
+pub file-few : {file : List ℕ} {k : ℕ} {buffer : List ℕ} → FileLists file k buffer × (length file ≤ 48_016) → (w : Which) {n : ℕ} → n ≡ countIn file w → n ≤ 4_000
+file-few {file} f w e = let g = inside file w (read-laid file (f .0 .accepted)) in omega (arith, f .1)
 
 -- The first elements of a column of 4,000 zeros.
 pub zeros-part : {A : Type 0} (z : A) (n : ℕ) → n ≤ 4_000 → n ≡ length (take n (replicate 4_000 z))
 zeros-part z n h = sym (length-take-le n (replicate 4_000 z) (omega (arith, length-replicate 4_000 z)))
 
-pub zeros-sized : (n : ℕ) → n ≤ 4_000 → Sized n (columns (take n (replicate 4_000 (pos 0))) (take n (replicate 4_000 (pos 0))) (take n (replicate 4_000 0)))
-zeros-sized n h = record { x = sym (zeros-part (pos 0) n h); y = sym (zeros-part (pos 0) n h); number = sym (zeros-part 0 n h) }
+pub zeros-sized : {m : ℕ} (n : ℕ) → n ≡ m → n ≤ 4_000 → Sized m (columns (take n (replicate 4_000 (pos 0))) (take n (replicate 4_000 (pos 0))) (take n (replicate 4_000 0)))
+zeros-sized n e h = record { x = sym (zeros-part (pos 0) n h) ∙ e; y = sym (zeros-part (pos 0) n h) ∙ e; number = sym (zeros-part 0 n h) ∙ e }

@@ -4,49 +4,42 @@ use mathlib.Core.Bool.{true}
 use mathlib.Core.List.{List, [], _∷_}
 use Prim.Native.Nat.{ℕ, zero, suc, _+_, _*_, _≤_}
 use native.Mathlib.Omega.{arith}
-use lib.IntN.{ℤ}
-use lib.ListN.{length, replicate}
-use borrow.Author.Tests.{leb-true}
-use lib.Dec.{leb}
+use lib.ListN.{length, getD, replicate, List·getD-eq-default}
+use borrow.Author.Tests.{leb-true, ltb-true, ltb-false}
+use lib.Dec.{leb, ltb}
+use Rattle.order.proofs.Order.{byTest}
 use Rattle.order.proofs.Best.{length-best}
-use Rattle.site.specs.SiteList.{Columns, Level, sites, zipSites}
+use Rattle.site.specs.SiteList.{Columns, Level, sites, siteAt}
 use Rattle.site.specs.Told.{orElse, unlessRefused}
-use Rattle.site.specs.Refusal.{listRefusal, listsRefusal}
+use Rattle.site.specs.Refusal.{listRefusal}
 use Rattle.site.proofs.Cases.{and-second}
-use Rattle.site.proofs.Accepted.{accepted-few}
-use Rattle.site.proofs.Told.{orElse-first, orElse-second}
-use Rattle.site.proofs.Columns.{sites-length}
+use Rattle.site.proofs.Told.{answer-told, refusal-told}
+use Rattle.site.proofs.Accepted.{accepted-level, accepted-few, both-accepted}
+use Rattle.site.proofs.Columns.{nowhere, sites-length, site-at}
 use Rattle.entry.specs.declared.Entry.{Entry}
-use Rattle.entry.specs.Entry.{rankBefore, bestK}
+use Rattle.entry.specs.Entry.{rankBefore, bestK, lawfulK}
 use Rattle.entry.specs.Results.{Results, results, entriesOf, holding, roomFor}
 use Rattle.entry.proofs.Columns.{room-lengths, lengths-room, entries-holding, room-holding}
 use Rattle.sweep.specs.declared.Way.{Way}
 use Rattle.sweep.specs.declared.Looks.{Looks}
 use Rattle.sweep.specs.declared.Distances.{Distances}
-use Rattle.sweep.specs.Strip.{whole, pairs}
+use Rattle.sweep.specs.Strip.{allPairs}
 use Rattle.sweep.proofs.PlaceLaws.{length-whole-pairs}
 use Rattle.pairs.specs.declared.Listed.{Listed}
 use Rattle.pairs.specs.declared.Listed.the-variants.{Entries, Refused}
 use Rattle.pairs.specs.KList.{kList, kListRefusal, kListResults, kListTold, listedTold}
-use Rattle.entry.specs.Entry.{lawfulK}
-use Rattle.site.proofs.Accepted.{accepted-level}
 use Rattle.listing.specs.Put.{Put, Lawful}
-use Rattle.listing.proofs.Verdict.{refused-never, answered-values}
-use Rattle.listing.specs.Listing.{numberAt, numberIn, entryLines, entriesText, listingText}
+use Rattle.listing.specs.Listing.{numberAt, entryLines, entriesText, listingText}
 
 -- A site's number stands in the column of numbers.
-zip-number : (xs ys : List ℤ) (ns : List ℕ) (i : ℕ) → length ys ≡ length xs → length ns ≡ length xs → numberAt (zipSites xs ys ns) i ≡ numberIn ns i
-unfolding numberAt numberIn zipSites
-zip-number [] ys [] i p q = refl
-zip-number [] ys (n ∷ ns) i p q = absurd (omega arith)
-zip-number (x ∷ xs) [] ns i p q = absurd (omega arith)
-zip-number (x ∷ xs) (y ∷ ys) [] i p q = absurd (omega arith)
-zip-number (x ∷ xs) (y ∷ ys) (n ∷ ns) zero p q = refl
-zip-number (x ∷ xs) (y ∷ ys) (n ∷ ns) (suc i) p q = zip-number xs ys ns i (omega arith) (omega arith)
-
-pub site-number : (c : Columns) → Level c → (i : ℕ) → numberAt (sites c) i ≡ numberIn (c .number) i
-unfolding sites
-site-number c l i = zip-number (c .x) (c .y) (c .number) i (l .y) (l .number)
+pub site-number : (c : Columns) → Level c → (i : ℕ) → numberAt (sites c) i ≡ getD (c .number) i 0
+unfolding numberAt siteAt
+site-number c l i =
+    byTest (ltb i (length (c .x))) (λ t. ap (λ s. s .number) (site-at c l i (ltb-true i (length (c .x)) t)))
+    (λ t.
+    let past : length (c .x) ≤ i = ltb-false i (length (c .x)) t in
+    ap (λ s. s .number) (List·getD-eq-default (sites c) nowhere {n = i} (omega (arith, sites-length c l)))
+    ∙ sym (List·getD-eq-default (c .number) 0 {n = i} (omega (arith, l .number))))
 
 -- The lines are the same where the numbers are.
 same-lines : (a b f g : ℕ → ℕ) → ((i : ℕ) → a i ≡ f i) → ((i : ℕ) → b i ≡ g i) → (rank : ℕ) (l : List Entry) → entryLines a b rank l ≡ entryLines f g rank l
@@ -55,7 +48,7 @@ same-lines a b f g p q rank [] = refl
 same-lines a b f g p q rank (e ∷ l) = rw (p (e .first), q (e .second), same-lines a b f g p q (suc rank) l)
 
 pub listing-text : (k : ℕ) (a b : Columns) → Level a → Level b
-    → listingText k (sites a) (sites b) ≡ entriesText (length (a .number) * length (b .number)) (numberIn (a .number)) (numberIn (b .number)) (kList k (sites a) (sites b))
+    → listingText k (sites a) (sites b) ≡ entriesText (length (a .number) * length (b .number)) (λ i. getD (a .number) i 0) (λ i. getD (b .number) i 0) (kList k (sites a) (sites b))
 unfolding listingText entriesText kList
 listing-text k a b p q =
     rw (
@@ -64,7 +57,7 @@ listing-text k a b p q =
       sites-length b q,
       p .number,
       q .number,
-      same-lines (numberAt (sites a)) (numberAt (sites b)) (numberIn (a .number)) (numberIn (b .number)) (site-number a p) (site-number b q) 1 _,
+      same-lines (numberAt (sites a)) (numberAt (sites b)) (λ i. getD (a .number) i 0) (λ i. getD (b .number) i 0) (site-number a p) (site-number b q) 1 _,
     )
 
 -- ---- the K list in the result columns
@@ -87,28 +80,26 @@ module _ (way : Way) (a b : Columns) (k : ℕ) (r : Results) {buffer : List ℕ}
 
   few : length found ≤ 4_096
   unfolding found kList bestK
-  few = omega (arith, k-most, length-best rankBefore k (pairs (whole (sites a)) (whole (sites b))))
+  few = omega (arith, k-most, length-best rankBefore k (allPairs (sites a) (sites b)))
 
   level : (c : Columns) → listRefusal c ≡ 0 → (length (c .number) ≤ 65_535) × Level c
   level c ok = let l = accepted-level c ok in (omega (arith, l .number, accepted-few c ok), l)
 
   first : (length (a .number) ≤ 65_535) × Level a
-  unfolding listsRefusal
-  first = level a (orElse-first (listRefusal a) (listRefusal b) (lawful .lists))
+  first = level a (both-accepted a b (lawful .lists) .0)
 
   second : (length (b .number) ≤ 65_535) × Level b
-  unfolding listsRefusal
-  second = level b (orElse-second (listRefusal a) (listRefusal b) (lawful .lists))
+  second = level b (both-accepted a b (lawful .lists) .1)
 
   module _ {l : Listed} (told : listedTold l ≡ kListTold way a b k r) where
     pub never-refused : {n : ℕ} → l ≡ Refused n → ⊥
     unfolding listedTold kListTold
-    never-refused {n} e = refused-never _ n (kListRefusal a b k r) (sym (ap listedTold e) ∙ told) none
+    never-refused {n} e = refusal-told (kListRefusal a b k r) n _ (sym (ap listedTold e) ∙ told) .1 none
 
     entries-count : {count : ℕ} {looks : Looks} {distances : Distances} → l ≡ Entries count looks distances → count ≡ length found
     unfolding listedTold kListTold found
     entries-count e =
-        ap (λ v. v .count) (answered-values _ _ (kListRefusal a b k r) (sym (ap listedTold e) ∙ told) none)
+        ap (λ v. v .count) (sym (answer-told (kListRefusal a b k r) _ _ (sym told ∙ ap listedTold e) .1))
 
     module _ {count : ℕ} {looks : Looks} {distances : Distances} (e : l ≡ Entries count looks distances) {s : Results} (held : s ≡ kListResults a b k r) where
       columns-held : s ≡ holding found r
@@ -124,7 +115,7 @@ module _ (way : Way) (a b : Columns) (k : ℕ) (r : Results) {buffer : List ℕ}
           )
 
       pub text-written : {z : ℕ} {before after : List ℕ}
-          → Put 0 (entriesText (length (a .number) * length (b .number)) (numberIn (a .number)) (numberIn (b .number)) (entriesOf count s)) before after z
+          → Put 0 (entriesText (length (a .number) * length (b .number)) (λ i. getD (a .number) i 0) (λ i. getD (b .number) i 0) (entriesOf count s)) before after z
           → Put 0 (listingText k (sites a) (sites b)) before after z
       unfolding found
       text-written p =

@@ -1,64 +1,38 @@
 -- The refusal of an input, one test after another.
 use mathlib.Core.Path.{_≡_, refl, sym, ap, _∙_}
-use mathlib.Core.Bool.{true, not}
+use mathlib.Core.Bool.{Bool, true, not}
 use mathlib.Core.List.{List}
 use Prim.Native.Nat.{ℕ, zero, suc, _-_, _≤_, _<_}
 use native.Mathlib.Omega.{arith}
-use borrow.Author.Tests.{lt-ltb, le-ltb, ltb-false, le-leb, lt-leb, not-false}
+use borrow.Author.Tests.{lt-ltb, le-ltb, ltb-false}
 use lib.Dec.{ltb}
 use lib.ListN.{length, take, drop, length-drop}
-use lib.Seq.{take-all}
-use Rattle.site.specs.Told.{refused, answered, tell, refuseIf, orElse}
-use Rattle.site.proofs.Told.{orElse-first, orElse-second, no-fault}
-use Rattle.entry.specs.Entry.{lawfulK}
+use Rattle.site.specs.Told.{refuseIf, orElse}
+use Rattle.site.proofs.Told.{answer-told, refusal-told, first-refused, next-decides, orElse-first, orElse-second, no-fault, fault-none}
 use Rattle.column.specs.Column.{overwritten}
+use Rattle.column.proofs.Stored.{stored-start}
+use Rattle.entry.specs.Entry.{lawfulK}
 use Rattle.site_file.specs.Bytes.{word}
 use Rattle.site_file.specs.declared.Which.the-variants.{First, Second}
-use Rattle.site_file.specs.File.{startIn, countIn, sitesFrom, sitesIn}
-use Rattle.site_file.proofs.Stored.{stored-start}
+use Rattle.site_file.specs.File.{sitesIn}
 use Rattle.site_file.specs.declared.FileRead.{FileRead}
 use Rattle.site_file.specs.declared.FileRead.the-variants.{Counts, Refused}
 use Rattle.site_file.specs.Calls.{readRefusal, readTold, fileReadTold}
-use Rattle.site_file.proofs.Contents.{first-refusal, next-refusal, read-laid, read-first-lawful, read-second-lawful}
+use Rattle.site_file.proofs.Words.{rest-of}
 use Rattle.listing.specs.Listing.{listingRefusal, listingText, refusedText, listing}
 use Rattle.listing.specs.Put.{Put, FileLists}
 
--- ---- what an answer says of the refusal number
-
-pub answered-none : {A : Type 0} {v : A} (w : A) (n : ℕ) → answered v ≡ tell n w → n ≡ 0
-unfolding tell
-answered-none w zero e = refl
-answered-none w (suc n) e = let z : _≡_ {A = ℕ} 0 1 = cc in absurd (omega arith)
-
-pub refused-number : {A : Type 0} (w : A) (r n : ℕ) → refused r ≡ tell n w → r ≡ n
-unfolding tell
-refused-number w r zero e = let z : _≡_ {A = ℕ} 0 1 = cc in absurd (omega arith)
-refused-number w r (suc n) e = cc
-
--- Where there is no refusal, the answer has the values.
-pub refused-never : {A : Type 0} (w : A) (r n : ℕ) → refused r ≡ tell n w → n ≡ 0 → ⊥
-unfolding tell
-refused-never w r zero e h = let z : _≡_ {A = ℕ} 0 1 = cc in omega arith
-refused-never w r (suc n) e h = omega arith
-
-pub answered-values : {A : Type 0} (v w : A) (n : ℕ) → answered v ≡ tell n w → n ≡ 0 → v ≡ w
-unfolding tell
-answered-values v w zero e h = cc
-answered-values v w (suc n) e h = absurd (omega arith)
-
+-- What reading a file says of its refusal.
 module _ (file : List ℕ) {r : FileRead} (e : fileReadTold r ≡ readTold file) where
   pub read-none : {a b : ℕ} → r ≡ Counts a b → 0 ≡ readRefusal file
   unfolding fileReadTold readTold
-  read-none q = sym (answered-none _ (readRefusal file) (sym (ap fileReadTold q) ∙ e))
+  read-none q = sym (answer-told (readRefusal file) _ _ (sym e ∙ ap fileReadTold q) .0)
 
   pub read-number : {n : ℕ} → r ≡ Refused n → n ≡ readRefusal file
   unfolding fileReadTold readTold
-  read-number {n} q = refused-number _ n (readRefusal file) (sym (ap fileReadTold q) ∙ e)
+  read-number {n} q = refusal-told (readRefusal file) n _ (sym (ap fileReadTold q) ∙ e) .0
 
 -- ---- the tests in their order
-
-pub rest-part : (input : List ℕ) → take (length input - 4) (drop 4 input) ≡ drop 4 input
-rest-part input = take-all (length input - 4) (drop 4 input) (omega (arith, length-drop 4 input))
 
 module _ (input : List ℕ) where
   pub input-long : 48_020 < length input → 6 ≡ listingRefusal input
@@ -76,27 +50,13 @@ module _ (input : List ℕ) where
 
     module _ {r : ℕ} (p : r ≡ readRefusal (take (length input - 4) (drop 4 input))) where
       same : r ≡ readRefusal (drop 4 input)
-      same = p ∙ ap readRefusal (rest-part input)
+      same = p ∙ ap readRefusal (rest-of input 4)
 
       pub input-file : (r ≡ 0 → ⊥) → r ≡ listingRefusal input
-      input-file h = rw (left, ← same) (sym (first-refusal r _ h))
+      input-file h = rw left (first-refused _ same h)
 
-      pub input-small : r ≡ 0 → {k : ℕ} → k ≡ word input 0 → k ≡ 0 → 4 ≡ listingRefusal input
-      unfolding lawfulK
-      input-small z q h = rw (left, ← same, next-refusal r _ z, ← q, h)
-
-      pub input-large : r ≡ 0 → {k : ℕ} → k ≡ word input 0 → 4_096 < k → 4 ≡ listingRefusal input
-      unfolding lawfulK
-      input-large z {k} q h = rw (left, ← same, next-refusal r _ z, ← q, le-leb 1 k (omega arith), lt-leb k 4_096 h)
-
-      pub input-right : r ≡ 0 → {k : ℕ} → k ≡ word input 0 → (k ≡ 0 → ⊥) → k ≤ 4_096 → 0 ≡ listingRefusal input
-      unfolding lawfulK
-      input-right z {k} q ne h =
-          rw (left, ← same, next-refusal r _ z, ← q, le-leb 1 k (positive k ne), le-leb k 4_096 h)
-        where
-          positive : (n : ℕ) → (n ≡ 0 → ⊥) → 1 ≤ n
-          positive zero f = absurd (f refl)
-          positive (suc n) f = omega arith
+      pub input-k : r ≡ 0 → {k : ℕ} {b : Bool} (lawful : Bool) → k ≡ word input 0 → b ≡ lawfulK k → b ≡ lawful → refuseIf (not lawful) 4 ≡ listingRefusal input
+      input-k z lawful pk pb t = rw left (next-decides same z (rw (← pk, ← pb, t)))
 
 -- What is known of an input that is not refused.
 pub record Accepted (input : List ℕ) : Type 0 where
@@ -114,36 +74,10 @@ accepted input h =
       most = ltb-false 48_020 (length input) (no-fault (ltb 48_020 (length input)) 5 (orElse-first _ _ h));
       least = ltb-false (length input) 4 (no-fault (ltb (length input) 4) 9 (orElse-first _ _ later));
       file = orElse-first _ _ last;
-      k = not-false (lawfulK (word input 0)) (no-fault (not (lawfulK (word input 0))) 3 (orElse-second (readRefusal (drop 4 input)) _ last));
+      k = fault-none (lawfulK (word input 0)) 3 (orElse-second (readRefusal (drop 4 input)) _ last);
     }
 
 -- ---- the whole listing
-
--- What the contents of an accepted file say of its two lists.
-module _ (file : List ℕ) where
-  pub file-least : readRefusal file ≡ 0 → 16 ≤ length file
-  file-least read = read-laid file read .room
-
-  module _ {first n second m : ℕ} (p : first ≡ word file 0) (q : n ≡ word file 4) (r : second ≡ word file 8) (s : m ≡ word file 12) where
-    pub file-counts : readRefusal file ≡ 0 → length file ≤ 48_016 → (n ≤ 4_000) × (m ≤ 4_000)
-    file-counts read most = let l = read-laid file read in (omega arith, omega arith)
-
-    pub file-lists : (k : ℕ) {buffer : List ℕ} → readRefusal file ≡ 0 → lawfulK k ≡ true → 344_115 ≤ length buffer → FileLists file first second n m k buffer
-    unfolding sitesIn startIn countIn
-    file-lists k read some room =
-        let l = read-laid file read in
-        record {
-          few = (omega arith, omega arith);
-          inside = (omega arith, omega arith);
-          lawful = (rw (p, q) (read-first-lawful file read), rw (r, s) (read-second-lawful file read));
-          some = some;
-          room = room;
-        }
-
-    pub file-text : (k : ℕ) {z : ℕ} {before after : List ℕ} → Put 0 (listingText k (sitesFrom file first n) (sitesFrom file second m)) before after z
-        → Put 0 (listingText k (sitesIn file First) (sitesIn file Second)) before after z
-    unfolding sitesIn startIn countIn
-    file-text k t = rw (p, q, r, s) at t
 
 -- What a text from the start on means for the answer.
 pub put-start : {t text before after : List ℕ} {z : ℕ} → t ≡ text → Put 0 text before after z → (z ≡ length t) × (after ≡ overwritten t before)
@@ -166,10 +100,12 @@ module _ (input : List ℕ) where
 
     -- The same of the part that the code lends.
     module _ {k : ℕ} (q : k ≡ word input 0) where
-      pub part-ready : (readRefusal (take (length input - 4) (drop 4 input)) ≡ 0) × (lawfulK k ≡ true) × (length (take (length input - 4) (drop 4 input)) ≤ 48_016)
-      part-ready =
-          let part = rest-part input in
-          (rw part (taken .file), rw q (taken .k), rw part (omega (arith, length-drop 4 input, taken .most)))
+      pub part-ready : {buffer : List ℕ} → 344_115 ≤ length buffer → FileLists (take (length input - 4) (drop 4 input)) k buffer × (length (take (length input - 4) (drop 4 input)) ≤ 48_016)
+      part-ready room =
+          let part = rest-of input 4 in (
+            record { accepted = rw part (taken .file); some = rw q (taken .k); room = room },
+            rw part (omega (arith, length-drop 4 input, taken .most)),
+          )
 
       pub part-listed : listing input ≡ listingText k (sitesIn (take (length input - 4) (drop 4 input)) First) (sitesIn (take (length input - 4) (drop 4 input)) Second)
-      part-listed = rw (rest-part input, q) listing-taken
+      part-listed = rw (rest-of input 4, q) listing-taken

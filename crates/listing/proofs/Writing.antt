@@ -4,8 +4,8 @@ use mathlib.Core.List.{List, [], _∷_, _++_, append-assoc, append-nil}
 use Prim.Native.Nat.{ℕ, _+_, _≤_, _<_}
 use native.Mathlib.Omega.{arith}
 use lib.ListN.{length, set, length-append}
-use Rattle.site_file.specs.Stored.{stored}
-use Rattle.site_file.proofs.Stored.{stored-length, stored-none, stored-after, sets-stored}
+use Rattle.column.specs.Column.{stored}
+use Rattle.column.proofs.Stored.{stored-length, stored-none, stored-after, sets-stored}
 use Rattle.listing.specs.Put.{Put}
 
 -- Of a text that fits from `at` on, all but `left` is written, up to `next`.

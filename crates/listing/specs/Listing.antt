@@ -3,14 +3,13 @@ use mathlib.Core.Bool.{not}
 use mathlib.Core.List.{List, [], _∷_, _++_}
 use Prim.Native.Nat.{ℕ, zero, suc}
 use lib.Dec.{ltb}
-use lib.ListN.{length, getD, drop}
-use lib.IntN.{pos}
+use lib.ListN.{length, drop}
 use Rattle.site.specs.declared.Site.{Site}
 use Rattle.site.specs.Told.{refuseIf, orElse}
-use Rattle.site.specs.SiteList.{site}
+use Rattle.site.specs.SiteList.{siteAt}
 use Rattle.entry.specs.declared.Entry.{Entry}
 use Rattle.entry.specs.Entry.{bestK}
-use Rattle.sweep.specs.Strip.{whole, pairs}
+use Rattle.sweep.specs.Strip.{allPairs}
 use Rattle.entry.specs.Entry.{lawfulK}
 use Rattle.site_file.specs.declared.Which.the-variants.{First, Second}
 use Rattle.site_file.specs.Bytes.{word}
@@ -36,11 +35,7 @@ refusedWord = 114 ∷ 101 ∷ 102 ∷ 117 ∷ 115 ∷ 101 ∷ 100 ∷ []
 
 -- The number of the site at a place.
 unfoldable pub numberAt : List Site → ℕ → ℕ
-numberAt l place = getD l place (site (pos 0) (pos 0) 0) .number
-
--- The same from the column of numbers.
-unfoldable pub numberIn : List ℕ → ℕ → ℕ
-numberIn numbers place = getD numbers place 0
+numberAt l place = siteAt l place .number
 
 -- "rank from 1, squared distance, first site's number, second site's number."
 unfoldable pub entryLine : ℕ → ℕ → ℕ → ℕ → List ℕ
@@ -63,7 +58,7 @@ entriesText total a b entries = heading (length entries) total ++ entryLines a b
 -- The text for two lists.
 unfoldable pub listingText : ℕ → List Site → List Site → List ℕ
 listingText k a b =
-    let all = pairs (whole a) (whole b) in
+    let all = allPairs a b in
     entriesText (length all) (numberAt a) (numberAt b) (bestK k all)
 
 -- "A refusal prints one line only, as `refused 4`."

@@ -2,13 +2,13 @@
 use mathlib.Core.Path.{_≡_}
 use mathlib.Core.Bool.{true}
 use mathlib.Core.List.{List, map}
-use Prim.Native.Nat.{ℕ, _+_, _*_, _≤_, _<_}
+use Prim.Native.Nat.{ℕ, _+_, _≤_, _<_}
 use lib.ListN.{length}
 use Rattle.site.specs.SiteList.{Columns}
-use Rattle.site.specs.Refusal.{contentRefusal, listsRefusal}
+use Rattle.site.specs.Refusal.{listsRefusal}
 use Rattle.entry.specs.Entry.{lawfulK}
-use Rattle.site_file.specs.File.{sitesFrom}
-use Rattle.site_file.specs.Stored.{stored}
+use Rattle.site_file.specs.Calls.{readRefusal}
+use Rattle.column.specs.Column.{stored}
 use Rattle.listing.specs.Decimal.{decimal, digitAt, powersBelow}
 
 -- The buffer holds the text from position `at` on and is otherwise as it was `before`; `next` is the position past the text.
@@ -34,10 +34,8 @@ pub record Sized (n : ℕ) (c : Columns) : Type 0 where
   pub y : length (c .y) ≡ n
   pub number : length (c .number) ≡ n
 
--- Two lists in a file and a K that no test refuses, and a buffer with room for any text of them.
-pub record FileLists (file : List ℕ) (first second n m k : ℕ) (buffer : List ℕ) : Type 0 where
-  pub few : (n ≤ 65_535) × (m ≤ 65_535)
-  pub inside : (first + 12 * n ≤ length file) × (second + 12 * m ≤ length file)
-  pub lawful : (contentRefusal (sitesFrom file first n) ≡ 0) × (contentRefusal (sitesFrom file second m) ≡ 0)
+-- A file and a K that no test refuses, and a buffer with room for any text of them.
+pub record FileLists (file : List ℕ) (k : ℕ) (buffer : List ℕ) : Type 0 where
+  pub accepted : readRefusal file ≡ 0
   pub some : lawfulK k ≡ true
   pub room : 344_115 ≤ length buffer

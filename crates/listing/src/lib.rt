@@ -4,18 +4,17 @@ ghost use mathlib.Core.Bool.{true};
 ghost use mathlib.Core.List.{[], _∷_, _++_};
 ghost use Prim.Native.Nat.{suc, _+_, _*_, _^_, _≤_, _<_};
 ghost use lib.ListN.{length, getD, set};
-ghost use Rattle.site.specs.SiteList.{columns, sites};
-ghost use Rattle.entry.specs.Entry.{lawfulK};
+ghost use Rattle.site.specs.SiteList.{columns, sites, siteAt, columnsOf};
 ghost use Rattle.column.specs.Column.{overwritten};
 ghost use Rattle.entry.specs.Results.{results, entriesOf, roomFor};
-ghost use Rattle.site_file.specs.File.{siteIn, sitesFrom, sitesIn};
-ghost use Rattle.site.specs.SiteList.{columnsOf};
-ghost use Rattle.site_file.specs.Calls.{readRefusal};
+ghost use Rattle.site_file.specs.File.{countIn, sitesIn};
+ghost use Rattle.site_file.specs.Calls.{contentsRefusal, readRefusal};
 ghost use Rattle.listing.specs.Decimal.{decimal, digitAt};
-ghost use Rattle.listing.specs.Listing.{numberIn, entryLine, entryLines, heading, entriesText, refusedText, listingText, listingRefusal, listing};
+ghost use Rattle.listing.specs.Listing.{entryLine, entryLines, heading, entriesText, refusedText, listingText, listingRefusal, listing};
 ghost use Rattle.listing.specs.Put.{Put, Digits, Lawful, Sized, FileLists};
 use pairs::Listed;
 use site_file::FileRead;
+use site_file::SiteRead;
 use site_file::Which;
 use sweep::Way;
 
@@ -149,7 +148,7 @@ fn put_refused(out: &mut [u8], at: usize, number: u32) -> usize
 
 // The number at a place of a column, 0 past its end.
 fn number_at(numbers: &[u32], place: u32) -> u32
-    ensures { λ r. ⌜ r ≡ numberIn (now (numbers .entry)) place ⌝ }
+    ensures { λ r. ⌜ r ≡ getD (now (numbers .entry)) place 0 ⌝ }
 {
     let i = place as usize;
     if i < numbers.len() {
@@ -174,8 +173,8 @@ fn put_entry_at(
     ensures { λ r.
         ⌜ Put at
         (entryLine (suc i) (getD (now (distance .entry)) i 0)
-        (numberIn (now (an .entry)) (getD (now (first .entry)) i 0))
-        (numberIn (now (bn .entry)) (getD (now (second .entry)) i 0)))
+        (getD (now (an .entry)) (getD (now (first .entry)) i 0) 0)
+        (getD (now (bn .entry)) (getD (now (second .entry)) i 0) 0))
         (now (out .entry)) (now (out .exit)) r ⌝ }
 {
     let a = number_at(an, first[i]);
@@ -198,7 +197,7 @@ fn put_entries(
     requires { ⌜ at + 84 * count ≤ length (now out) ⌝ }
     ensures { λ r.
         ⌜ Put at
-        (entryLines (numberIn (now (an .entry))) (numberIn (now (bn .entry))) 1
+        (entryLines (λ i. getD (now (an .entry)) i 0) (λ i. getD (now (bn .entry)) i 0) 1
         (entriesOf count (results (now (distance .entry)) (now (first .entry)) (now (second .entry)))))
         (now (out .entry)) (now (out .exit)) r ⌝ }
 {
@@ -225,7 +224,8 @@ fn put_text(
     requires { ⌜ (length (now an) ≤ 65535) × (length (now bn) ≤ 65535) × (51 + 84 * count ≤ length (now out)) ⌝ }
     ensures { λ r.
         ⌜ Put 0
-        (entriesText (length (now (an .entry)) * length (now (bn .entry))) (numberIn (now (an .entry))) (numberIn (now (bn .entry)))
+        (entriesText (length (now (an .entry)) * length (now (bn .entry)))
+        (λ i. getD (now (an .entry)) i 0) (λ i. getD (now (bn .entry)) i 0)
         (entriesOf count (results (now (distance .entry)) (now (first .entry)) (now (second .entry)))))
         (now (out .entry)) (now (out .exit)) r ⌝ }
 {
@@ -234,40 +234,37 @@ fn put_text(
     put_entries(an, bn, distance, first, second, count, out, next)
 }
 
-// Reads the site at a position of a file into place `i` of three columns.
-fn read_site(file: &[u8], at: usize, x: &mut [i32], y: &mut [i32], number: &mut [u32], i: usize)
-    requires { ⌜ at + 12 ≤ length (now file) ⌝ }
-    requires { ⌜ (i < length (now x)) × (i < length (now y)) × (i < length (now number)) ⌝ }
-    ensures { λ _. ⌜ now (x .exit) ≡ set (now (x .entry)) i (siteIn (now (file .entry)) at .x) ⌝ }
-    ensures { λ _. ⌜ now (y .exit) ≡ set (now (y .entry)) i (siteIn (now (file .entry)) at .y) ⌝ }
-    ensures { λ _. ⌜ now (number .exit) ≡ set (now (number .entry)) i (siteIn (now (file .entry)) at .number) ⌝ }
+// Reads the site at place `i` of a list of a file into that place of three columns.
+fn read_site(file: &[u8], which: Which, x: &mut [i32], y: &mut [i32], number: &mut [u32], i: usize)
+    requires { ⌜ (contentsRefusal (now file) ≡ 0) × (i < countIn (now file) which) ⌝ }
+    requires { ⌜ Sized (countIn (now file) which) (columns (now x) (now y) (now number)) ⌝ }
+    ensures { λ _. ⌜ now (x .exit) ≡ set (now (x .entry)) i (siteAt (sitesIn (now (file .entry)) which) i .x) ⌝ }
+    ensures { λ _. ⌜ now (y .exit) ≡ set (now (y .entry)) i (siteAt (sitesIn (now (file .entry)) which) i .y) ⌝ }
+    ensures { λ _. ⌜ now (number .exit) ≡ set (now (number .entry)) i (siteAt (sitesIn (now (file .entry)) which) i .number) ⌝ }
 {
-    let s = site_file::site_at(file, at);
-    let sx = s.x;
-    let sy = s.y;
-    x[i] = sx;
-    y[i] = sy;
-    number[i] = s.number;
+    match site_file::consult(file, which, i as u32) {
+        SiteRead::Found(s) => {
+            let sx = s.x;
+            let sy = s.y;
+            x[i] = sx;
+            y[i] = sy;
+            number[i] = s.number;
+        }
+        SiteRead::Refused(_) => {}
+    }
 }
 
-// Reads `count` sites from a position of a file on into three columns that they fill.
-fn read_sites(
-    file: &[u8],
-    start: usize,
-    count: usize,
-    x: &mut [i32],
-    y: &mut [i32],
-    number: &mut [u32],
-)
-    requires { ⌜ start + 12 * count ≤ length (now file) ⌝ }
-    requires { ⌜ (length (now x) ≡ count) × (length (now y) ≡ count) × (length (now number) ≡ count) ⌝ }
+// Reads a list of a file into three columns that it fills.
+fn read_sites(file: &[u8], which: Which, x: &mut [i32], y: &mut [i32], number: &mut [u32])
+    requires { ⌜ contentsRefusal (now file) ≡ 0 ⌝ }
+    requires { ⌜ Sized (countIn (now file) which) (columns (now x) (now y) (now number)) ⌝ }
     ensures { λ _.
-        ⌜ columns (now (x .exit)) (now (y .exit)) (now (number .exit))
-        ≡ columnsOf (sitesFrom (now (file .entry)) start count) ⌝ }
+        ⌜ columns (now (x .exit)) (now (y .exit)) (now (number .exit)) ≡ columnsOf (sitesIn (now (file .entry)) which) ⌝ }
 {
+    let count = x.len();
     let mut i = 0;
     while i < count {
-        read_site(file, start + 12 * i, x, y, number, i);
+        read_site(file, which, x, y, number, i);
         i += 1;
     }
 }
@@ -299,14 +296,10 @@ fn input_refusal(input: &[u8]) -> u32
     if file != 0 {
         return file;
     }
-    let k = site_file::word_at(input, 0);
-    if k == 0 {
-        return 4;
+    if entry::lawful_k(site_file::word_at(input, 0)) {
+        return 0;
     }
-    if 4096 < k {
-        return 4;
-    }
-    0
+    4
 }
 
 // Writes the text for two lists, whose K list the result columns take: the position past it.
@@ -378,13 +371,9 @@ fn list_columns(
     )
 }
 
-// Reads two lists of a file into columns and writes their text: the position past it.
+// Reads both lists of a file into columns and writes their text: the position past it.
 fn list_sites(
     file: &[u8],
-    first: usize,
-    second: usize,
-    n: usize,
-    m: usize,
     k: u32,
     ax: &mut [i32],
     ay: &mut [i32],
@@ -394,33 +383,27 @@ fn list_sites(
     bn: &mut [u32],
     out: &mut [u8],
 ) -> usize
-    requires { ⌜ FileLists (now file) first second n m k (now out) ⌝ }
-    requires { ⌜ Sized n (columns (now ax) (now ay) (now an)) × Sized m (columns (now bx) (now by) (now bn)) ⌝ }
+    requires { ⌜ FileLists (now file) k (now out) ⌝ }
+    requires { ⌜ Sized (countIn (now file) Which.First) (columns (now ax) (now ay) (now an)) ⌝ }
+    requires { ⌜ Sized (countIn (now file) Which.Second) (columns (now bx) (now by) (now bn)) ⌝ }
     ensures { λ r.
-        ⌜ Put 0 (listingText k (sitesFrom (now (file .entry)) first n) (sitesFrom (now (file .entry)) second m))
+        ⌜ Put 0 (listingText k (sitesIn (now (file .entry)) Which.First) (sitesIn (now (file .entry)) Which.Second))
         (now (out .entry)) (now (out .exit)) r ⌝ }
 {
-    read_sites(file, first, n, ax, ay, an);
-    read_sites(file, second, m, bx, by, bn);
+    read_sites(file, Which::First, ax, ay, an);
+    read_sites(file, Which::Second, bx, by, bn);
     list_columns(ax, ay, an, bx, by, bn, k, out)
 }
 
-// Writes the text for two lists of a file, of at most 4,000 sites each: the position past it.
-fn list_parts(
-    file: &[u8],
-    first: usize,
-    second: usize,
-    n: usize,
-    m: usize,
-    k: u32,
-    out: &mut [u8],
-) -> usize
-    requires { ⌜ FileLists (now file) first second n m k (now out) ⌝ }
-    requires { ⌜ (n ≤ 4000) × (m ≤ 4000) ⌝ }
+// Writes the text for a site file of at most 48,016 bytes: the position past it.
+fn list_file(file: &[u8], k: u32, out: &mut [u8]) -> usize
+    requires { ⌜ FileLists (now file) k (now out) × (length (now file) ≤ 48016) ⌝ }
     ensures { λ r.
-        ⌜ Put 0 (listingText k (sitesFrom (now (file .entry)) first n) (sitesFrom (now (file .entry)) second m))
+        ⌜ Put 0 (listingText k (sitesIn (now (file .entry)) Which.First) (sitesIn (now (file .entry)) Which.Second))
         (now (out .entry)) (now (out .exit)) r ⌝ }
 {
+    let n = site_file::count_in(file, Which::First) as usize;
+    let m = site_file::count_in(file, Which::Second) as usize;
     let mut ax = [0i32; 4000];
     let mut ay = [0i32; 4000];
     let mut an = [0u32; 4000];
@@ -429,10 +412,6 @@ fn list_parts(
     let mut bn = [0u32; 4000];
     list_sites(
         file,
-        first,
-        second,
-        n,
-        m,
         k,
         &mut ax[..n],
         &mut ay[..n],
@@ -442,20 +421,6 @@ fn list_parts(
         &mut bn[..m],
         out,
     )
-}
-
-// Writes the text for a site file of at most 48,016 bytes: the position past it.
-fn list_file(file: &[u8], k: u32, out: &mut [u8]) -> usize
-    requires { ⌜ (readRefusal (now file) ≡ 0) × (lawfulK k ≡ true) × (length (now file) ≤ 48016) × (344115 ≤ length (now out)) ⌝ }
-    ensures { λ r.
-        ⌜ Put 0 (listingText k (sitesIn (now (file .entry)) Which.First) (sitesIn (now (file .entry)) Which.Second))
-        (now (out .entry)) (now (out .exit)) r ⌝ }
-{
-    let first = site_file::word_at(file, 0) as usize;
-    let n = site_file::word_at(file, 4) as usize;
-    let second = site_file::word_at(file, 8) as usize;
-    let m = site_file::word_at(file, 12) as usize;
-    list_parts(file, first, second, n, m, k, out)
 }
 
 // The case listing of an input, K and a site file: the length of its text, which stands at the start of the buffer.

@@ -1,5 +1,6 @@
 -- The tests of an input, one after another.
-use Rattle.listing.proofs.Verdict.{input-long, input-short, input-file, input-small, input-large, input-right}
+use mathlib.Core.Bool.{true, false}
+use Rattle.listing.proofs.Verdict.{input-long, input-short, input-file, input-k}
 use borrow.Author.Needs.{needs}
 use Rattle.listing.proofs.input_refusal.Statement.{statement}
 use Rattle.listing.proofs.input_refusal.Tie as tie
@@ -28,14 +29,16 @@ returns-3 c = input-file _ (search needs) (search needs) (c .before .file-refusa
 word-at-requires : tie.Need-word-at-requires
 word-at-requires c κs = search needs
 
+lawful-k-requires : tie.Need-lawful-k-requires
+lawful-k-requires c κs = search needs
+
 returns-4 : tie.Need-returns-4
-returns-4 c = input-small _ (search needs) (search needs) (c .before .before .before .file-refusal .ensures) (c .before .before .if3 .left) (c .before .word-at .ensures) (c .if4 .taken)
+returns-4 c =
+    input-k _ (search needs) (search needs) (c .before .before .before .before .file-refusal .ensures) (c .before .before .before .if3 .left) true (c .before .before .word-at .ensures) (c .before .lawful-k .ensures) (c .if4 .taken)
 
 returns-5 : tie.Need-returns-5
-returns-5 c = input-large _ (search needs) (search needs) (c .before .before .before .before .file-refusal .ensures) (c .before .before .before .if3 .left) (c .before .before .word-at .ensures) (search needs)
-
-returns-6 : tie.Need-returns-6
-returns-6 c = input-right _ (search needs) (search needs) (c .before .before .before .before .file-refusal .ensures) (c .before .before .before .if3 .left) (c .before .before .word-at .ensures) (c .before .if4 .left) (search needs)
+returns-5 c =
+    input-k _ (search needs) (search needs) (c .before .before .before .before .file-refusal .ensures) (c .before .before .before .if3 .left) false (c .before .before .word-at .ensures) (c .before .lawful-k .ensures) (c .if4 .left)
 
 pub input-refusal-spec : {M : Type 1} → statement M
 input-refusal-spec =
@@ -49,6 +52,6 @@ input-refusal-spec =
     file-refusal-requires
     returns-3
     word-at-requires
+    lawful-k-requires
     returns-4
-    returns-5
-    returns-6)
+    returns-5)

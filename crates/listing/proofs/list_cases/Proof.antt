@@ -15,7 +15,7 @@ returns : tie.Need-returns
 returns c = put-start (listing-refused _ _ (c .before .before .before .input-refusal .ensures) (c .before .before .if1 .taken)) (c .put-refused .ensures)
 
 word-at-requires : tie.Need-word-at-requires
-word-at-requires c κs = taken _ (c .before .input-refusal .ensures) (c .if1 .left) .least
+word-at-requires c κs = search needs
 
 sub-list-file : tie.Need-sub-list-file
 sub-list-file c = taken _ (c .before .before .input-refusal .ensures) (c .before .if1 .left) .least
@@ -28,8 +28,7 @@ part-list-file-end c = search needs
 
 list-file-requires : tie.Need-list-file-requires
 list-file-requires c κs =
-    let part = part-ready _ (c .before .before .before .before .input-refusal .ensures) (c .before .before .before .if1 .left) (c .before .before .word-at .ensures) in
-    (part .0, part .1, part .2, omega (arith, c .list-file-arg2 .given .0 .1))
+    part-ready _ (c .before .before .before .before .input-refusal .ensures) (c .before .before .before .if1 .left) (c .before .before .word-at .ensures) (omega (arith, c .list-file-arg2 .given .0 .1))
 
 returns-2 : tie.Need-returns-2
 returns-2 c = put-start (part-listed _ (c .before .before .before .before .before .input-refusal .ensures) (c .before .before .before .before .if1 .left) (c .before .before .before .word-at .ensures)) (c .list-file .ensures)

@@ -1,55 +1,89 @@
--- What the contents of a file say of its two lists, and their text.
-use native.Mathlib.Omega.{arith}
-use Rattle.listing.proofs.Verdict.{file-least, file-counts, file-lists, file-text}
+-- Columns for both lists of a file.
+use lib.IntN.{pos}
+use Rattle.site_file.specs.declared.Which.the-variants.{First, Second}
+use Rattle.listing.proofs.Reading.{file-few, zeros-part, zeros-sized}
 use borrow.Author.Needs.{needs}
 use Rattle.listing.proofs.list_file.Statement.{statement}
 use Rattle.listing.proofs.list_file.Tie as tie
 
-word-at-requires : tie.Need-word-at-requires
-word-at-requires c κs = omega (arith, file-least _ (c .before .before .pre .0))
-
-cast-first : tie.Need-cast-first
-cast-first c = search needs
-
-word-at-requires-2 : tie.Need-word-at-requires-2
-word-at-requires-2 c κs = omega (arith, file-least _ (c .before .before .before .pre .0))
+count-in-requires : tie.Need-count-in-requires
+count-in-requires c κs = search needs
 
 cast-n : tie.Need-cast-n
 cast-n c = search needs
 
-word-at-requires-3 : tie.Need-word-at-requires-3
-word-at-requires-3 c κs = omega (arith, file-least _ (c .before .before .before .before .pre .0))
-
-cast-second : tie.Need-cast-second
-cast-second c = search needs
-
-word-at-requires-4 : tie.Need-word-at-requires-4
-word-at-requires-4 c κs = omega (arith, file-least _ (c .before .before .before .before .before .pre .0))
+count-in-requires-2 : tie.Need-count-in-requires-2
+count-in-requires-2 c κs = search needs
 
 cast-m : tie.Need-cast-m
 cast-m c = search needs
 
-list-parts-requires : tie.Need-list-parts-requires
-list-parts-requires c κs = (file-lists _ (c .before .before .before .before .word-at .ensures) (c .before .before .before .word-at2 .ensures) (c .before .before .word-at3 .ensures) (c .before .word-at4 .ensures) _ (c .before .before .before .before .before .before .before .pre .0) (c .before .before .before .before .before .before .before .pre .1) (c .before .before .before .before .before .before .before .pre .3), file-counts _ (c .before .before .before .before .word-at .ensures) (c .before .before .before .word-at2 .ensures) (c .before .before .word-at3 .ensures) (c .before .word-at4 .ensures) (c .before .before .before .before .before .before .before .pre .0) (c .before .before .before .before .before .before .before .pre .2))
+array-borrow-prefix-ax : tie.Need-array-borrow-prefix-ax
+array-borrow-prefix-ax c = file-few (c .before .before .before .before .pre) First (c .before .count-in .ensures)
+
+slice-aggregate-list-sites : tie.Need-slice-aggregate-list-sites
+slice-aggregate-list-sites c = zeros-part (pos 0) _ (file-few (c .before .before .before .before .before .pre) First (c .before .before .count-in .ensures))
+
+array-borrow-prefix-ay : tie.Need-array-borrow-prefix-ay
+array-borrow-prefix-ay c = file-few (c .before .before .before .before .before .pre) First (c .before .before .count-in .ensures)
+
+slice-aggregate-list-sites-2 : tie.Need-slice-aggregate-list-sites-2
+slice-aggregate-list-sites-2 c = zeros-part (pos 0) _ (file-few (c .before .before .before .before .before .before .pre) First (c .before .before .before .count-in .ensures))
+
+array-borrow-prefix-an : tie.Need-array-borrow-prefix-an
+array-borrow-prefix-an c = file-few (c .before .before .before .before .before .before .pre) First (c .before .before .before .count-in .ensures)
+
+slice-aggregate-list-sites-3 : tie.Need-slice-aggregate-list-sites-3
+slice-aggregate-list-sites-3 c = zeros-part 0 _ (file-few (c .before .before .before .before .before .before .before .pre) First (c .before .before .before .before .count-in .ensures))
+
+array-borrow-prefix-bx : tie.Need-array-borrow-prefix-bx
+array-borrow-prefix-bx c = file-few (c .before .before .before .before .before .before .before .pre) Second (c .before .before .before .count-in2 .ensures)
+
+slice-aggregate-list-sites-4 : tie.Need-slice-aggregate-list-sites-4
+slice-aggregate-list-sites-4 c = zeros-part (pos 0) _ (file-few (c .before .before .before .before .before .before .before .before .pre) Second (c .before .before .before .before .count-in2 .ensures))
+
+array-borrow-prefix-by : tie.Need-array-borrow-prefix-by
+array-borrow-prefix-by c = file-few (c .before .before .before .before .before .before .before .before .pre) Second (c .before .before .before .before .count-in2 .ensures)
+
+slice-aggregate-list-sites-5 : tie.Need-slice-aggregate-list-sites-5
+slice-aggregate-list-sites-5 c = zeros-part (pos 0) _ (file-few (c .before .before .before .before .before .before .before .before .before .pre) Second (c .before .before .before .before .before .count-in2 .ensures))
+
+array-borrow-prefix-bn : tie.Need-array-borrow-prefix-bn
+array-borrow-prefix-bn c = file-few (c .before .before .before .before .before .before .before .before .before .pre) Second (c .before .before .before .before .before .count-in2 .ensures)
+
+slice-aggregate-list-sites-6 : tie.Need-slice-aggregate-list-sites-6
+slice-aggregate-list-sites-6 c = zeros-part 0 _ (file-few (c .before .before .before .before .before .before .before .before .before .before .pre) Second (c .before .before .before .before .before .before .count-in2 .ensures))
+
+list-sites-requires : tie.Need-list-sites-requires
+list-sites-requires c κs =
+    (c .before .before .before .before .before .before .before .before .before .before .before .pre .0, (zeros-sized _ (c .before .before .before .before .before .before .before .before .count-in .ensures) (file-few (c .before .before .before .before .before .before .before .before .before .before .before .pre) First (c .before .before .before .before .before .before .before .before .count-in .ensures)), zeros-sized _ (c .before .before .before .before .before .before .before .count-in2 .ensures) (file-few (c .before .before .before .before .before .before .before .before .before .before .before .pre) Second (c .before .before .before .before .before .before .before .count-in2 .ensures))))
 
 same-length : tie.Need-same-length
 same-length c = search needs
 
 returns : tie.Need-returns
-returns c = file-text _ (c .before .before .before .before .before .before .before .word-at .ensures) (c .before .before .before .before .before .before .word-at2 .ensures) (c .before .before .before .before .before .word-at3 .ensures) (c .before .before .before .before .word-at4 .ensures) _ (c .before .before .list-parts .ensures)
+returns c = search needs
 
 pub list-file-spec : {M : Type 1} → statement M
 list-file-spec =
     tie.close
     (tie.spec
-    word-at-requires
-    cast-first
-    word-at-requires-2
+    count-in-requires
     cast-n
-    word-at-requires-3
-    cast-second
-    word-at-requires-4
+    count-in-requires-2
     cast-m
-    list-parts-requires
+    array-borrow-prefix-ax
+    slice-aggregate-list-sites
+    array-borrow-prefix-ay
+    slice-aggregate-list-sites-2
+    array-borrow-prefix-an
+    slice-aggregate-list-sites-3
+    array-borrow-prefix-bx
+    slice-aggregate-list-sites-4
+    array-borrow-prefix-by
+    slice-aggregate-list-sites-5
+    array-borrow-prefix-bn
+    slice-aggregate-list-sites-6
+    list-sites-requires
     same-length
     returns)

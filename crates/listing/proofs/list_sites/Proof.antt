@@ -1,17 +1,19 @@
 -- Both lists read into columns, and their text.
+use Rattle.site_file.proofs.Contents.{read-contents}
 use Rattle.listing.proofs.Reading.{read-lawful, read-text}
 use borrow.Author.Needs.{needs}
 use Rattle.listing.proofs.list_sites.Statement.{statement}
 use Rattle.listing.proofs.list_sites.Tie as tie
 
 read-sites-requires : tie.Need-read-sites-requires
-read-sites-requires c κs = (c .before .before .before .before .before .before .before .pre .0 .inside .0, (c .before .before .before .before .before .before .before .pre .1 .0 .x, c .before .before .before .before .before .before .before .pre .1 .0 .y, c .before .before .before .before .before .before .before .pre .1 .0 .number))
+read-sites-requires c κs = let pre = c .before .before .before .before .before .before .before .pre in (read-contents _ (pre .0 .accepted), pre .1 .0)
 
 read-sites-requires-2 : tie.Need-read-sites-requires-2
-read-sites-requires-2 c κs = (c .before .before .before .before .before .before .before .before .before .before .before .before .before .before .before .pre .0 .inside .1, (c .before .before .before .before .before .before .before .before .before .before .before .before .before .before .before .pre .1 .1 .x, c .before .before .before .before .before .before .before .before .before .before .before .before .before .before .before .pre .1 .1 .y, c .before .before .before .before .before .before .before .before .before .before .before .before .before .before .before .pre .1 .1 .number))
+read-sites-requires-2 c κs = let pre = c .before .before .before .before .before .before .before .before .before .before .before .before .before .before .before .pre in (read-contents _ (pre .0 .accepted), pre .1 .1)
 
 list-columns-requires : tie.Need-list-columns-requires
-list-columns-requires c κs = read-lawful _ _ _ _ _ _ (c .before .before .before .before .before .before .before .before .before .before .before .before .before .before .before .before .before .before .before .read-sites .ensures) (c .before .before .before .before .before .before .before .before .before .before .before .read-sites2 .ensures) (c .before .before .before .before .before .before .before .before .before .before .before .before .before .before .before .before .before .before .before .before .before .before .before .before .before .before .before .pre .0)
+list-columns-requires c κs =
+    read-lawful _ _ (c .before .before .before .before .before .before .before .before .before .before .before .before .before .before .before .before .before .before .before .read-sites .ensures) (c .before .before .before .before .before .before .before .before .before .before .before .read-sites2 .ensures) (c .before .before .before .before .before .before .before .before .before .before .before .before .before .before .before .before .before .before .before .before .before .before .before .before .before .before .before .pre .0)
 
 same-length : tie.Need-same-length
 same-length c = search needs
@@ -35,7 +37,8 @@ same-length-7 : tie.Need-same-length-7
 same-length-7 c = search needs
 
 returns : tie.Need-returns
-returns c = read-text _ _ _ _ _ _ (c .before .before .before .before .before .before .before .before .before .before .before .before .before .before .before .before .before .before .before .before .before .before .read-sites .ensures) (c .before .before .before .before .before .before .before .before .before .before .before .before .before .before .read-sites2 .ensures) (c .before .before .list-columns .ensures)
+returns c =
+    read-text _ _ (c .before .before .before .before .before .before .before .before .before .before .before .before .before .before .before .before .before .before .before .before .before .before .read-sites .ensures) (c .before .before .before .before .before .before .before .before .before .before .before .before .before .before .read-sites2 .ensures) (c .before .before .list-columns .ensures)
 
 pub list-sites-spec : {M : Type 1} → statement M
 list-sites-spec =

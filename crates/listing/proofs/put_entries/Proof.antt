@@ -2,14 +2,14 @@
 use Prim.Native.Nat.{_-_}
 use native.Mathlib.Omega.{arith}
 use Rattle.entry.specs.Results.{results}
-use Rattle.listing.specs.Listing.{numberIn}
+use lib.ListN.{getD}
 use Rattle.listing.proofs.Entries.{Entering, entering-starts, entering-here, entering-more, entering-ends}
 use borrow.Author.Needs.{needs}
 use Rattle.listing.proofs.put_entries.Statement.{statement}
 use Rattle.listing.proofs.put_entries.Tie as tie
 
 abbrev Inv-loop : tie.InvT-loop
-Inv-loop an bn distance first second count out₀ at next₀ i₀ out next i = Entering (numberIn an) (numberIn bn) count (results distance first second) at out₀ out next i
+Inv-loop an bn distance first second count out₀ at next₀ i₀ out next i = Entering (λ i. getD an i 0) (λ i. getD bn i 0) count (results distance first second) at out₀ out next i
 
 abbrev μ-loop : tie.MeasureT-loop
 μ-loop an bn distance first second count out₀ at next₀ i₀ out next i = count - i

@@ -1,11 +1,20 @@
--- One site of a file into its columns.
-use Rattle.listing.proofs.Reading.{x-stored, y-stored, number-stored}
+-- One site of a file into its columns: the consulted file is never refused.
+use native.Mathlib.Omega.{arith}
+use Rattle.site_file.proofs.Contents.{laid, inside}
+use Rattle.listing.proofs.Reading.{x-stored, y-stored, number-stored, found-site, found-always}
 use borrow.Author.Needs.{needs}
 use Rattle.listing.proofs.read_site.Statement.{statement}
 use Rattle.listing.proofs.read_site.Tie as tie
 
-site-at-requires : tie.Need-site-at-requires
-site-at-requires c κs = search needs
+cast-consult : tie.Need-cast-consult
+cast-consult c =
+    let start = c .before .before in let g = inside _ (start .args .which) (laid _ (start .pre .0 .0)) in omega (arith, start .pre .0 .1)
+
+consult-requires : tie.Need-consult-requires
+consult-requires c κs = search needs
+
+enum-known-s : tie.Need-enum-known-s
+enum-known-s c = search needs
 
 mul-sx : tie.Need-mul-sx
 mul-sx c = search needs
@@ -25,6 +34,9 @@ mul-number c = search needs
 slice-write-number : tie.Need-slice-write-number
 slice-write-number c = search needs
 
+enum-told : tie.Need-enum-told
+enum-told c = search needs
+
 same-length : tie.Need-same-length
 same-length c = search needs
 
@@ -36,22 +48,32 @@ same-length-3 c = search needs
 
 returns : tie.Need-returns
 returns c =
-    let read = c .before .before .site-at .ensures in
-    let args = c .before .before .before .before .before .args in
+    let start = c .before .before .before .before .before .before .before .before in
+    let args = start .args in
+    let read = found-site _ _ _ _ (c .before .before .before .before .before .consult .ensures) (start .pre .0 .0) (start .pre .0 .1) (c .before .before .before .s .given .1) in
     (x-stored (args .i) read (args .x .now) (search needs), (y-stored (args .i) read (args .y .now) (search needs), number-stored (args .i) read (args .number .now)))
+
+returns-2 : tie.Need-returns-2
+returns-2 c =
+    let start = c .before .before .before .before .before in
+    absurd (found-always _ _ _ _ (c .before .before .consult .ensures) (start .pre .0 .0) (start .pre .0 .1) (c .enum-told .given .1))
 
 pub read-site-spec : {M : Type 1} → statement M
 read-site-spec =
     tie.close
     (tie.spec
-    site-at-requires
+    cast-consult
+    consult-requires
+    enum-known-s
     mul-sx
     slice-set-from-sx
     mul-sy
     slice-set-from-sy
     mul-number
     slice-write-number
+    enum-told
     same-length
     same-length-2
     same-length-3
-    returns)
+    returns
+    returns-2)
