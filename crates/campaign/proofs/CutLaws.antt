@@ -9,7 +9,7 @@ use lib.ListN.{length, take, drop, getD}
 use lib.Seq.{take-add, drop-drop, take-all}
 use borrow.Author.Tests.{ltb-true, leb-true, eqb-true, le-leb, lt-leb}
 use Rattle.order.specs.Order.{ascending}
-use Rattle.order.specs.Lists.{keep, All}
+use Rattle.order.specs.Lists.{keep, last, All}
 use Rattle.order.specs.Sorted.{Ascends}
 use Rattle.order.proofs.Order.{ltb-order}
 use Rattle.order.proofs.Lists.{all-at, all-weaken, keep-yes, keep-none}
@@ -48,18 +48,12 @@ unfolding Ascends
 up-rest from l s = s .1
 
 -- Each end is at most the last.
-pub at-most-last : (l : List ℕ) (s : ℕ) → Ascends ltb l → s < length l → getD l s 0 ≤ lastEnd l
-unfolding lastEnd
-at-most-last [] s u h = absurd (omega arith)
-at-most-last (e ∷ []) zero u h = omega arith
-at-most-last (e ∷ []) (suc s) u h = absurd (omega arith)
-at-most-last (e ∷ (f ∷ l)) zero u h = omega (arith, up-first e f l u, at-most-last (f ∷ l) 0 (up-rest e (f ∷ l) u) (omega arith))
-at-most-last (e ∷ (f ∷ l)) (suc s) u h = at-most-last (f ∷ l) s (up-rest e (f ∷ l) u) (omega arith)
-
-last-from-zero : (ends : List ℕ) → lastEnd (0 ∷ ends) ≡ lastEnd ends
-unfolding lastEnd
-last-from-zero [] = refl
-last-from-zero (e ∷ l) = refl
+last-most : (d : ℕ) (l : List ℕ) (s : ℕ) → Ascends ltb (d ∷ l) → s < length (d ∷ l) → getD (d ∷ l) s 0 ≤ last d l
+unfolding last
+last-most d [] zero u h = omega arith
+last-most d [] (suc s) u h = absurd (omega arith)
+last-most d (e ∷ l) zero u h = omega (arith, up-first d e l u, last-most e l 0 (up-rest d (e ∷ l) u) (omega arith))
+last-most d (e ∷ l) (suc s) u h = last-most e l s (up-rest d (e ∷ l) u) (omega arith)
 
 -- The first is below each other.
 first-least : (e : ℕ) (l : List ℕ) (s : ℕ) → Ascends ltb (e ∷ l) → s < length (e ∷ l) → e ≤ getD (e ∷ l) s 0
@@ -102,56 +96,50 @@ unfolding countFrom
 count-suc i zero = refl
 count-suc i (suc n) = ap (λ (r : List ℕ). suc i ∷ r) (count-suc (suc i) n)
 
-last-one : (e : ℕ) → lastEnd (e ∷ []) ≡ e
-unfolding lastEnd
-last-one e = refl
-
-last-more : (e f : ℕ) (l : List ℕ) → lastEnd (e ∷ (f ∷ l)) ≡ lastEnd (f ∷ l)
-unfolding lastEnd
-last-more e f l = refl
-
 -- Parts by ends that ascend, one after the other: all from the first to the last.
 parts-from : {A : Type 0} (from : ℕ) (ends : List ℕ) (w : List A) → Ascends ltb (from ∷ ends)
-    → gathered (cutPart from ends w) (countFrom 0 (length ends)) ≡ take (lastEnd (from ∷ ends) - from) (drop from w)
-unfolding gathered countFrom cutPart
-parts-from from [] w u = let z : lastEnd (from ∷ []) - from ≡ 0 = omega (arith, last-one from) in rw z
+    → gathered (cutPart from ends w) (countFrom 0 (length ends)) ≡ take (last from ends - from) (drop from w)
+unfolding gathered countFrom cutPart last
+parts-from from [] w u = let z : from - from ≡ 0 = omega arith in rw z
 parts-from {A} from (e ∷ l) w u =
     let tail = up-rest from (e ∷ l) u in
     let less = up-first from e l u in
-    let most : e ≤ lastEnd (e ∷ l) = at-most-last (e ∷ l) 0 tail (omega arith) in
-    let split : lastEnd (from ∷ (e ∷ l)) - from ≡ (e - from) + (lastEnd (e ∷ l) - e) = omega (arith, last-more from e l) in
+    let most : e ≤ last e l = last-most e l 0 tail (omega arith) in
+    let split : last e l - from ≡ (e - from) + (last e l - e) = omega arith in
     let on : from + (e - from) ≡ e = omega arith in
-    let rest : gathered (cutPart from (e ∷ l) w) (countFrom 1 (length l)) ≡ take (lastEnd (e ∷ l) - e) (drop e w) =
+    let rest : gathered (cutPart from (e ∷ l) w) (countFrom 1 (length l)) ≡ take (last e l - e) (drop e w) =
     ap (gathered (cutPart from (e ∷ l) w)) (count-suc 0 (length l))
     ∙ gathered-map (cutPart from (e ∷ l) w) suc (countFrom 0 (length l))
     ∙ parts-from e l w tail in
     ap (λ (r : List A). take (e - from) (drop from w) ++ r) rest
     ∙ sym (ap (λ (n : ℕ). take n (drop from w)) split
-    ∙ take-add (e - from) (lastEnd (e ∷ l) - e) (drop from w)
-    ∙ ap (λ (r : List A). take (e - from) (drop from w) ++ take (lastEnd (e ∷ l) - e) r)
+    ∙ take-add (e - from) (last e l - e) (drop from w)
+    ∙ ap (λ (r : List A). take (e - from) (drop from w) ++ take (last e l - e) r)
     (drop-drop (e - from) from w ∙ ap (λ (n : ℕ). drop n w) on))
 
 -- ---- the strips of a list
 
-module _ (l : List Site) (ends : List ℕ) (cut : Cut (length l) ends) where
-  -- The strips, one after the other, are the whole list.
-  pub strips-whole : gathered (stripAt ends l) (countFrom 0 (length ends)) ≡ whole l
-  unfolding stripAt strip stripFrom stripTo cutPart
-  strips-whole =
-      parts-from 0 ends (whole l) (cut .up)
-      ∙ take-all (lastEnd (0 ∷ ends) - 0) (whole l) (omega (arith, last-from-zero ends, length-whole l, cut .last))
+-- The strips, one after the other, are the whole list.
+pub strips-whole : (l : List Site) (ends : List ℕ) → Cut (length l) ends → gathered (stripAt ends l)
+    (countFrom 0 (length ends)) ≡ whole l
+unfolding stripAt strip stripFrom stripTo cutPart lastEnd
+strips-whole l ends cut =
+    parts-from 0 ends (whole l) (cut .up)
+    ∙ take-all (last 0 ends - 0) (whole l) (omega (arith, length-whole l, cut .last))
 
-  module _ (s : ℕ) (h : s < length ends) where
-    -- A strip lies inside its list.
-    pub strip-inside : (stripFrom ends s < stripTo ends s) × (stripTo ends s ≤ length l)
-    unfolding stripFrom stripTo
-    strip-inside = (strip-up 0 ends s (cut .up) h, omega (arith, at-most-last ends s (up-rest 0 ends (cut .up)) h, cut .last))
+module _ {n : ℕ} {ends : List ℕ} (cut : Cut n ends) (s : ℕ) (h : s < length ends) where
+  -- A strip is not empty, and lies inside its list.
+  pub strip-inside : (stripFrom ends s < stripTo ends s) × (stripTo ends s ≤ n)
+  unfolding stripFrom stripTo lastEnd
+  strip-inside =
+      (strip-up 0 ends s (cut .up) h, omega (arith, last-most 0 ends (suc s) (cut .up) (omega arith), cut .last))
 
-    pub length-strip : length (stripAt ends l s) ≡ stripTo ends s - stripFrom ends s
-    unfolding stripAt
-    length-strip = length-strip-within (stripFrom ends s) (stripTo ends s) l (strip-inside .1)
+  -- The strip that holds a place of a strip is that strip.
+  pub strip-holds : (place : ℕ) → stripFrom ends s ≤ place → place < stripTo ends s → stripHolding ends place ≡ s
+  unfolding stripFrom stripTo stripHolding
+  strip-holds place low high = holding-from 0 ends s place (cut .up) h low high
 
-    -- The strip that holds a place of a strip is that strip.
-    pub strip-holds : (place : ℕ) → stripFrom ends s ≤ place → place < stripTo ends s → stripHolding ends place ≡ s
-    unfolding stripFrom stripTo stripHolding
-    strip-holds place low high = holding-from 0 ends s place (cut .up) h low high
+pub length-strip : (l : List Site) {ends : List ℕ} → Cut (length l) ends → (s : ℕ) → s < length ends
+    → length (stripAt ends l s) ≡ stripTo ends s - stripFrom ends s
+unfolding stripAt
+length-strip l {ends} cut s h = length-strip-within (stripFrom ends s) (stripTo ends s) l (strip-inside cut s h .1)

@@ -1,16 +1,16 @@
 -- Cut ends taken one at a time: the test of them, the strip that holds a place, and the slots.
-use mathlib.Core.Path.{_≡_, refl, sym, ap, _∙_}
+use mathlib.Core.Path.{_≡_, refl, sym, _∙_}
 use mathlib.Core.Bool.{Bool, true, false, _&&_}
 use mathlib.Core.List.{List, [], _∷_, _++_, append-assoc}
-use Prim.Native.Nat.{ℕ, zero, suc, _+_, _-_, _≤_, _<_}
+use Prim.Native.Nat.{ℕ, suc, _+_, _-_, _≤_, _<_}
 use native.Mathlib.Numerals.{add-one}
 use native.Mathlib.Omega.{arith}
 use lib.Dec.{leb, ltb, eqb}
-use lib.ListN.{length, getD, take, drop, set, replicate, length-take, drop-of-length-le}
+use lib.ListN.{length, getD, take, drop, set, replicate, drop-of-length-le}
 use lib.Seq.{drop-cons, take-suc, set-at, length-take-le, append-snoc, take-length}
 use borrow.Author.Tests.{lt-ltb, le-ltb, le-leb, lt-leb}
 use Rattle.order.specs.Order.{ascending}
-use Rattle.order.specs.Lists.{keep}
+use Rattle.order.specs.Lists.{keep, last as ending}
 use Rattle.order.proofs.Lists.{keep-yes, keep-no, keep-nil}
 use Rattle.campaign.specs.Grid.{lastEnd, lawfulEnds, stripHolding}
 use Rattle.campaign.specs.Calls.{slots}
@@ -20,15 +20,11 @@ use Rattle.campaign.specs.Calls.{slots}
 -- `last` is the end before place `i`: what the rest of the ends tells is what all tell.
 pub record Walked (ends : List ℕ) (last i : ℕ) : Type 0 where
   pub order : ascending ltb (0 ∷ ends) ≡ ascending ltb (last ∷ drop i ends)
-  pub end : lastEnd ends ≡ lastEnd (last ∷ drop i ends)
-
-pub last-of : (ends : List ℕ) → lastEnd ends ≡ lastEnd (0 ∷ ends)
-unfolding lastEnd
-last-of [] = refl
-last-of (e ∷ l) = refl
+  pub end : lastEnd ends ≡ ending last (drop i ends)
 
 pub walked-none : (ends : List ℕ) → Walked ends 0 0
-walked-none ends = record { order = refl; end = last-of ends }
+unfolding lastEnd
+walked-none ends = record { order = refl; end = refl }
 
 ascending-on : (a b : ℕ) (l : List ℕ) → a < b → ascending ltb (a ∷ (b ∷ l)) ≡ ascending ltb (b ∷ l)
 unfolding ascending
@@ -38,18 +34,15 @@ ascending-off : (a b : ℕ) (l : List ℕ) → b ≤ a → ascending ltb (a ∷ 
 unfolding ascending
 ascending-off a b l h = rw (le-ltb a b h)
 
-last-on : (a b : ℕ) (l : List ℕ) → lastEnd (a ∷ (b ∷ l)) ≡ lastEnd (b ∷ l)
-unfolding lastEnd
-last-on a b l = refl
-
 module _ (ends : List ℕ) (last i : ℕ) (inside : i < length ends) (w : Walked ends last i) where
   rest : drop i ends ≡ getD ends i 0 ∷ drop (suc i) ends
   rest = drop-cons ends i 0 inside
 
   pub walked-more : last < getD ends i 0 → Walked ends (getD ends i 0) (i + 1)
+  unfolding ending
   walked-more h = record {
     order = w .order ∙ rw (rest, add-one) (ascending-on last (getD ends i 0) (drop (suc i) ends) h);
-    end = w .end ∙ rw (rest, add-one) (last-on last (getD ends i 0) (drop (suc i) ends));
+    end = w .end ∙ rw (rest, add-one);
   }
 
   pub walked-falls : (n : ℕ) → length ends ≤ 32 → getD ends i 0 ≤ last → false ≡ lawfulEnds n ends
@@ -62,21 +55,26 @@ one : (a : ℕ) → ascending ltb (a ∷ []) ≡ true
 unfolding ascending
 one a = refl
 
-last-one : (a : ℕ) → lastEnd (a ∷ []) ≡ a
-unfolding lastEnd
-last-one a = refl
-
 pub walked-all : (n : ℕ) (ends : List ℕ) (last i : ℕ) → length ends ≤ i → length ends ≤ 32 → Walked ends last i → eqb last n ≡ lawfulEnds n ends
-unfolding lawfulEnds
+unfolding lawfulEnds ending
 walked-all n ends last i h s w =
     let none : drop i ends ≡ [] = drop-of-length-le ends h in
     let order : ascending ltb (0 ∷ ends) ≡ true = w .order ∙ rw none (one last) in
-    let end : lastEnd ends ≡ last = w .end ∙ rw none (last-one last) in
+    let end : lastEnd ends ≡ last = w .end ∙ rw none in
     simp (le-leb (length ends) 32 s, order, end)
 
 pub too-many : (n : ℕ) (ends : List ℕ) → 32 < length ends → false ≡ lawfulEnds n ends
 unfolding lawfulEnds
 too-many n ends h = simp (lt-leb (length ends) 32 h)
+
+-- The ends in the slots in use.
+module _ (n : ℕ) (slots : List ℕ) (used : ℕ) where
+  pub slots-fail : 32 < used → false ≡ (leb used 32 && lawfulEnds n (take used slots))
+  slots-fail h = simp (lt-leb used 32 h)
+
+  pub slots-decide : {r : Bool} → used ≤ 32 → r ≡ lawfulEnds n (take used slots) → r ≡
+      (leb used 32 && lawfulEnds n (take used slots))
+  slots-decide h e = e ∙ simp (le-leb used 32 h)
 
 -- ---- the strip that holds a place
 

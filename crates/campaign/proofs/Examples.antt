@@ -1,10 +1,10 @@
 -- Examples of skips and of a job's refusals: what M1 to M10 do not tell apart.
 use mathlib.Core.Path.{_≡_, refl}
-use mathlib.Core.Bool.{Bool, cond}
+use mathlib.Core.Bool.{cond}
 use mathlib.Core.List.{List, [], _∷_}
 use Prim.Native.Nat.{ℕ}
 use lib.IntN.{pos}
-use Rattle.site.specs.Told.{refused, answered}
+use Rattle.site.specs.Told.{refused, answered, tell, unlessRefused, orElse, Told}
 use Rattle.sweep.specs.declared.Way.the-variants.{Classic}
 use Rattle.campaign.specs.declared.Campaign.{Campaign}
 use Rattle.order.specs.Best.{insert, inserts, sort, best}
@@ -13,17 +13,18 @@ use Rattle.column.specs.Column.{overwritten}
 use Rattle.order.specs.Order.{lex, ascending}
 use Rattle.site.specs.Refusal.{equalLengths, sizeFault, contentRefusal, listRefusal, listsRefusal}
 use Rattle.site.specs.Site.{gap, square, squaredOver, squaredDistance, within, lawfulSite, siteBefore}
-use Rattle.site.specs.SiteList.{sites, zipSites, Columns, columns}
-use Rattle.site.specs.Told.{tell, unlessRefused, orElse, Told}
-use Rattle.entry.specs.Entry.{rankBefore, bestK, offer, lastDistance}
+use Rattle.site.specs.SiteList.{sites, zipSites, siteAt, Columns, columns}
+use Rattle.entry.specs.Entry.{rankBefore, bestK, offer, lastDistance, lawfulK}
 use Rattle.entry.specs.Results.{entriesOf, zipEntries, holding, roomFor, Results, results}
 use Rattle.sweep.specs.Scan.{beyond, looked, offered, scan}
 use Rattle.sweep.specs.Strip.{whole, placedFrom, strip, pair, product, pairs}
 use Rattle.sweep.specs.Sweep.{classicOver, leads, look, start, sweep}
-use Rattle.entry.specs.Entry.{lawfulK}
 use Rattle.campaign.specs.Calls.{slots, newCampaign, jobRefusal, skips, jobEntries, afterJob, jobValues, jobTold, jobCampaign, jobResults, JobValues}
-use Rattle.campaign.specs.Grid.{lastEnd, lawfulEnds, stripFrom, stripTo, stripAt, stripHolding, countFrom, markOf, settledJobs, lawfulMarks, jobPairs, pairTotal, firstX, lastX, rangeGap, stripGap, Job, jobOf, jobs, settled}
-use Rattle.campaign.specs.Keeper.{firstEnds, secondEnds, soundEnds, siteAt, soundEntry, settledTotal, sound, campaignRefusal}
+use Rattle.campaign.specs.Grid.{lastEnd, lawfulEnds, stripFrom, stripTo, stripAt, stripHolding, countFrom}
+use Rattle.campaign.specs.Grid.{markOf, settledJobs, lawfulMark, lawfulMarks, jobPairs, jobsPairs, firstX, lastX}
+use Rattle.campaign.specs.Grid.{rangeGap, stripGap, squaredStripGap, Job, jobOf, jobs, settled, settle}
+use Rattle.campaign.specs.Keeper.{firstEnds, secondEnds, soundEnds, fits, soundEntry, settledTotal, rightCount}
+use Rattle.campaign.specs.Keeper.{sound, campaignRefusal}
 
 -- What is told of a job, in one number: the refusal's, or 100 where it was swept and 200 where it was skipped.
 toldAs : Told JobValues → ℕ
@@ -64,5 +65,5 @@ keeperFirst =
 told :
     equalGap ∷ ownRanges ∷ keeperFirst ∷ []
     ≡ (100 ∷ 100 ∷ 9 ∷ 8 ∷ 8 ∷ []) ∷ (100 ∷ 200 ∷ 200 ∷ 200 ∷ []) ∷ (7 ∷ 7 ∷ []) ∷ []
-unfolding toldAs toldOf one equalGap ownRanges keeperFirst lex insert inserts sort best ascending all keep sum overwritten gap square squaredOver squaredDistance within lawfulSite siteBefore sites zipSites equalLengths sizeFault contentRefusal listRefusal listsRefusal tell unlessRefused orElse rankBefore bestK offer lastDistance last entriesOf zipEntries holding roomFor whole placedFrom strip pair product pairs beyond looked offered scan classicOver leads look start sweep lawfulK lastEnd lawfulEnds stripFrom stripTo stripAt stripHolding countFrom jobs markOf settled settledJobs lawfulMarks jobPairs pairTotal firstX lastX rangeGap stripGap firstEnds secondEnds soundEnds siteAt soundEntry settledTotal sound campaignRefusal slots newCampaign jobRefusal skips jobEntries afterJob jobValues jobTold jobCampaign jobResults
+unfolding toldAs toldOf one equalGap ownRanges keeperFirst lex insert inserts sort best ascending all keep sum overwritten gap square squaredOver squaredDistance within lawfulSite siteBefore sites zipSites equalLengths sizeFault contentRefusal listRefusal listsRefusal tell unlessRefused orElse rankBefore bestK offer lastDistance entriesOf zipEntries holding roomFor whole placedFrom strip pair product pairs beyond looked offered scan classicOver leads look start sweep lawfulK last lastEnd lawfulEnds stripFrom stripTo stripAt stripHolding countFrom jobs markOf settled settle settledJobs lawfulMark lawfulMarks jobPairs jobsPairs firstX lastX rangeGap stripGap squaredStripGap firstEnds secondEnds soundEnds siteAt fits soundEntry settledTotal rightCount sound campaignRefusal slots newCampaign jobRefusal skips jobEntries afterJob jobValues jobTold jobCampaign jobResults
 told = refl

@@ -1,26 +1,24 @@
--- The gap of two strips bounds the squared distance of each of their pairs.
-use mathlib.Core.Path.{_≡_, refl, sym, ap, _∙_}
-use mathlib.Core.Bool.{Bool, true, false}
-use mathlib.Core.List.{List, [], _∷_}
-use Prim.Native.Nat.{ℕ, zero, suc, _≤_}
+-- The squared gap of two strips bounds the squared distance of each of their pairs.
+use mathlib.Core.Path.{_≡_}
+use mathlib.Core.Bool.{true, false}
+use mathlib.Core.List.{List, [], _∷_, map}
+use Prim.Native.Nat.{_≤_}
 use native.Mathlib.Nat.{le-trans}
 use native.Mathlib.Omega.{arith}
 use lib.IntN.{ℤ}
 use lib.Signed.{ltZ, leZ}
-use Rattle.order.specs.Lists.{All}
+use Rattle.order.specs.Lists.{All, last}
 use Rattle.order.specs.Sorted.{Sorted}
 use Rattle.order.proofs.Order.{byTest}
 use Rattle.order.proofs.Lists.{all-weaken}
-use Rattle.site.specs.Site.{gap, square, squaredDistance}
-use Rattle.site.proofs.Integers.{lt-le, le-refl}
-use Rattle.site.proofs.Integers.{le-trans as leZ-trans}
+use Rattle.site.specs.Site.{gap}
+use Rattle.site.proofs.Integers.{lt-le, le-refl, le-trans as leZ-trans}
 use Rattle.site.proofs.Distance.{gap-sym, gap-grows, gap-shrinks, square-le, squared-gap-x}
-use Rattle.entry.specs.declared.Entry.{Entry}
-use Rattle.sweep.specs.Strip.{Placed, pair, product, pairs}
+use Rattle.sweep.specs.Strip.{Placed, pair, pairs}
 use Rattle.sweep.proofs.Geometry.{not-left}
 use Rattle.sweep.proofs.StripLaws.{leftOf}
 use Rattle.sweep.proofs.ProductLaws.{all-product}
-use Rattle.campaign.specs.Grid.{firstX, lastX, rangeGap, stripGap}
+use Rattle.campaign.specs.Grid.{firstX, lastX, rangeGap, stripGap, squaredStripGap}
 
 -- ---- a strip's x range
 
@@ -32,13 +30,22 @@ from-first (a ∷ p) s = (
   all-weaken (λ q. ltZ (q .site .x) (a .site .x) ≡ false) (λ q. leZ (a .site .x) (q .site .x) ≡ true) (λ q h. not-left (a .site .x) (q .site .x) h) p (s .0),
 )
 
+-- The first of some sites is at most the last.
+last-greatest : (a : Placed) (p : List Placed) → Sorted leftOf (a ∷ p) → All
+    (λ q. leZ (q .site .x) (last (a .site .x) (map (λ r. r .site .x) p)) ≡ true) (a ∷ p)
+unfolding Sorted All last
+last-greatest a [] s = (le-refl (a .site .x), tt)
+last-greatest a (b ∷ p) s =
+    let r = last-greatest b p (s .1) in (
+      leZ-trans (a .site .x) (b .site .x) (last (b .site .x) (map (λ q. q .site .x) p))
+          (not-left (a .site .x) (b .site .x) (s .0 .0)) (r .0),
+      r,
+    )
+
 pub to-last : (p : List Placed) → Sorted leftOf p → All (λ q. leZ (q .site .x) (lastX p) ≡ true) p
-unfolding Sorted All lastX
+unfolding All lastX last
 to-last [] s = tt
-to-last (a ∷ []) s = (le-refl (a .site .x), tt)
-to-last (a ∷ (b ∷ p)) s =
-    let r = to-last (b ∷ p) (s .1) in
-    (leZ-trans (a .site .x) (b .site .x) (lastX (b ∷ p)) (not-left (a .site .x) (b .site .x) (s .0 .0)) (r .0), r)
+to-last (a ∷ p) s = last-greatest a p s
 
 -- ---- the gap of two ranges
 
@@ -64,23 +71,25 @@ module _ (from to from' to' x y : ℤ) (low : leZ from x ≡ true) (high : leZ x
 
 module _ (p q : List Placed) where
   pair-far : (a b : Placed) → leZ (firstX p) (a .site .x) ≡ true → leZ (a .site .x) (lastX p) ≡ true → leZ (firstX q) (b .site .x) ≡ true → leZ (b .site .x) (lastX q) ≡ true
-      → square (stripGap p q) ≤ pair a b .distance
-  unfolding stripGap pair
+      → squaredStripGap p q ≤ pair a b .distance
+  unfolding squaredStripGap stripGap pair
   pair-far a b h g i j =
       le-trans (square-le (range-under (firstX p) (lastX p) (firstX q) (lastX q) (a .site .x) (b .site .x) h g i j)) (squared-gap-x (a .site) (b .site))
 
   row-far : (a : Placed) → leZ (firstX p) (a .site .x) ≡ true → leZ (a .site .x) (lastX p) ≡ true → (l : List Placed)
-      → All (λ b. leZ (firstX q) (b .site .x) ≡ true) l → All (λ b. leZ (b .site .x) (lastX q) ≡ true) l → All (λ b. square (stripGap p q) ≤ pair a b .distance) l
+      → All (λ b. leZ (firstX q) (b .site .x) ≡ true) l → All (λ b. leZ (b .site .x) (lastX q) ≡ true) l → All
+      (λ b. squaredStripGap p q ≤ pair a b .distance) l
   unfolding All
   row-far a h g [] i j = tt
   row-far a h g (b ∷ l) i j = (pair-far a b h g (i .0) (j .0), row-far a h g l (i .1) (j .1))
 
   rows-far : Sorted leftOf q → (l : List Placed) → All (λ a. leZ (firstX p) (a .site .x) ≡ true) l → All (λ a. leZ (a .site .x) (lastX p) ≡ true) l
-      → All (λ a. All (λ b. square (stripGap p q) ≤ pair a b .distance) q) l
+      → All (λ a. All (λ b. squaredStripGap p q ≤ pair a b .distance) q) l
   unfolding All
   rows-far sq [] i j = tt
   rows-far sq (a ∷ l) i j = (row-far a (i .0) (j .0) q (from-first q sq) (to-last q sq), rows-far sq l (i .1) (j .1))
 
-  pub pairs-far : Sorted leftOf p → Sorted leftOf q → All (λ e. square (stripGap p q) ≤ e .distance) (pairs p q)
+  pub pairs-far : Sorted leftOf p → Sorted leftOf q → All (λ e. squaredStripGap p q ≤ e .distance) (pairs p q)
   unfolding pairs
-  pairs-far sp sq = all-product pair (λ e. square (stripGap p q) ≤ e .distance) p q (rows-far sq p (from-first p sp) (to-last p sp))
+  pairs-far sp sq =
+      all-product pair (λ e. squaredStripGap p q ≤ e .distance) p q (rows-far sq p (from-first p sp) (to-last p sp))

@@ -7,7 +7,7 @@ use Prim.Native.Nat.{ℕ, zero, suc, _+_, _-_, _*_, _≤_, _<_}
 use native.Mathlib.Omega.{arith}
 use lib.Dec.{ltb}
 use lib.IntN.{pos}
-use lib.ListN.{length, length-append}
+use lib.ListN.{length}
 use borrow.Author.Tests.{lt-ltb}
 use Rattle.order.specs.Order.{StrictOrder, on, lex}
 use Rattle.order.specs.Lists.{keep, All, Distinct}
@@ -17,13 +17,13 @@ use Rattle.order.proofs.Lists.{all-mem, all-weaken, keep-mem, mem-keep, perm-di
 use Rattle.order.proofs.Sorted.{ascends-distinct}
 use Rattle.site.specs.declared.Site.{Site}
 use Rattle.site.specs.Site.{squaredDistance}
-use Rattle.site.specs.SiteList.{site}
+use Rattle.site.specs.SiteList.{site, siteAt}
 use Rattle.entry.specs.declared.Entry.{Entry}
 use Rattle.sweep.specs.Strip.{whole, pair, product, pairs}
 use Rattle.sweep.proofs.ProductLaws.{perm-eq, mem-product, product-mem, length-product, product-ascends}
 use Rattle.sweep.proofs.PlaceLaws.{mem-pairs, mem-strip-pairs, whole-pairs-distinct}
-use Rattle.campaign.specs.Grid.{stripFrom, stripTo, stripAt, stripHolding, Job, jobOf, countFrom, jobs, jobPairs, jobsPairs, pairTotal}
-use Rattle.campaign.specs.Keeper.{siteAt}
+use Rattle.campaign.specs.Grid.{stripFrom, stripTo, stripAt, stripHolding, Job, jobOf, countFrom, jobs, jobPairs}
+use Rattle.campaign.specs.Grid.{jobsPairs}
 use Rattle.campaign.proofs.Gathered.{gathered, gathered-append, gathered-perm, gathered-mem, product-gathered, keep-split, members-perm}
 use Rattle.campaign.proofs.CutLaws.{Cut, strips-whole, length-strip, strip-holds}
 
@@ -122,7 +122,7 @@ module _ (ends ends' : List ℕ) (a b : List Site) where
   pub jobs-pairs-append : (l m : List Job) → jobsPairs ends ends' a b (l ++ m) ≡ jobsPairs ends ends' a b l ++ jobsPairs ends ends' a b m
   jobs-pairs-append l m = rw (pairs-gathered (l ++ m), pairs-gathered l, pairs-gathered m) (gathered-append (jobPairs ends ends' a b) l m)
 
-  pairs-one : (j : Job) → jobsPairs ends ends' a b (j ∷ []) ≡ jobPairs ends ends' a b j
+  pub pairs-one : (j : Job) → jobsPairs ends ends' a b (j ∷ []) ≡ jobPairs ends ends' a b j
   unfolding jobsPairs
   pairs-one j = append-nil (jobPairs ends ends' a b j)
 
@@ -164,16 +164,9 @@ module _ (ends ends' : List ℕ) (a b : List Site) where
     length-job j h =
         rw (
           length-product pair (stripAt ends a (j .first)) (stripAt ends' b (j .second)),
-          length-strip a ends cut (j .first) (h .row),
-          length-strip b ends' cut' (j .second) (h .column),
+          length-strip a cut (j .first) (h .row),
+          length-strip b cut' (j .second) (h .column),
         )
-
-    -- The pair total is the number of the pairs.
-    pub pair-total : (l : List Job) → All (InGrid (length ends) (length ends')) l → pairTotal ends ends' l ≡ length (jobsPairs ends ends' a b l)
-    unfolding pairTotal jobsPairs All
-    pair-total [] h = refl
-    pair-total (j ∷ l) h =
-        rw (length-append (jobPairs ends ends' a b j) (jobsPairs ends ends' a b l), pair-total l (h .1), length-job j (h .0))
 
     pub job-entry : (j : Job) → InGrid (length ends) (length ends') j → (e : Entry) → List·Memᴰ e (jobPairs ends ends' a b j)
         → OfJob ends ends' a b j e
@@ -185,8 +178,8 @@ module _ (ends ends' : List ℕ) (a b : List Site) where
           first = p .first-below;
           second = p .second-below;
           distance = p .right;
-          holding = strip-holds a ends cut (j .first) (g .row) (e .first) (w .0) (w .1);
-          holding' = strip-holds b ends' cut' (j .second) (g .column) (e .second) (w .2) (w .3);
+          holding = strip-holds cut (j .first) (g .row) (e .first) (w .0) (w .1);
+          holding' = strip-holds cut' (j .second) (g .column) (e .second) (w .2) (w .3);
         }
 
     -- An entry of some jobs' pairs is of one of them.

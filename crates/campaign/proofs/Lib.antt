@@ -8,7 +8,6 @@ pub mod EndLaws
 pub mod MarkTests
 pub mod TallyLaws
 pub mod Walks
-pub mod ListLaws
 pub mod KeeperTests
 pub mod PlanTests
 pub mod SoundTests

@@ -1,14 +1,13 @@
 -- Laws of a campaign's marks.
 use mathlib.Core.Path.{_≡_, refl}
-use mathlib.Core.Bool.{true, false, _&&_, _||_, and-eq-true-iff}
+use mathlib.Core.Bool.{true, false, and-eq-true-iff}
 use mathlib.Core.List.{List, [], _∷_}
 use Prim.Native.Nat.{ℕ, zero, suc, _+_, _*_, _/_, _%_, _≤_, _<_}
 use native.Mathlib.Omega.{arith}
-use lib.Dec.{ltb, eqb}
-use lib.ListN.{length, getD, set, replicate}
+use lib.ListN.{length, getD, set, replicate, length-set}
 use lib.Seq.{getD-set-same, getD-set-other}
 use borrow.Author.Tests.{lt-ltb}
-use Rattle.campaign.specs.Grid.{Job, markOf, settled, lawfulMarks}
+use Rattle.campaign.specs.Grid.{Job, markOf, settled, settle, lawfulMark, lawfulMarks}
 use Rattle.campaign.proofs.GridLaws.{InGrid}
 
 zeros-at : (n i : ℕ) → getD {A = ℕ} (replicate n 0) i 0 ≡ 0
@@ -22,27 +21,28 @@ unfolding settled
 none-settled n j = rw (zeros-at n (markOf j))
 
 pub lawful-zeros : (rows cols i n : ℕ) → lawfulMarks rows cols i (replicate n 0) ≡ true
-unfolding lawfulMarks
+unfolding lawfulMarks lawfulMark
 lawful-zeros rows cols i zero = refl
 lawful-zeros rows cols i (suc n) = lawful-zeros rows cols (suc i) n
 
 -- A 1 at a job's mark.
 lawful-one : (rows cols i n : ℕ) (marks : List ℕ) → lawfulMarks rows cols i marks ≡ true → (i + n) / 32 < rows → (i + n) % 32 < cols
     → lawfulMarks rows cols i (set marks n 1) ≡ true
-unfolding lawfulMarks
+unfolding lawfulMarks lawfulMark
 lawful-one rows cols i n [] h r c = refl
 lawful-one rows cols i zero (m ∷ l) h r c =
     let e : i + 0 ≡ i = omega arith in
-    let p = and-eq-true-iff (eqb m 0 || (eqb m 1 && (ltb (i / 32) rows && ltb (i % 32) cols))) (lawfulMarks rows cols (suc i) l) .0 h in
+    let p = and-eq-true-iff (lawfulMark rows cols i m) (lawfulMarks rows cols (suc i) l) .0 h in
     simp (lt-ltb (i / 32) rows (rw e at r), lt-ltb (i % 32) cols (rw e at c), p .1)
 lawful-one rows cols i (suc n) (m ∷ l) h r c =
     let e : i + suc n ≡ suc i + n = omega arith in
-    let p = and-eq-true-iff (eqb m 0 || (eqb m 1 && (ltb (i / 32) rows && ltb (i % 32) cols))) (lawfulMarks rows cols (suc i) l) .0 h in
+    let p = and-eq-true-iff (lawfulMark rows cols i m) (lawfulMarks rows cols (suc i) l) .0 h in
     simp (p .0, lawful-one rows cols (suc i) n l (p .1) (rw e at r) (rw e at c))
 
 module _ (rows cols : ℕ) (few : cols ≤ 32) (j : Job) (g : InGrid rows cols j) where
-  pub lawful-settled : (marks : List ℕ) → lawfulMarks rows cols 0 marks ≡ true → lawfulMarks rows cols 0 (set marks (markOf j) 1) ≡ true
-  unfolding markOf
+  pub lawful-settled : (marks : List ℕ) → lawfulMarks rows cols 0 marks ≡ true → lawfulMarks rows cols 0
+      (settle marks j) ≡ true
+  unfolding settle markOf
   lawful-settled marks h = lawful-one rows cols 0 (32 * j .first + j .second) marks h (omega (arith, g .row, g .column)) (omega (arith, g .row, g .column))
 
   -- A mark for each job.
@@ -55,12 +55,18 @@ module _ (rows cols : ℕ) (few : cols ≤ 32) (j : Job) (g : InGrid rows cols j
   unfolding markOf
   mark-apart i h e = (omega (arith, g .column, h .column), omega (arith, g .column, h .column))
 
+-- As many marks as before.
+pub length-settle : (marks : List ℕ) (j : Job) → length (settle marks j) ≡ length marks
+unfolding settle
+length-settle marks j = length-set marks (markOf j) 1
+
 -- The job is settled.
-pub settled-same : (marks : List ℕ) (j : Job) → markOf j < length marks → settled (set marks (markOf j) 1) j ≡ true
-unfolding settled
+pub settled-same : (marks : List ℕ) (j : Job) → markOf j < length marks → settled (settle marks j) j ≡ true
+unfolding settled settle
 settled-same marks j h = rw (getD-set-same marks (markOf j) 1 0 h)
 
 -- Any other job is as before.
-pub settled-other : (marks : List ℕ) (i j : Job) → (markOf i ≡ markOf j → ⊥) → settled (set marks (markOf j) 1) i ≡ settled marks i
-unfolding settled
+pub settled-other : (marks : List ℕ) (i j : Job) → (markOf i ≡ markOf j → ⊥) → settled (settle marks j) i
+    ≡ settled marks i
+unfolding settled settle
 settled-other marks i j h = rw (getD-set-other marks (markOf j) (markOf i) 1 0 h)

@@ -1,17 +1,13 @@
 -- Marks taken one at a time.
 use mathlib.Core.Path.{_≡_, refl, sym, ap, _∙_}
-use mathlib.Core.Bool.{Bool, true, false, _&&_, _||_}
+use mathlib.Core.Bool.{Bool, true, false, _&&_}
 use mathlib.Core.List.{List, [], _∷_}
-use Prim.Native.Nat.{ℕ, zero, suc, _+_, _*_, _/_, _%_, _≤_, _<_}
+use Prim.Native.Nat.{ℕ, suc, _+_, _*_, _≤_, _<_}
 use native.Mathlib.Numerals.{add-one}
-use lib.Dec.{ltb, eqb}
+use lib.Dec.{eqb}
 use lib.ListN.{length, getD, drop, drop-of-length-le, List·getD-eq-default}
 use lib.Seq.{drop-cons}
-use Rattle.campaign.specs.Grid.{jobOf, markOf, settled, lawfulMarks}
-
--- A mark with neither fault.
-abbrev pub lawfulMark : ℕ → ℕ → ℕ → ℕ → Bool
-lawfulMark rows cols i m = eqb m 0 || (eqb m 1 && (ltb (i / 32) rows && ltb (i % 32) cols))
+use Rattle.campaign.specs.Grid.{jobOf, markOf, settled, lawfulMark, lawfulMarks}
 
 marks-cons : (rows cols i m : ℕ) (l : List ℕ) → lawfulMarks rows cols i (m ∷ l) ≡ (lawfulMark rows cols i m && lawfulMarks rows cols (suc i) l)
 unfolding lawfulMarks

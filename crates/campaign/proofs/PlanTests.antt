@@ -1,5 +1,5 @@
 -- The tests of a campaign's plan, one after another: K, the ends, the marks, and the entry count.
-use mathlib.Core.Path.{_≡_, refl, sym, ap, ap₂, _∙_}
+use mathlib.Core.Path.{_≡_, sym, _∙_}
 use mathlib.Core.Bool.{Bool, true, false, _&&_}
 use mathlib.Core.List.{List}
 use Prim.Native.Nat.{ℕ, min, _≤_, _<_}
@@ -7,16 +7,17 @@ use native.Mathlib.Omega.{arith}
 use lib.Dec.{leb, eqb}
 use lib.ListN.{length, take}
 use lib.Seq.{length-take-le}
-use borrow.Author.Tests.{le-leb, lt-leb, leb-true}
+use borrow.Author.Tests.{leb-true, eqb-true}
 use Rattle.site.proofs.Cases.{and-first, and-second}
 use Rattle.entry.specs.Entry.{lawfulK}
 use Rattle.campaign.specs.declared.Campaign.{Campaign}
 use Rattle.campaign.specs.declared.Settled.{Settled}
-use Rattle.campaign.specs.Grid.{lawfulEnds, lawfulMarks, settledJobs}
-use Rattle.campaign.specs.Keeper.{firstEnds, secondEnds, soundEnds, settledTotal}
-use Rattle.campaign.specs.Tally.{Tally}
-use Rattle.campaign.specs.Kept.{SoundPlan, soundPlan}
-use Rattle.campaign.proofs.EndLaws.{lawful-cuts}
+use Rattle.campaign.specs.Grid.{lawfulEnds, stripFrom, stripTo, jobOf, lawfulMarks, settledJobs}
+use Rattle.campaign.specs.Keeper.{firstEnds, secondEnds, soundEnds, settledTotal, rightCount}
+use Rattle.campaign.specs.Tally.{Cutting, Tally}
+use Rattle.campaign.specs.Kept.{SoundPlan, JobAsked, soundPlan}
+use Rattle.campaign.proofs.CutLaws.{lawful-cut, strip-inside}
+use Rattle.campaign.proofs.EndLaws.{lawful-cuts, sampled}
 
 -- ---- the tests in their order
 
@@ -26,29 +27,23 @@ module _ (c : Campaign) (n m : ℕ) where
   unlawful-k h = simp h
 
   module _ (k : lawfulK (c .k) ≡ true) where
-    pub many-rows : 32 < c .«first_strips» → false ≡ soundPlan c n m
-    unfolding soundPlan soundEnds
-    many-rows h = simp (k, lt-leb (c .«first_strips») 32 h)
+    pub unlawful-first : (leb (c .«first_strips») 32 && lawfulEnds n (take (c .«first_strips») (c .«first_ends»)))
+        ≡ false → false ≡ soundPlan c n m
+    unfolding soundPlan soundEnds firstEnds
+    unlawful-first h = simp (k, h)
 
-    module _ (rows : c .«first_strips» ≤ 32) where
-      pub many-cols : 32 < c .«second_strips» → false ≡ soundPlan c n m
-      unfolding soundPlan soundEnds
-      many-cols h = simp (k, le-leb (c .«first_strips») 32 rows, lt-leb (c .«second_strips») 32 h)
+    module _ (first : (leb (c .«first_strips») 32 && lawfulEnds n (take (c .«first_strips») (c .«first_ends»)))
+        ≡ true) where
+      pub unlawful-second : (leb (c .«second_strips») 32 && lawfulEnds m
+          (take (c .«second_strips») (c .«second_ends»))) ≡ false → false ≡ soundPlan c n m
+      unfolding soundPlan soundEnds firstEnds secondEnds
+      unlawful-second h = simp (k, first, h)
 
-      module _ (cols : c .«second_strips» ≤ 32) where
-        pub unlawful-first : lawfulEnds n (take (c .«first_strips») (c .«first_ends»)) ≡ false → false ≡ soundPlan c n m
-        unfolding soundPlan soundEnds firstEnds
-        unlawful-first h = simp (k, le-leb (c .«first_strips») 32 rows, le-leb (c .«second_strips») 32 cols, h)
-
-        module _ (first : lawfulEnds n (take (c .«first_strips») (c .«first_ends»)) ≡ true) where
-          pub unlawful-second : lawfulEnds m (take (c .«second_strips») (c .«second_ends»)) ≡ false → false ≡ soundPlan c n m
-          unfolding soundPlan soundEnds firstEnds secondEnds
-          unlawful-second h = simp (k, le-leb (c .«first_strips») 32 rows, le-leb (c .«second_strips») 32 cols, first, h)
-
-          pub marks-decide : {r : Bool} → lawfulEnds m (take (c .«second_strips») (c .«second_ends»)) ≡ true → r ≡ lawfulMarks (c .«first_strips») (c .«second_strips») 0 (c .marks)
-              → r ≡ soundPlan c n m
-          unfolding soundPlan soundEnds firstEnds secondEnds
-          marks-decide h w = w ∙ simp (k, le-leb (c .«first_strips») 32 rows, le-leb (c .«second_strips») 32 cols, first, h)
+      pub marks-decide : {r : Bool} →
+          (leb (c .«second_strips») 32 && lawfulEnds m (take (c .«second_strips») (c .«second_ends»))) ≡ true
+          → r ≡ lawfulMarks (c .«first_strips») (c .«second_strips») 0 (c .marks) → r ≡ soundPlan c n m
+      unfolding soundPlan soundEnds firstEnds secondEnds
+      marks-decide h w = w ∙ simp (k, first, h)
 
 -- ---- what a plan with no fault is
 
@@ -64,13 +59,13 @@ ends-parts : (c : Campaign) (n m : ℕ) → soundEnds c n m ≡ true
     → (c .«first_strips» ≤ 32) × (c .«second_strips» ≤ 32) × (lawfulEnds n (firstEnds c) ≡ true) × (lawfulEnds m (secondEnds c) ≡ true)
 unfolding soundEnds
 ends-parts c n m h =
-    let p = and-second (leb (c .«first_strips») 32) (leb (c .«second_strips») 32 && (lawfulEnds n (firstEnds c) && lawfulEnds m (secondEnds c))) h in
-    let q = and-second (leb (c .«second_strips») 32) (lawfulEnds n (firstEnds c) && lawfulEnds m (secondEnds c)) p in (
-      leb-true (c .«first_strips») 32 (and-first (leb (c .«first_strips») 32) (leb (c .«second_strips») 32 && (lawfulEnds n (firstEnds c) && lawfulEnds m (secondEnds c))) h),
-      leb-true (c .«second_strips») 32 (and-first (leb (c .«second_strips») 32) (lawfulEnds n (firstEnds c) && lawfulEnds m (secondEnds c)) p),
-      and-first (lawfulEnds n (firstEnds c)) (lawfulEnds m (secondEnds c)) q,
-      and-second (lawfulEnds n (firstEnds c)) (lawfulEnds m (secondEnds c)) q,
-    )
+    let f = leb (c .«first_strips») 32 in
+    let s = leb (c .«second_strips») 32 in
+    let e = lawfulEnds n (firstEnds c) in
+    let e' = lawfulEnds m (secondEnds c) in
+    let p = and-first (f && e) (s && e') h in
+    let q = and-second (f && e) (s && e') h in
+    (leb-true _ 32 (and-first f e p), leb-true _ 32 (and-first s e' q), and-second f e p, and-second s e' q)
 
 pub plan-parts : (c : Campaign) (n m : ℕ) → soundPlan c n m ≡ true → PlanParts c n m
 unfolding soundPlan
@@ -97,10 +92,28 @@ sound-plan c n m s t h =
       second = lawful-cuts m (secondEnds c) (p .second) t;
     }
 
+k-limits : (k : ℕ) → lawfulK k ≡ true → (0 < k) × (k ≤ 4_096)
+unfolding lawfulK
+k-limits k h = (
+  omega (arith, leb-true 1 k (and-first (leb 1 k) (leb k 4_096) h)),
+  leb-true k 4_096
+      (and-second (leb 1 k) (leb k 4_096) h),
+)
+
 -- ---- the settled jobs
 
 pub in-use : (ends : List ℕ) (strips : ℕ) → length ends ≡ 32 → strips ≤ 32 → strips ≡ length (take strips ends)
 in-use ends strips l h = sym (length-take-le strips ends (omega arith))
+
+in-use-below : (c : Campaign) {s : ℕ} → length (c .«first_ends») ≡ 32 → c .«first_strips» ≤ 32 → s < c .«first_strips»
+    → s < length (firstEnds c)
+unfolding firstEnds
+in-use-below c l h g = omega (arith, in-use (c .«first_ends») (c .«first_strips») l h)
+
+in-use-below' : (c : Campaign) {t : ℕ} → length (c .«second_ends») ≡ 32 → c .«second_strips» ≤ 32
+    → t < c .«second_strips» → t < length (secondEnds c)
+unfolding secondEnds
+in-use-below' c l h g = omega (arith, in-use (c .«second_ends») (c .«second_strips») l h)
 
 pub tally-plan : (c : Campaign) (r : Settled) → length (c .«first_ends») ≡ 32 → length (c .«second_ends») ≡ 32 → SoundPlan c
     → Tally (take (c .«first_strips») (c .«first_ends»)) (take (c .«second_strips») (c .«second_ends»))
@@ -112,13 +125,52 @@ tally-plan c r f s p t =
 
 -- ---- the entry count
 
-total-is : (c : Campaign) (r : Settled) → Tally (firstEnds c) (secondEnds c) (settledJobs (c .marks) (c .«first_strips») (c .«second_strips»)) r → r .pairs ≡ settledTotal c
-unfolding settledTotal
-total-is c r t = t .pairs
-
 module _ (c : Campaign) (r : Settled) (t : Tally (firstEnds c) (secondEnds c) (settledJobs (c .marks) (c .«first_strips») (c .«second_strips»)) r) where
-  pub count-k : c .k ≤ r .pairs → eqb (c .entries) (c .k) ≡ eqb (c .entries) (min (c .k) (settledTotal c))
-  count-k h = let e : min (c .k) (settledTotal c) ≡ c .k = omega (arith, total-is c r t) in rw e
+  total-is : Cutting (firstEnds c) (secondEnds c) (λ a b. r .pairs ≡ settledTotal c a b)
+  unfolding settledTotal
+  total-is = t .pairs
 
-  pub count-total : r .pairs < c .k → eqb (c .entries) (r .pairs) ≡ eqb (c .entries) (min (c .k) (settledTotal c))
-  count-total h = let e : min (c .k) (settledTotal c) ≡ r .pairs = omega (arith, total-is c r t) in rw e
+  pub count-k : c .k ≤ r .pairs → Cutting (firstEnds c) (secondEnds c)
+      (λ a b. eqb (c .entries) (c .k) ≡ rightCount c a b)
+  unfolding rightCount
+  count-k h = record {
+    cut = λ a b f g. let e : min (c .k) (settledTotal c a b) ≡ c .k = omega (arith, total-is .cut a b f g) in rw e;
+  }
+
+  pub count-total : r .pairs < c .k → Cutting (firstEnds c) (secondEnds c)
+      (λ a b. eqb (c .entries) (r .pairs) ≡ rightCount c a b)
+  unfolding rightCount
+  count-total h = record {
+    cut = λ a b f g. let e : min (c .k) (settledTotal c a b) ≡ r .pairs = omega (arith, total-is .cut a b f g) in rw e;
+  }
+
+-- The right count is at most K.
+pub count-few : (c : Campaign) (n m : ℕ) → soundPlan c n m ≡ true → {q : Bool} → Cutting (firstEnds c) (secondEnds c)
+    (λ a b. q ≡ rightCount c a b)
+    → q ≡ true → c .entries ≤ c .k
+unfolding rightCount
+count-few c n m h w t =
+    let p = plan-parts c n m h in
+    let s = sampled n m (p .first) (p .second) w in
+    omega (arith, eqb-true (c .entries) (min (c .k) (settledTotal c (s .0) (s .1))) (sym (s .4) ∙ t))
+
+-- ---- a job's strips
+
+module _ {c : Campaign} {n m s t : ℕ} (w : JobAsked c n m (jobOf s t)) where
+  pub asked-parts : PlanParts c n m
+  asked-parts = plan-parts c n m (w .plan)
+
+  pub some-k : (0 < c .k) × (c .k ≤ 4_096)
+  some-k = k-limits (c .k) (asked-parts .k)
+
+  pub first-strip : length (c .«first_ends») ≡ 32 → (stripFrom (firstEnds c) s < stripTo (firstEnds c) s) ×
+      (stripTo (firstEnds c) s ≤ n)
+  first-strip long =
+      strip-inside (lawful-cut n (firstEnds c) (asked-parts .first)) s
+      (in-use-below c long (asked-parts .rows) (w .row))
+
+  pub second-strip : length (c .«second_ends») ≡ 32 → (stripFrom (secondEnds c) t < stripTo (secondEnds c) t) ×
+      (stripTo (secondEnds c) t ≤ m)
+  second-strip long =
+      strip-inside (lawful-cut m (secondEnds c) (asked-parts .second)) t
+      (in-use-below' c long (asked-parts .cols) (w .column))

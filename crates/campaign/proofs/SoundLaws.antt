@@ -1,57 +1,63 @@
 -- What a campaign that is not refused is.
-use mathlib.Core.Path.{_≡_, refl, sym, ap, ap₂, _∙_}
-use mathlib.Core.Bool.{Bool, true, false, not, cond, _&&_}
+use mathlib.Core.Path.{_≡_, sym, _∙_}
+use mathlib.Core.Bool.{true, not, cond, _&&_}
 use Prim.Native.Nat.{ℕ, min, _≤_}
 use native.Mathlib.Omega.{arith}
 use lib.Dec.{eqb}
 use lib.ListN.{length}
-use borrow.Author.Tests.{eqb-true, not-false}
+use borrow.Author.Tests.{eqb-true}
 use Rattle.order.specs.Order.{ascending}
 use Rattle.order.specs.Lists.{all}
 use Rattle.order.specs.Sorted.{Sorted}
-use Rattle.order.proofs.Sorted.{ascending-ascends, ascends-sorted, best-sorted}
+use Rattle.order.proofs.Sorted.{ascending-ascends, ascends-sorted}
 use Rattle.site.specs.Told.{orElse}
 use Rattle.site.specs.SiteList.{Columns, sites}
-use Rattle.site.specs.Refusal.{listsRefusal}
+use Rattle.site.specs.Refusal.{listRefusal, listsRefusal}
 use Rattle.site.proofs.Cases.{and-first, and-second}
-use Rattle.site.proofs.Told.{orElse-first, orElse-second, no-fault}
-use Rattle.entry.specs.Entry.{rankBefore, bestK}
+use Rattle.site.proofs.Told.{orElse-first, orElse-second, fault-none}
+use Rattle.entry.specs.Entry.{rankBefore}
 use Rattle.entry.specs.Results.{Results, entriesOf, roomFor}
 use Rattle.entry.specs.Offered.{Ready}
 use Rattle.entry.proofs.Rank.{rank-order}
 use Rattle.entry.proofs.Columns.{length-entries}
 use Rattle.campaign.specs.declared.Campaign.{Campaign}
-use Rattle.campaign.specs.Keeper.{soundEntry, settledTotal, sound, campaignRefusal}
-use Rattle.campaign.specs.Kept.{Accepted, Room, SoundPlan, soundPlan, entriesSound}
-use Rattle.campaign.proofs.ListLaws.{lawful-list}
-use Rattle.campaign.proofs.PlanTests.{PlanParts, plan-parts, sound-plan}
-use Rattle.campaign.proofs.SoundTests.{accepted-lists, steps}
+use Rattle.campaign.specs.Keeper.{soundEntry, settledTotal, rightCount, sound, campaignRefusal}
+use Rattle.campaign.specs.Kept.{SoundPlan, soundPlan, entriesSound}
+use Rattle.site.proofs.Accepted.{accepted-level, accepted-few, both-accepted}
+use Rattle.campaign.proofs.PlanTests.{sound-plan}
+use Rattle.campaign.proofs.SoundTests.{steps}
 
 -- The lists, the plan, room for the entries, and the entries in rank order.
 pub record Kept (c : Campaign) (a b : Columns) (r : Results) : Type 0 where
-  pub lists : Accepted a b
+  pub lists : (listRefusal a ≡ 0) × (listRefusal b ≡ 0)
   pub plan : soundPlan c (length (a .x)) (length (b .x)) ≡ true
   pub room : roomFor (c .k) r ≡ true
   pub most : c .entries ≤ c .k
   pub order : ascending rankBefore (entriesOf (c .entries) r) ≡ true
 
 module _ (c : Campaign) (a b : Columns) (r : Results) where
-  kept-by : Accepted a b → sound c (sites a) (sites b) r ≡ true → Kept c a b r
-  unfolding entriesSound
+  kept-by : (listRefusal a ≡ 0) × (listRefusal b ≡ 0) → sound c (sites a) (sites b) r ≡ true → Kept c a b r
+  unfolding entriesSound rightCount
   kept-by ok h =
       let p = soundPlan c (length (a .x)) (length (b .x)) in
       let q = roomFor (c .k) r in
-      let n = eqb (c .entries) (min (c .k) (settledTotal c)) in
+      let n = eqb (c .entries) (min (c .k) (settledTotal c (sites a) (sites b))) in
       let o = ascending rankBefore (entriesOf (c .entries) r) in
       let e = all (soundEntry c (sites a) (sites b)) (entriesOf (c .entries) r) in
-      let t : (p && (q && (n && (o && e)))) ≡ true = sym (steps c a b r ok) ∙ h in
+      let t : (p && (q && (n && (o && e)))) ≡ true =
+      sym (steps c a b r (accepted-level a (ok .0)) (accepted-level b (ok .1))) ∙ h in
       let u = and-second p (q && (n && (o && e))) t in
       let v = and-second q (n && (o && e)) u in
       record {
         lists = ok;
         plan = and-first p (q && (n && (o && e))) t;
         room = and-first q (n && (o && e)) u;
-        most = omega (arith, eqb-true (c .entries) (min (c .k) (settledTotal c)) (and-first n (o && e) v));
+        most =
+            omega (
+              arith,
+              eqb-true (c .entries) (min (c .k) (settledTotal c (sites a) (sites b)))
+                  (and-first n (o && e) v),
+            );
         order = and-first o e (and-second n (o && e) v);
       }
 
@@ -59,15 +65,14 @@ module _ (c : Campaign) (a b : Columns) (r : Results) where
   unfolding campaignRefusal
   kept is z =
       let e : orElse (listsRefusal a b) (cond (not (sound c (sites a) (sites b) r)) 7 0) ≡ 0 = sym is ∙ z in
-      kept-by (accepted-lists a b refl (orElse-first (listsRefusal a b) _ e)) (not-false _ (no-fault _ 6 (orElse-second (listsRefusal a b) _ e)))
+      kept-by (both-accepted a b (orElse-first (listsRefusal a b) _ e))
+      (fault-none _ 6 (orElse-second (listsRefusal a b) _ e))
 
   module _ (w : Kept c a b r) where
-    pub kept-parts : PlanParts c (length (a .x)) (length (b .x))
-    kept-parts = plan-parts c (length (a .x)) (length (b .x)) (w .plan)
-
     pub kept-plan : SoundPlan c
     kept-plan =
-        sound-plan c (length (a .x)) (length (b .x)) (lawful-list a (w .lists .first) .few) (lawful-list b (w .lists .second) .few) (w .plan)
+        sound-plan c (length (a .x)) (length (b .x)) (accepted-few a (w .lists .0)) (accepted-few b (w .lists .1))
+        (w .plan)
 
     pub kept-sorted : Sorted rankBefore (entriesOf (c .entries) r)
     kept-sorted = ascends-sorted rank-order (entriesOf (c .entries) r) (ascending-ascends rank-order (entriesOf (c .entries) r) (w .order))

@@ -1,85 +1,132 @@
 -- Counting settled jobs and their pairs.
 use mathlib.Core.Path.{_≡_, refl, sym, ap, _∙_}
-use mathlib.Core.Bool.{Bool, true, false}
+use mathlib.Core.Bool.{true, false}
 use mathlib.Core.List.{List, [], _∷_, _++_, map}
 use Prim.Native.Nat.{ℕ, zero, suc, _+_, _*_, _-_, _≤_, _<_}
 use native.Mathlib.Nat.{mul-le-mul}
 use native.Mathlib.Omega.{arith}
-use lib.Dec.{eqb}
-use lib.ListN.{length, getD, length-append, length-map}
-use borrow.Author.Tests.{eq-eqb, ne-eqb}
+use lib.ListN.{length, drop, length-append, length-map, length-take, length-drop}
 use Rattle.order.specs.Lists.{keep}
 use Rattle.order.proofs.Lists.{keep-yes, keep-no, keep-nil, keep-append, length-keep}
-use Rattle.sweep.specs.Strip.{product}
-use Rattle.sweep.proofs.ProductLaws.{product-nil, product-cons}
+use Rattle.site.specs.declared.Site.{Site}
+use Rattle.entry.specs.declared.Entry.{Entry}
+use Rattle.sweep.specs.Strip.{whole, strip, pair, product, pairs}
+use Rattle.sweep.proofs.ProductLaws.{product-nil, product-cons, length-product}
+use Rattle.sweep.proofs.PlaceLaws.{length-whole}
 use Rattle.campaign.specs.declared.Settled.{Settled}
-use Rattle.campaign.specs.Grid.{stripFrom, stripTo, Job, jobOf, countFrom, jobs, markOf, settled, settledJobs, pairTotal}
-use Rattle.campaign.specs.Tally.{Cuts, Tally}
-use Rattle.campaign.proofs.EndLaws.{cut-low}
+use Rattle.campaign.specs.Grid.{lastEnd, stripFrom, stripTo, stripAt, Job, jobOf, countFrom, jobs, settled}
+use Rattle.campaign.specs.Grid.{settledJobs, jobPairs, jobsPairs}
+use Rattle.campaign.specs.Tally.{Cuts, Cutting, Tally}
+use Rattle.campaign.proofs.CutLaws.{lawful-cut}
+use Rattle.campaign.proofs.EndLaws.{cut-low, sampled}
+use Rattle.campaign.proofs.GridLaws.{InGrid, jobs-pairs-append, pairs-one, length-job}
 
--- The pairs of a job.
-abbrev pub jobSize : List ℕ → List ℕ → Job → ℕ
-jobSize ends ends' j =
-    (stripTo ends (j .first) - stripFrom ends (j .first)) * (stripTo ends' (j .second) - stripFrom ends' (j .second))
+-- No strip has more sites than its list.
+strip-few : (ends : List ℕ) (l : List Site) (s : ℕ) → length (stripAt ends l s) ≤ length l
+unfolding stripAt strip
+strip-few ends l s =
+    omega (
+      arith,
+      length-take (stripTo ends s - stripFrom ends s) (drop (stripFrom ends s) (whole l)),
+      length-drop
+          (stripFrom ends s) (whole l),
+      length-whole l,
+    )
+
+-- How many sites a strip has.
+abbrev pub stripWidth : List ℕ → ℕ → ℕ
+stripWidth ends s = stripTo ends s - stripFrom ends s
 
 module _ (ends ends' : List ℕ) where
-  total-nil : pairTotal ends ends' [] ≡ 0
-  unfolding pairTotal
-  total-nil = refl
-
-  total-cons : (j : Job) (l : List Job) → pairTotal ends ends' (j ∷ l) ≡ jobSize ends ends' j + pairTotal ends ends' l
-  unfolding pairTotal
-  total-cons j l = refl
-
-  total-append : (l m : List Job) → pairTotal ends ends' (l ++ m) ≡ pairTotal ends ends' l + pairTotal ends ends' m
-  total-append [] m = omega (arith, total-nil)
-  total-append (j ∷ l) m = omega (arith, total-cons j (l ++ m), total-cons j l, total-append l m)
-
   -- ---- jobs counted so far, and jobs left
 
   -- `rest` of the jobs of `l` are still to count.
   pub record Left (l rest : List Job) (count pairs : ℕ) : Type 0 where
     pub number : count + length rest ≡ length l
-    pub total : pairs + pairTotal ends ends' rest ≡ pairTotal ends ends' l
+    pub total :
+        Cutting ends ends' (λ a b. pairs + length (jobsPairs ends ends' a b rest) ≡ length (jobsPairs ends ends' a b l))
 
   pub left-all : (l : List Job) → Left l l 0 0
-  left-all l = record { number = omega arith; total = omega arith }
+  left-all l = record { number = omega arith; total = record { cut = λ a b h g. omega arith } }
 
-  pub left-many : (l found rest : List Job) {part : List Job} (n p : ℕ) {count pairs : ℕ} → part ≡ found ++ rest → n ≡ length found → p ≡ pairTotal ends ends' found
-      → Left l part count pairs → Left l rest (count + n) (pairs + p)
-  left-many l found rest {part} n p {count} {pairs} e en ep w =
+  pub left-many : (l found rest : List Job) {part : List Job} {r : Settled} {count pairs : ℕ} → part ≡ found ++ rest
+      → Tally ends ends' found r
+      → Left l part count pairs → Left l rest (count + r .jobs) (pairs + r .pairs)
+  left-many l found rest {part} e t w =
       let lengths : length part ≡ length found + length rest = rw e (length-append found rest) in
-      let totals : pairTotal ends ends' part ≡ pairTotal ends ends' found + pairTotal ends ends' rest = rw e (total-append found rest) in
-      record { number = omega (arith, w .number); total = omega (arith, w .total) }
+      record {
+        number = omega (arith, w .number, t .jobs);
+        total = record {
+          cut = λ a b h g.
+              let split : length (jobsPairs ends ends' a b part) ≡ length (jobsPairs ends ends' a b found) + length
+              (jobsPairs ends ends' a b rest) =
+              rw (e, jobs-pairs-append ends ends' a b found rest)
+              (length-append (jobsPairs ends ends' a b found) (jobsPairs ends ends' a b rest)) in
+              omega (arith, w .total .cut a b h g, t .pairs .cut a b h g);
+        };
+      }
 
-  pub left-one : (l rest : List Job) (j : Job) {part : List Job} {p count pairs : ℕ} → part ≡ j ∷ rest → p ≡ jobSize ends ends' j
-      → Left l part count pairs → Left l rest (count + 1) (pairs + p)
-  left-one l rest j {part} {p} {count} {pairs} e ep w =
-      let lengths : length part ≡ suc (length rest) = rw e refl in
-      let totals : pairTotal ends ends' part ≡ jobSize ends ends' j + pairTotal ends ends' rest = rw e (total-cons j rest) in
-      record { number = omega (arith, w .number); total = omega (arith, w .total) }
+  -- The pairs of one job: as many as the product of the strips' widths.
+  one-job : (j : Job) {p : ℕ} → InGrid (length ends) (length ends') j → p ≡ stripWidth ends
+      (j .first) * stripWidth ends' (j .second)
+      → Tally ends ends' (j ∷ []) (record { jobs = 1; pairs = p })
+  one-job j g e = record {
+    jobs = refl;
+    pairs = record {
+      cut = λ a b h i.
+          e ∙ sym (ap (λ (l : List Entry). length l) (pairs-one ends ends' a b j)
+          ∙ length-job ends ends' a b (lawful-cut (length a) ends h) (lawful-cut (length b) ends' i) j g);
+    };
+  }
+
+  pub left-one : (l rest : List Job) (j : Job) {part : List Job} {p count pairs : ℕ} → InGrid (length ends)
+      (length ends') j → part ≡ j ∷ rest
+      → p ≡ stripWidth ends (j .first) * stripWidth ends' (j .second) → Left l part count pairs → Left l rest
+      (count + 1) (pairs + p)
+  left-one l rest j g e is w = left-many l (j ∷ []) rest e (one-job j g is) w
 
   pub left-none : (l rest : List Job) {part : List Job} {count pairs : ℕ} → part ≡ rest → Left l part count pairs → Left l rest count pairs
   left-none l rest e w = rw (← e) w
 
   pub left-end : (l : List Job) {part : List Job} (r : Settled) → part ≡ [] → Left l part (r .jobs) (r .pairs) → Tally ends ends' l r
+  unfolding jobsPairs
   left-end l {part} r e w =
       let lengths : length part ≡ 0 = rw e refl in
-      let totals : pairTotal ends ends' part ≡ 0 = rw e total-nil in
-      record { jobs = omega (arith, w .number); pairs = omega (arith, w .total) }
+      record {
+        jobs = omega (arith, w .number);
+        pairs = record {
+          cut = λ a b h g.
+              let none : length (jobsPairs ends ends' a b part) ≡ 0 = rw e refl in
+              omega (arith, w .total .cut a b h g);
+        };
+      }
 
   -- ---- how large it can be
 
-  module _ (w : Cuts ends) (w' : Cuts ends') where
-    pub size-low : (j : Job) → jobSize ends ends' j ≤ 4_294_836_225
-    size-low j =
-        let a : stripTo ends (j .first) - stripFrom ends (j .first) ≤ 65_535 = omega (arith, cut-low ends w (j .first)) in
-        let b : stripTo ends' (j .second) - stripFrom ends' (j .second) ≤ 65_535 = omega (arith, cut-low ends' w' (j .second)) in
-        mul-le-mul a b
+  -- A product of two strips' widths.
+  pub widths-low : Cuts ends → Cuts ends' → (s t : ℕ) → stripWidth ends s * stripWidth ends' t ≤ 4_294_836_225
+  widths-low w w' s t =
+      let a : stripWidth ends s ≤ 65_535 = omega (arith, cut-low w s) in
+      let b : stripWidth ends' t ≤ 65_535 = omega (arith, cut-low w' t) in
+      mul-le-mul a b
 
-    pub total-low : (l : List Job) → pairTotal ends ends' l ≤ 4_294_836_225 * length l
-    total-low [] = omega (arith, total-nil)
-    total-low (j ∷ l) = omega (arith, total-cons j l, size-low j, total-low l)
+  module _ (a b : List Site) (few : length a ≤ 65_535) (few' : length b ≤ 65_535) where
+    pairs-low : (l : List Job) → length (jobsPairs ends ends' a b l) ≤ 4_294_836_225 * length l
+    unfolding jobsPairs jobPairs pairs
+    pairs-low [] = omega arith
+    pairs-low (j ∷ l) =
+        let p = stripAt ends a (j .first) in
+        let q = stripAt ends' b (j .second) in
+        let n : length p ≤ 65_535 = omega (arith, strip-few ends a (j .first)) in
+        let m : length q ≤ 65_535 = omega (arith, strip-few ends' b (j .second)) in
+        let one : length p * length q ≤ 4_294_836_225 = mul-le-mul n m in
+        omega (
+          arith,
+          length-append (product pair p q)
+              (jobsPairs ends ends' a b l),
+          length-product pair p q,
+          pairs-low l,
+        )
 
 -- ---- the jobs of a row
 
@@ -115,21 +162,16 @@ pub row-low : (marks : List ℕ) (a n : ℕ) → length (keep (settled marks) (m
 row-low marks a n =
     omega (arith, length-keep (settled marks) (map (jobOf a) (countFrom 0 n)), length-map (countFrom 0 n) (jobOf a), count-length 0 n)
 
-settled-is : (marks : List ℕ) (a b : ℕ) → settled marks (jobOf a b) ≡ eqb (getD marks (32 * a + b) 0) 1
-unfolding settled markOf
-settled-is marks a b = refl
-
 module _ (marks : List ℕ) (a n b : ℕ) (inside : b < n) where
-  pub row-settled : getD marks (32 * a + b) 0 ≡ 1 → rowFrom marks a n b ≡ jobOf a b ∷ rowFrom marks a n (b + 1)
+  pub row-settled : settled marks (jobOf a b) ≡ true → rowFrom marks a n b ≡ jobOf a b ∷ rowFrom marks a n (b + 1)
   unfolding rowFrom
-  row-settled h =
-      let s : settled marks (jobOf a b) ≡ true = settled-is marks a b ∙ eq-eqb (getD marks (32 * a + b) 0) 1 h in
-      rw (count-on b n inside) (keep-yes (settled marks) (jobOf a b) (map (jobOf a) (countFrom (b + 1) (n - (b + 1)))) s)
+  row-settled s =
+      rw (count-on b n inside) (keep-yes (settled marks) (jobOf a b)
+      (map (jobOf a) (countFrom (b + 1) (n - (b + 1)))) s)
 
-  pub row-open : (getD marks (32 * a + b) 0 ≡ 1 → ⊥) → rowFrom marks a n b ≡ rowFrom marks a n (b + 1)
+  pub row-open : settled marks (jobOf a b) ≡ false → rowFrom marks a n b ≡ rowFrom marks a n (b + 1)
   unfolding rowFrom
-  row-open h =
-      let s : settled marks (jobOf a b) ≡ false = settled-is marks a b ∙ ne-eqb (getD marks (32 * a + b) 0) 1 h in
+  row-open s =
       rw (count-on b n inside) (keep-no (settled marks) (jobOf a b) (map (jobOf a) (countFrom (b + 1) (n - (b + 1)))) s)
 
 -- ---- the rows
@@ -174,5 +216,8 @@ pub row-small : (ends ends' marks : List ℕ) (a : ℕ) (r : Settled) → Cuts e
     → Tally ends ends' (keep (settled marks) (map (jobOf a) (countFrom 0 (length ends')))) r
     → (r .jobs ≤ 32) × (r .pairs ≤ 137_434_759_200)
 row-small ends ends' marks a r w w' few t =
+    let l = keep (settled marks) (map (jobOf a) (countFrom 0 (length ends'))) in
     let low = row-low marks a (length ends') in
-    (omega (arith, t .jobs), omega (arith, t .pairs, total-low ends ends' w w' (keep (settled marks) (map (jobOf a) (countFrom 0 (length ends'))))))
+    let s = sampled (lastEnd ends) (lastEnd ends') (w .lawful) (w' .lawful) (t .pairs) in
+    let most = pairs-low ends ends' (s .0) (s .1) (omega (arith, s .2, w .size)) (omega (arith, s .3, w' .size)) l in
+    (omega (arith, t .jobs), omega (arith, t .jobs, s .4))

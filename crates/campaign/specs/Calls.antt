@@ -1,21 +1,19 @@
 -- What opening, a job and status answer, and what the campaign and the result columns then hold.
 use mathlib.Core.Bool.{Bool, true, false, not, cond, _&&_}
-use mathlib.Core.List.{List, _++_}
-use Prim.Native.Nat.{ℕ, zero, suc, _*_, _-_}
+use mathlib.Core.List.{List, [], _++_}
+use Prim.Native.Nat.{ℕ, _*_, _-_}
 use lib.Dec.{ltb}
-use lib.ListN.{length, set, replicate}
+use lib.ListN.{length, replicate}
 use Rattle.site.specs.declared.Site.{Site}
 use Rattle.site.specs.Told.{Told, refused, answered, tell, unlessRefused, refuseIf, orElse}
-use Rattle.site.specs.Site.{square}
 use Rattle.site.specs.SiteList.{Columns, sites}
 use Rattle.site.specs.Refusal.{listsRefusal}
 use Rattle.entry.specs.declared.Entry.{Entry}
-use Rattle.entry.specs.Entry.{bestK}
+use Rattle.entry.specs.Entry.{bestK, lawfulK}
 use Rattle.entry.specs.Results.{Results, entriesOf, holding, roomFor}
 use Rattle.sweep.specs.declared.Way.{Way}
-use Rattle.sweep.specs.Scan.{State, beyond}
+use Rattle.sweep.specs.Scan.{beyond}
 use Rattle.sweep.specs.Sweep.{sweep}
-use Rattle.entry.specs.Entry.{lawfulK}
 use Rattle.campaign.specs.declared.Campaign.{Campaign}
 use Rattle.campaign.specs.declared.Opened.{Opened}
 use Rattle.campaign.specs.declared.Outcome.{Outcome}
@@ -23,7 +21,7 @@ use Rattle.campaign.specs.declared.Outcome.the-variants as outcome
 use Rattle.campaign.specs.declared.JobDone.{JobDone}
 use Rattle.campaign.specs.declared.Status.{Status}
 use Rattle.campaign.specs.declared.Status.the-variants as status
-use Rattle.campaign.specs.Grid.{lawfulEnds, stripAt, Job, jobOf, markOf, settled, settledJobs, jobPairs, stripGap}
+use Rattle.campaign.specs.Grid.{lawfulEnds, stripAt, Job, settled, settle, settledJobs, jobPairs, squaredStripGap}
 use Rattle.campaign.specs.Keeper.{firstEnds, secondEnds, campaignRefusal}
 
 -- "Opening tests for 1 to 6."
@@ -53,16 +51,7 @@ newCampaign k ends ends' =
 
 -- The campaign field of a refused opening: all 0.
 unfoldable pub noCampaign : Campaign
-noCampaign =
-    record {
-      k = 0;
-      entries = 0;
-      «first_strips» = 0;
-      «second_strips» = 0;
-      «first_ends» = replicate 32 0;
-      «second_ends» = replicate 32 0;
-      marks = replicate 1024 0;
-    }
+noCampaign = newCampaign 0 [] []
 
 -- "opening, the campaign with entry count 0, no column touched", or the refusal.
 unfoldable pub openTold : Columns → Columns → ℕ → List ℕ → List ℕ → Results → Told Campaign
@@ -78,7 +67,7 @@ jobRefusal c a b r j =
 -- "A job is skipped exactly when the list has K entries and the gap squared is greater than the last squared distance."
 unfoldable pub skips : Campaign → List Site → List Site → List Entry → Job → Bool
 skips c a b l j =
-    beyond (c .k) l (square (stripGap (stripAt (firstEnds c) a (j .first)) (stripAt (secondEnds c) b (j .second))))
+    beyond (c .k) l (squaredStripGap (stripAt (firstEnds c) a (j .first)) (stripAt (secondEnds c) b (j .second)))
 
 -- "the list becomes the first K of its old entries and the job's pairs", swept or skipped.
 unfoldable pub jobEntries : Campaign → List Site → List Site → List Entry → Job → List Entry
@@ -94,7 +83,7 @@ afterJob c count j =
       «second_strips» = c .«second_strips»;
       «first_ends» = c .«first_ends»;
       «second_ends» = c .«second_ends»;
-      marks = set (c .marks) (markOf j) 1;
+      marks = settle (c .marks) j;
     }
 
 -- "a job, the campaign, whether it was swept or skipped, looks and distances (both 0 when skipped)".

@@ -1,23 +1,21 @@
 -- Cut ends, strips, jobs and marks.
 use mathlib.Core.Bool.{Bool, true, cond, _&&_, _||_}
-use mathlib.Core.List.{List, [], _∷_, _++_}
-use Prim.Native.Nat.{ℕ, zero, suc, _+_, _*_, _-_, _/_, _%_}
+use mathlib.Core.List.{List, [], _∷_, _++_, map}
+use Prim.Native.Nat.{ℕ, zero, suc, _+_, _*_, _/_, _%_}
 use lib.Dec.{leb, ltb, eqb}
 use lib.IntN.{ℤ, pos}
 use lib.Signed.{ltZ}
-use lib.ListN.{length, getD}
+use lib.ListN.{length, getD, set}
 use Rattle.order.specs.Order.{ascending}
-use Rattle.order.specs.Lists.{keep, sum}
+use Rattle.order.specs.Lists.{keep, last}
 use Rattle.site.specs.declared.Site.{Site}
-use Rattle.site.specs.Site.{gap}
+use Rattle.site.specs.Site.{gap, square}
 use Rattle.entry.specs.declared.Entry.{Entry}
 use Rattle.sweep.specs.Strip.{Placed, strip, product, pairs}
 
 -- The last of the ends, or 0 where there are none.
 unfoldable pub lastEnd : List ℕ → ℕ
-lastEnd [] = 0
-lastEnd (e ∷ []) = e
-lastEnd (e ∷ (f ∷ l)) = lastEnd (f ∷ l)
+lastEnd ends = last 0 ends
 
 -- "at most 32 per list, strictly ascending, each above 0, the last equal to the list's length; an empty list has none."
 unfoldable pub lawfulEnds : ℕ → List ℕ → Bool
@@ -62,14 +60,21 @@ markOf j = 32 * j .first + j .second
 unfoldable pub settled : List ℕ → Job → Bool
 settled marks j = eqb (getD marks (markOf j) 0) 1
 
+-- "Either way it becomes settled": the marks with a job's mark set.
+unfoldable pub settle : List ℕ → Job → List ℕ
+settle marks j = set marks (markOf j) 1
+
 unfoldable pub settledJobs : List ℕ → ℕ → ℕ → List Job
 settledJobs marks rows cols = keep (settled marks) (jobs rows cols)
 
--- "a mark other than 0 or 1, or a 1 outside the jobs": marks with neither fault, counted from mark `i`.
+-- "a mark other than 0 or 1, or a 1 outside the jobs": mark `i` with neither fault.
+unfoldable pub lawfulMark : ℕ → ℕ → ℕ → ℕ → Bool
+lawfulMark rows cols i m = eqb m 0 || (eqb m 1 && (ltb (i / 32) rows && ltb (i % 32) cols))
+
+-- Marks with neither fault, counted from mark `i`.
 unfoldable pub lawfulMarks : ℕ → ℕ → ℕ → List ℕ → Bool
 lawfulMarks rows cols i [] = true
-lawfulMarks rows cols i (m ∷ l) =
-    (eqb m 0 || (eqb m 1 && (ltb (i / 32) rows && ltb (i % 32) cols))) && lawfulMarks rows cols (suc i) l
+lawfulMarks rows cols i (m ∷ l) = lawfulMark rows cols i m && lawfulMarks rows cols (suc i) l
 
 -- "A job's pairs are all pairs with the first place in its first-list strip and the second in its second-list strip."
 unfoldable pub jobPairs : List ℕ → List ℕ → List Site → List Site → Job → List Entry
@@ -80,23 +85,13 @@ unfoldable pub jobsPairs : List ℕ → List ℕ → List Site → List Site →
 jobsPairs ends ends' a b [] = []
 jobsPairs ends ends' a b (j ∷ l) = jobPairs ends ends' a b j ++ jobsPairs ends ends' a b l
 
--- How many pairs some jobs have: the product of the strips' lengths, summed.
-unfoldable pub pairTotal : List ℕ → List ℕ → List Job → ℕ
-pairTotal ends ends' [] = 0
-pairTotal ends ends' (j ∷ l) =
-    (stripTo ends (j .first) - stripFrom ends (j .first))
-    * (stripTo ends' (j .second) - stripFrom ends' (j .second))
-    + pairTotal ends ends' l
-
 -- The x of a strip's first site, and of its last.
 unfoldable pub firstX : List Placed → ℤ
 firstX [] = pos 0
 firstX (p ∷ l) = p .site .x
 
 unfoldable pub lastX : List Placed → ℤ
-lastX [] = pos 0
-lastX (p ∷ []) = p .site .x
-lastX (p ∷ (q ∷ l)) = lastX (q ∷ l)
+lastX p = last (pos 0) (map (λ q. q .site .x) p)
 
 -- The difference of two ranges, 0 where they touch or overlap.
 unfoldable pub rangeGap : ℤ → ℤ → ℤ → ℤ → ℕ
@@ -105,3 +100,7 @@ rangeGap from to from' to' = cond (ltZ to from') (gap to from') (cond (ltZ to' f
 -- "The gap of two strips is the x-difference between them, 0 where their x ranges touch or overlap."
 unfoldable pub stripGap : List Placed → List Placed → ℕ
 stripGap p q = rangeGap (firstX p) (lastX p) (firstX q) (lastX q)
+
+-- "the gap squared" of two strips, which a skip compares with the last squared distance.
+unfoldable pub squaredStripGap : List Placed → List Placed → ℕ
+squaredStripGap p q = square (stripGap p q)

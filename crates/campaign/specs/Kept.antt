@@ -1,37 +1,28 @@
--- What the tests of a campaign's entries ask, and what they tell of the parts of a campaign.
+-- What the functions on a campaign ask, and what they tell of its parts.
 use mathlib.Core.Path.{_≡_}
 use mathlib.Core.Bool.{Bool, true, _&&_}
 use mathlib.Core.List.{List}
-use Prim.Native.Nat.{ℕ, _≤_}
-use lib.Dec.{ltb, eqb}
-use lib.ListN.{length}
+use Prim.Native.Nat.{ℕ, _≤_, _<_}
+use lib.IntN.{ℤ}
 use Rattle.order.specs.Order.{ascending}
 use Rattle.order.specs.Lists.{all}
 use Rattle.site.specs.declared.Site.{Site}
-use Rattle.site.specs.Site.{squaredDistance}
-use Rattle.site.specs.SiteList.{Columns}
-use Rattle.site.specs.Refusal.{listRefusal}
-use Rattle.entry.specs.declared.Entry.{Entry}
-use Rattle.entry.specs.Entry.{rankBefore}
+use Rattle.site.specs.SiteList.{Level, columns, sites}
+use Rattle.entry.specs.Entry.{rankBefore, lawfulK}
 use Rattle.entry.specs.Results.{Results, entriesOf, roomFor}
-use Rattle.entry.specs.Entry.{lawfulK}
 use Rattle.campaign.specs.declared.Campaign.{Campaign}
-use Rattle.campaign.specs.Grid.{stripHolding, jobOf, settled, lawfulMarks}
-use Rattle.campaign.specs.Keeper.{firstEnds, secondEnds, siteAt, soundEnds, soundEntry}
+use Rattle.campaign.specs.Grid.{Job, lawfulMarks}
+use Rattle.campaign.specs.Keeper.{firstEnds, secondEnds, soundEnds, soundEntry}
 use Rattle.campaign.specs.Tally.{Cuts}
 
--- Both lists are lawful.
-pub record Accepted (a b : Columns) : Type 0 where
-  pub first : listRefusal a ≡ 0
-  pub second : listRefusal b ≡ 0
+-- What holds of two lists with these coordinates, whatever the numbers of their sites.
+pub record Numbered (ax ay bx by : List ℤ) (holds : List Site → List Site → Type 0) : Type 0 where
+  pub numbered : (an bn : List ℕ) → Level (columns ax ay an) → Level (columns bx by bn)
+      → holds (sites (columns ax ay an)) (sites (columns bx by bn))
 
--- An entry with no fault, by the marks and the ends in use.
-unfoldable pub fits : List ℕ → List ℕ → List ℕ → List Site → List Site → Entry → Bool
-fits marks ends ends' a b e =
-    ltb (e .first) (length a)
-    && (ltb (e .second) (length b)
-    && (eqb (e .distance) (squaredDistance (siteAt a (e .first)) (siteAt b (e .second)))
-    && settled marks (jobOf (stripHolding ends (e .first)) (stripHolding ends' (e .second)))))
+-- What holds of two lists with these x, whatever else their sites have.
+pub record Across (ax bx : List ℤ) (holds : List Site → List Site → Type 0) : Type 0 where
+  pub across : (ay by : List ℤ) → Numbered ax ay bx by holds
 
 -- K, the ends and the marks of a campaign have no fault.
 unfoldable pub soundPlan : Campaign → ℕ → ℕ → Bool
@@ -48,6 +39,12 @@ pub record SoundPlan (c : Campaign) : Type 0 where
   pub cols : c .«second_strips» ≤ 32
   pub first : Cuts (firstEnds c)
   pub second : Cuts (secondEnds c)
+
+-- A job of a campaign whose plan has no fault for lists of `n` and `m` sites.
+pub record JobAsked (c : Campaign) (n m : ℕ) (j : Job) : Type 0 where
+  pub plan : soundPlan c n m ≡ true
+  pub row : j .first < c .«first_strips»
+  pub column : j .second < c .«second_strips»
 
 -- The entries of a campaign stand in order and have no fault.
 unfoldable pub entriesSound : Campaign → List Site → List Site → Results → Bool

@@ -144,27 +144,13 @@ pub fn job(
             outcome: Outcome::Refused(refused),
         };
     }
-    if jobs::skips(c, ax, ay, an, bx, by, bn, distance, first, second, s, t) {
+    if jobs::skips(c, ax, bx, distance, s, t) {
         return JobDone {
             campaign: jobs::settle(c, s, t, c.entries),
             outcome: Outcome::Skipped,
         };
     }
-    let swept = jobs::swept(
-        c,
-        ax,
-        ay,
-        an,
-        bx,
-        by,
-        bn,
-        distance,
-        first,
-        second,
-        s,
-        t,
-        way,
-    );
+    let swept = jobs::swept(c, ax, ay, bx, by, distance, first, second, s, t, way);
     let looks = swept.looks;
     let distances = swept.distances;
     JobDone {

@@ -1,10 +1,13 @@
 // Cut ends of a list: whether they are lawful, the strip that holds a place, and the slots that keep them.
+use super::Strip;
 ghost use mathlib.Core.Path.{_≡_};
+ghost use mathlib.Core.Bool.{_&&_};
 ghost use Prim.Native.Nat.{_-_, _≤_, _<_};
-ghost use lib.ListN.{length};
+ghost use lib.Dec.{leb};
+ghost use lib.ListN.{length, take};
 ghost use Rattle.campaign.specs.Grid.{lawfulEnds, stripFrom, stripTo, stripHolding};
 ghost use Rattle.campaign.specs.Calls.{slots};
-ghost use Rattle.campaign.specs.Tally.{Cuts};
+ghost use Rattle.campaign.specs.Tally.{Cuts, StripOf};
 
 // Whether cut ends are lawful for a list of `n` sites.
 pub fn lawful(n: usize, ends: &[u32]) -> bool
@@ -23,6 +26,17 @@ pub fn lawful(n: usize, ends: &[u32]) -> bool
         i += 1;
     }
     last as usize == n
+}
+
+// Whether at most 32 slots are in use, and the ends in them are lawful.
+pub fn lawful_slots(n: usize, slots: [u32; 32], used: u32) -> bool
+    ensures { λ r. ⌜ r ≡ (leb used 32 && lawfulEnds n (take used slots)) ⌝ }
+{
+    let count = used as usize;
+    if 32 < count {
+        return false;
+    }
+    lawful(n, &slots[..count])
 }
 
 // The strip that holds a place: how many ends are at most the place.
@@ -68,6 +82,20 @@ pub fn to(ends: &[u32], s: usize) -> u32
     ensures { λ r. ⌜ r ≡ stripTo (now (ends .entry)) s ⌝ }
 {
     ends[s]
+}
+
+// Where a strip starts and ends, by the slots in use.
+pub fn strip(slots: [u32; 32], used: u32, s: u32) -> Strip
+    requires { ⌜ (used ≤ 32) × (s < used) ⌝ }
+    ensures { λ r. ⌜ StripOf (take used slots) s r ⌝ }
+{
+    let n = used as usize;
+    let from = from(&slots[..n], s as usize);
+    let to = to(&slots[..n], s as usize);
+    Strip {
+        from: from as usize,
+        to: to as usize,
+    }
 }
 
 // How many sites a strip has.

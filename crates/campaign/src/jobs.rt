@@ -1,18 +1,24 @@
 // One job: its refusal, whether it is skipped, its sweep, its mark.
 use super::Campaign;
+use super::ends;
 use super::keeper;
 use super::marks;
 use super::strips;
 use sweep::Swept;
 use sweep::Way;
 ghost use mathlib.Core.Path.{_≡_};
-ghost use Prim.Native.Nat.{_<_};
-ghost use Rattle.site.specs.SiteList.{columns, sites};
-ghost use Rattle.entry.specs.Results.{results, entriesOf};
+ghost use mathlib.Core.Bool.{true};
+ghost use mathlib.Core.List.{List};
+ghost use Prim.Native.Nat.{ℕ, _≤_, _<_};
+ghost use lib.ListN.{length};
+ghost use Rattle.site.specs.SiteList.{Coordinates, columns};
+ghost use Rattle.entry.specs.Offered.{Ready};
+ghost use Rattle.entry.specs.Results.{results, entriesOf, roomFor};
 ghost use Rattle.sweep.specs.Sweep.{sweep};
 ghost use Rattle.sweep.specs.Terms.{SweptTo};
 ghost use Rattle.campaign.specs.Grid.{stripAt, jobOf};
 ghost use Rattle.campaign.specs.Keeper.{firstEnds, secondEnds};
+ghost use Rattle.campaign.specs.Kept.{Numbered, Across, JobAsked};
 ghost use Rattle.campaign.specs.Calls.{jobRefusal, skips, afterJob};
 
 // The refusal of a job; 0 for none.
@@ -55,47 +61,23 @@ pub fn refusal(
 }
 
 // Whether a job is skipped: the list has K entries and the gap squared is greater than the last squared distance.
-pub fn skips(
-    c: Campaign,
-    ax: &[i32],
-    ay: &[i32],
-    an: &[u32],
-    bx: &[i32],
-    by: &[i32],
-    bn: &[u32],
-    distance: &[u64],
-    first: &[u32],
-    second: &[u32],
-    s: u32,
-    t: u32,
-) -> bool
-    requires { ⌜
-        jobRefusal c (columns (now ax) (now ay) (now an)) (columns (now bx) (now by) (now bn))
-        (results (now distance) (now first) (now second)) (jobOf s t) ≡ 0
-        ⌝ }
+pub fn skips(c: Campaign, ax: &[i32], bx: &[i32], distance: &[u64], s: u32, t: u32) -> bool
+    requires { ⌜ JobAsked c (length (now ax)) (length (now bx)) (jobOf s t) ⌝ }
+    requires { ⌜ (c .entries ≤ c .k) × (c .k ≤ length (now distance)) ⌝ }
     ensures { λ r. ⌜
-        r ≡ skips c (sites (columns (now (ax .entry)) (now (ay .entry)) (now (an .entry))))
-        (sites (columns (now (bx .entry)) (now (by .entry)) (now (bn .entry))))
-        (entriesOf (c .entries) (results (now (distance .entry)) (now (first .entry)) (now (second .entry))))
-        (jobOf s t)
+        Across (now (ax .entry)) (now (bx .entry)) (λ a b. (first second : List ℕ)
+        → roomFor (c .k) (results (now (distance .entry)) first second) ≡ true
+        → r ≡ skips c a b (entriesOf (c .entries) (results (now (distance .entry)) first second)) (jobOf s t))
         ⌝ }
 {
     if c.entries != c.k {
         return false;
     }
-    let b = strips::bounds(c, s as usize, t as usize);
-    let gap = strips::squared_gap(
-        ax,
-        ay,
-        an,
-        bx,
-        by,
-        bn,
-        b.from,
-        b.to,
-        b.other_from,
-        b.other_to,
-    );
+    let first_ends = c.first_ends;
+    let second_ends = c.second_ends;
+    let p = ends::strip(first_ends, c.first_strips, s);
+    let q = ends::strip(second_ends, c.second_strips, t);
+    let gap = strips::squared_gap(ax, bx, p, q);
     let last = c.entries as usize - 1;
     distance[last] < gap
 }
@@ -105,10 +87,8 @@ pub fn swept(
     c: Campaign,
     ax: &[i32],
     ay: &[i32],
-    an: &[u32],
     bx: &[i32],
     by: &[i32],
-    bn: &[u32],
     distance: &mut [u64],
     first: &mut [u32],
     second: &mut [u32],
@@ -116,20 +96,21 @@ pub fn swept(
     t: u32,
     way: Way,
 ) -> Swept
-    requires { ⌜
-        jobRefusal c (columns (now ax) (now ay) (now an)) (columns (now bx) (now by) (now bn))
-        (results (now distance) (now first) (now second)) (jobOf s t) ≡ 0
-        ⌝ }
+    requires { ⌜ Coordinates (now ax) (now ay) × Coordinates (now bx) (now by) ⌝ }
+    requires { ⌜ JobAsked c (length (now ax)) (length (now bx)) (jobOf s t) ⌝ }
+    requires { ⌜ Ready (c .k) (c .entries) (results (now distance) (now first) (now second)) ⌝ }
     ensures { λ r. ⌜
-        SweptTo (sweep way (c .k)
-        (stripAt (firstEnds c) (sites (columns (now (ax .entry)) (now (ay .entry)) (now (an .entry)))) s)
-        (stripAt (secondEnds c) (sites (columns (now (bx .entry)) (now (by .entry)) (now (bn .entry)))) t)
+        Numbered (now (ax .entry)) (now (ay .entry)) (now (bx .entry)) (now (by .entry)) (λ a b.
+        SweptTo (sweep way (c .k) (stripAt (firstEnds c) a s) (stripAt (secondEnds c) b t)
         (entriesOf (c .entries) (results (now (distance .entry)) (now (first .entry)) (now (second .entry)))))
         (results (now (distance .entry)) (now (first .entry)) (now (second .entry)))
-        (results (now (distance .exit)) (now (first .exit)) (now (second .exit))) r
+        (results (now (distance .exit)) (now (first .exit)) (now (second .exit))) r)
         ⌝ }
 {
-    let p = strips::bounds(c, s as usize, t as usize);
+    let first_ends = c.first_ends;
+    let second_ends = c.second_ends;
+    let p = ends::strip(first_ends, c.first_strips, s);
+    let q = ends::strip(second_ends, c.second_strips, t);
     sweep::run(
         way,
         ax,
@@ -138,8 +119,8 @@ pub fn swept(
         by,
         p.from,
         p.to,
-        p.other_from,
-        p.other_to,
+        q.from,
+        q.to,
         c.k as usize,
         c.entries as usize,
         distance,
@@ -153,9 +134,10 @@ pub fn settle(c: Campaign, s: u32, t: u32, count: u32) -> Campaign
     requires { ⌜ (s < 32) × (t < 32) ⌝ }
     ensures { λ r. ⌜ r ≡ afterJob c count (jobOf s t) ⌝ }
 {
-    let at = 32 * (s as usize) + (t as usize);
     let mut settled = c;
     settled.entries = count;
-    settled.marks[at] = 1;
+    let before = c.marks;
+    let after = marks::settle(before, s as usize, t as usize);
+    settled.marks = after;
     settled
 }

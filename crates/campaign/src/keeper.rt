@@ -5,54 +5,27 @@ use super::ends;
 use super::marks;
 use entry::Entry;
 ghost use mathlib.Core.Path.{_≡_};
-ghost use mathlib.Core.Bool.{true, _&&_};
-ghost use Prim.Native.Nat.{min, _≤_, _<_};
-ghost use lib.Dec.{eqb};
-ghost use lib.IntN.{pos};
-ghost use lib.ListN.{length, getD};
+ghost use mathlib.Core.Bool.{true};
+ghost use Prim.Native.Nat.{_≤_, _<_};
+ghost use lib.ListN.{length};
 ghost use Rattle.order.specs.Order.{ascending};
 ghost use Rattle.order.specs.Lists.{all};
-ghost use Rattle.site.specs.Site.{within, squaredDistance};
-ghost use Rattle.site.specs.SiteList.{columns, site, sites};
-ghost use Rattle.site.specs.Refusal.{listsRefusal};
+ghost use Rattle.site.specs.Site.{squaredDistance};
+ghost use Rattle.site.specs.SiteList.{Coordinates, columns, siteAt};
 ghost use Rattle.entry.specs.Entry.{rankBefore};
 ghost use Rattle.entry.specs.Results.{results, entriesOf, roomFor};
-ghost use Rattle.entry.specs.Entry.{lawfulK};
-ghost use Rattle.campaign.specs.Grid.{jobOf, settledJobs};
-ghost use Rattle.campaign.specs.Tally.{Tally};
-ghost use Rattle.campaign.specs.Keeper.{firstEnds, secondEnds, settledTotal, sound, campaignRefusal};
-ghost use Rattle.campaign.specs.Kept.{Accepted, Room, SoundPlan, fits, soundPlan, entriesSound};
-
-// Whether K is 1 to 4,096.
-pub fn lawful_k(k: u32) -> bool
-    ensures { λ r. ⌜ r ≡ lawfulK k ⌝ }
-{
-    1 <= k && k <= 4_096
-}
-
-// Whether no column is shorter than `k`.
-pub fn room(k: usize, distance: &[u64], first: &[u32], second: &[u32]) -> bool
-    ensures { λ r. ⌜ r ≡ roomFor k (results (now (distance .entry)) (now (first .entry)) (now (second .entry))) ⌝ }
-{
-    if distance.len() < k {
-        return false;
-    }
-    if first.len() < k {
-        return false;
-    }
-    k <= second.len()
-}
+ghost use Rattle.campaign.specs.Grid.{settledJobs};
+ghost use Rattle.campaign.specs.Tally.{Cutting, Tally};
+ghost use Rattle.campaign.specs.Keeper.{firstEnds, secondEnds, fits, rightCount, sound, campaignRefusal};
+ghost use Rattle.campaign.specs.Kept.{Numbered, Room, SoundPlan, soundPlan, entriesSound};
 
 // The squared distance of the sites at two places.
 fn distance_at(ax: &[i32], ay: &[i32], bx: &[i32], by: &[i32], i: usize, j: usize) -> u64
-    requires { ⌜ (i < length (now ax)) × (i < length (now ay)) × (j < length (now bx)) × (j < length (now by)) ⌝ }
-    requires { ⌜
-        (within (getD (now ax) i (pos 0)) ≡ true) × (within (getD (now ay) i (pos 0)) ≡ true) ×
-        (within (getD (now bx) j (pos 0)) ≡ true) × (within (getD (now by) j (pos 0)) ≡ true)
-        ⌝ }
+    requires { ⌜ Coordinates (now ax) (now ay) × Coordinates (now bx) (now by) ⌝ }
+    requires { ⌜ (i < length (now ax)) × (j < length (now bx)) ⌝ }
     ensures { λ r. ⌜
-        r ≡ squaredDistance (site (getD (now (ax .entry)) i (pos 0)) (getD (now (ay .entry)) i (pos 0)) 0)
-        (site (getD (now (bx .entry)) j (pos 0)) (getD (now (by .entry)) j (pos 0)) 0)
+        Numbered (now (ax .entry)) (now (ay .entry)) (now (bx .entry)) (now (by .entry))
+        (λ a b. r ≡ squaredDistance (siteAt a i) (siteAt b j))
         ⌝ }
 {
     site::squared_distance(ax[i], ay[i], bx[j], by[j])
@@ -84,20 +57,17 @@ fn fits(
     e: Entry,
     ax: &[i32],
     ay: &[i32],
-    an: &[u32],
     bx: &[i32],
     by: &[i32],
-    bn: &[u32],
     first_ends: &[u32],
     second_ends: &[u32],
     marks: &[u8],
 ) -> bool
-    requires { ⌜ Accepted (columns (now ax) (now ay) (now an)) (columns (now bx) (now by) (now bn)) ⌝ }
+    requires { ⌜ Coordinates (now ax) (now ay) × Coordinates (now bx) (now by) ⌝ }
     requires { ⌜ (length (now «first_ends») ≤ 32) × (length (now «second_ends») ≤ 32) ⌝ }
     ensures { λ r. ⌜
-        r ≡ fits (now (marks .entry)) (now («first_ends» .entry)) (now («second_ends» .entry))
-        (sites (columns (now (ax .entry)) (now (ay .entry)) (now (an .entry))))
-        (sites (columns (now (bx .entry)) (now (by .entry)) (now (bn .entry)))) e
+        Numbered (now (ax .entry)) (now (ay .entry)) (now (bx .entry)) (now (by .entry))
+        (λ a b. r ≡ fits (now (marks .entry)) (now («first_ends» .entry)) (now («second_ends» .entry)) a b e)
         ⌝ }
 {
     let i = e.first as usize;
@@ -126,28 +96,25 @@ fn all_fit(
     count: usize,
     ax: &[i32],
     ay: &[i32],
-    an: &[u32],
     bx: &[i32],
     by: &[i32],
-    bn: &[u32],
     first_ends: &[u32],
     second_ends: &[u32],
     marks: &[u8],
 ) -> bool
     requires { ⌜ roomFor count (results (now distance) (now first) (now second)) ≡ true ⌝ }
-    requires { ⌜ Accepted (columns (now ax) (now ay) (now an)) (columns (now bx) (now by) (now bn)) ⌝ }
+    requires { ⌜ Coordinates (now ax) (now ay) × Coordinates (now bx) (now by) ⌝ }
     requires { ⌜ (length (now «first_ends») ≤ 32) × (length (now «second_ends») ≤ 32) ⌝ }
     ensures { λ r. ⌜
-        r ≡ all (fits (now (marks .entry)) (now («first_ends» .entry)) (now («second_ends» .entry))
-        (sites (columns (now (ax .entry)) (now (ay .entry)) (now (an .entry))))
-        (sites (columns (now (bx .entry)) (now (by .entry)) (now (bn .entry)))))
-        (entriesOf count (results (now (distance .entry)) (now (first .entry)) (now (second .entry))))
+        Numbered (now (ax .entry)) (now (ay .entry)) (now (bx .entry)) (now (by .entry)) (λ a b.
+        r ≡ all (fits (now (marks .entry)) (now («first_ends» .entry)) (now («second_ends» .entry)) a b)
+        (entriesOf count (results (now (distance .entry)) (now (first .entry)) (now (second .entry)))))
         ⌝ }
 {
     let mut i = 0;
     while i < count {
         let e = entry::entry_at(distance, first, second, i);
-        if !fits(e, ax, ay, an, bx, by, bn, first_ends, second_ends, marks) {
+        if !fits(e, ax, ay, bx, by, first_ends, second_ends, marks) {
             return false;
         }
         i += 1;
@@ -159,27 +126,19 @@ fn all_fit(
 fn sound_plan(c: Campaign, n: usize, m: usize) -> bool
     ensures { λ r. ⌜ r ≡ soundPlan c n m ⌝ }
 {
-    let rows = c.first_strips as usize;
-    let cols = c.second_strips as usize;
+    if !entry::lawful_k(c.k) {
+        return false;
+    }
     let first_ends = c.first_ends;
     let second_ends = c.second_ends;
     let marks = c.marks;
-    if !lawful_k(c.k) {
+    if !ends::lawful_slots(n, first_ends, c.first_strips) {
         return false;
     }
-    if 32 < rows {
+    if !ends::lawful_slots(m, second_ends, c.second_strips) {
         return false;
     }
-    if 32 < cols {
-        return false;
-    }
-    if !ends::lawful(n, &first_ends[..rows]) {
-        return false;
-    }
-    if !ends::lawful(m, &second_ends[..cols]) {
-        return false;
-    }
-    marks::lawful(rows, cols, &marks)
+    marks::lawful(c.first_strips as usize, c.second_strips as usize, &marks)
 }
 
 // How many jobs of a sound plan are settled, and how many pairs they have.
@@ -200,7 +159,7 @@ pub fn settled(c: Campaign) -> Settled
 // Whether the entry count is the lesser of K and the settled jobs' pair total.
 fn right_count(c: Campaign) -> bool
     requires { ⌜ SoundPlan c ⌝ }
-    ensures { λ r. ⌜ r ≡ eqb (c .entries) (min (c .k) (settledTotal c)) ⌝ }
+    ensures { λ r. ⌜ Cutting (firstEnds c) (secondEnds c) (λ a b. r ≡ rightCount c a b) ⌝ }
 {
     let total = settled(c).pairs;
     if (c.k as u64) <= total {
@@ -215,21 +174,18 @@ fn sound_entries(
     c: Campaign,
     ax: &[i32],
     ay: &[i32],
-    an: &[u32],
     bx: &[i32],
     by: &[i32],
-    bn: &[u32],
     distance: &[u64],
     first: &[u32],
     second: &[u32],
 ) -> bool
-    requires { ⌜ Accepted (columns (now ax) (now ay) (now an)) (columns (now bx) (now by) (now bn)) ⌝ }
+    requires { ⌜ Coordinates (now ax) (now ay) × Coordinates (now bx) (now by) ⌝ }
     requires { ⌜ SoundPlan c ⌝ }
     requires { ⌜ Room (c .k) (c .entries) (results (now distance) (now first) (now second)) ⌝ }
     ensures { λ r. ⌜
-        r ≡ entriesSound c (sites (columns (now (ax .entry)) (now (ay .entry)) (now (an .entry))))
-        (sites (columns (now (bx .entry)) (now (by .entry)) (now (bn .entry))))
-        (results (now (distance .entry)) (now (first .entry)) (now (second .entry)))
+        Numbered (now (ax .entry)) (now (ay .entry)) (now (bx .entry)) (now (by .entry)) (λ a b.
+        r ≡ entriesSound c a b (results (now (distance .entry)) (now (first .entry)) (now (second .entry))))
         ⌝ }
 {
     let count = c.entries as usize;
@@ -248,10 +204,8 @@ fn sound_entries(
         count,
         ax,
         ay,
-        an,
         bx,
         by,
-        bn,
         &first_ends[..rows],
         &second_ends[..cols],
         &marks,
@@ -263,45 +217,28 @@ fn sound(
     c: Campaign,
     ax: &[i32],
     ay: &[i32],
-    an: &[u32],
     bx: &[i32],
     by: &[i32],
-    bn: &[u32],
     distance: &[u64],
     first: &[u32],
     second: &[u32],
 ) -> bool
-    requires { ⌜ Accepted (columns (now ax) (now ay) (now an)) (columns (now bx) (now by) (now bn)) ⌝ }
+    requires { ⌜ Coordinates (now ax) (now ay) × Coordinates (now bx) (now by) ⌝ }
     ensures { λ r. ⌜
-        r ≡ sound c (sites (columns (now (ax .entry)) (now (ay .entry)) (now (an .entry))))
-        (sites (columns (now (bx .entry)) (now (by .entry)) (now (bn .entry))))
-        (results (now (distance .entry)) (now (first .entry)) (now (second .entry)))
+        Numbered (now (ax .entry)) (now (ay .entry)) (now (bx .entry)) (now (by .entry)) (λ a b.
+        r ≡ sound c a b (results (now (distance .entry)) (now (first .entry)) (now (second .entry))))
         ⌝ }
 {
     if !sound_plan(c, ax.len(), bx.len()) {
         return false;
     }
-    if !room(c.k as usize, distance, first, second) {
+    if !entry::room(c.k as usize, distance, first, second) {
         return false;
     }
     if !right_count(c) {
         return false;
     }
-    sound_entries(c, ax, ay, an, bx, by, bn, distance, first, second)
-}
-
-// The refusal of two lists, the first before the second; 0 for none.
-pub fn lists_refusal(ax: &[i32], ay: &[i32], an: &[u32], bx: &[i32], by: &[i32], bn: &[u32]) -> u32
-    ensures { λ r. ⌜
-        r ≡ listsRefusal (columns (now (ax .entry)) (now (ay .entry)) (now (an .entry)))
-        (columns (now (bx .entry)) (now (by .entry)) (now (bn .entry)))
-        ⌝ }
-{
-    let refused = site::list_refusal(ax, ay, an);
-    if refused != 0 {
-        return refused;
-    }
-    site::list_refusal(bx, by, bn)
+    sound_entries(c, ax, ay, bx, by, distance, first, second)
 }
 
 // The refusal of a campaign, its lists and its columns; 0 for none.
@@ -323,11 +260,11 @@ pub fn refusal(
         (results (now (distance .entry)) (now (first .entry)) (now (second .entry)))
         ⌝ }
 {
-    let refused = lists_refusal(ax, ay, an, bx, by, bn);
+    let refused = site::lists_refusal(ax, ay, an, bx, by, bn);
     if refused != 0 {
         return refused;
     }
-    if sound(c, ax, ay, an, bx, by, bn, distance, first, second) {
+    if sound(c, ax, ay, bx, by, distance, first, second) {
         0
     } else {
         7

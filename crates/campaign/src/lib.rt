@@ -27,12 +27,10 @@ pub struct Settled {
     pub pairs: u64,
 }
 
-// Where the strips of a job start and end.
-struct Bounds {
+// Where a strip starts and ends.
+struct Strip {
     from: usize,
     to: usize,
-    other_from: usize,
-    other_to: usize,
 }
 
 // What opening answers: the refusal's number, 0 for none, and the campaign.

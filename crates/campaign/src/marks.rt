@@ -1,19 +1,17 @@
-// Marks: whether they are lawful, and how many jobs are settled.
+// Marks: whether they are lawful, reading and setting one, and how many jobs are settled.
 use super::Settled;
 use super::ends;
 ghost use mathlib.Core.Path.{_≡_};
-ghost use mathlib.Core.Bool.{true, _&&_, _||_};
 ghost use mathlib.Core.List.{map};
-ghost use Prim.Native.Nat.{_+_, _*_, _/_, _%_, _≤_, _<_};
-ghost use lib.Dec.{eqb, ltb};
+ghost use Prim.Native.Nat.{_≤_, _<_};
 ghost use lib.ListN.{length};
 ghost use Rattle.order.specs.Lists.{keep};
-ghost use Rattle.campaign.specs.Grid.{jobOf, countFrom, lawfulMarks, settled, settledJobs};
+ghost use Rattle.campaign.specs.Grid.{jobOf, countFrom, lawfulMark, lawfulMarks, settled, settle, settledJobs};
 ghost use Rattle.campaign.specs.Tally.{Cuts, Tally};
 
 // Whether mark `i` is 0, or 1 at a job.
 fn lawful_at(mark: u8, i: usize, rows: usize, cols: usize) -> bool
-    ensures { λ r. ⌜ r ≡ (eqb mark 0 || (eqb mark 1 && (ltb (i / 32) rows && ltb (i % 32) cols))) ⌝ }
+    ensures { λ r. ⌜ r ≡ lawfulMark rows cols i mark ⌝ }
 {
     if mark == 0 {
         return true;
@@ -41,12 +39,32 @@ pub fn lawful(rows: usize, cols: usize, marks: &[u8]) -> bool
     true
 }
 
+// Whether a job is settled.
+pub fn is_settled(marks: &[u8], a: usize, b: usize) -> bool
+    requires { ⌜ (a ≤ 32) × (b ≤ 32) ⌝ }
+    ensures { λ r. ⌜ r ≡ settled (now (marks .entry)) (jobOf a b) ⌝ }
+{
+    let at = 32 * a + b;
+    if at < marks.len() {
+        marks[at] == 1
+    } else {
+        false
+    }
+}
+
+// The marks with a job settled.
+pub fn settle(marks: [u8; 1024], a: usize, b: usize) -> [u8; 1024]
+    requires { ⌜ (a < 32) × (b < 32) ⌝ }
+    ensures { λ r. ⌜ r ≡ settle marks (jobOf a b) ⌝ }
+{
+    let mut settled = marks;
+    settled[32 * a + b] = 1;
+    settled
+}
+
 // The settled jobs of a strip of the first list.
 fn row(marks: &[u8], first_ends: &[u32], a: usize, second_ends: &[u32]) -> Settled
-    requires { ⌜
-        Cuts (now «first_ends») × Cuts (now «second_ends») × (a < length (now «first_ends»)) ×
-        (length (now marks) ≡ 1024)
-        ⌝ }
+    requires { ⌜ Cuts (now «first_ends») × Cuts (now «second_ends») × (a < length (now «first_ends»)) ⌝ }
     ensures { λ r. ⌜
         Tally (now («first_ends» .entry)) (now («second_ends» .entry))
         (keep (settled (now (marks .entry))) (map (jobOf a) (countFrom 0 (length (now («second_ends» .entry)))))) r
@@ -57,7 +75,7 @@ fn row(marks: &[u8], first_ends: &[u32], a: usize, second_ends: &[u32]) -> Settl
     let mut pairs: u64 = 0;
     let mut b = 0;
     while b < second_ends.len() {
-        if marks[32 * a + b] == 1 {
+        if is_settled(marks, a, b) {
             jobs += 1;
             pairs += width * ends::width(second_ends, b);
         }
@@ -68,7 +86,7 @@ fn row(marks: &[u8], first_ends: &[u32], a: usize, second_ends: &[u32]) -> Settl
 
 // The settled jobs.
 pub fn tally(marks: &[u8], first_ends: &[u32], second_ends: &[u32]) -> Settled
-    requires { ⌜ Cuts (now «first_ends») × Cuts (now «second_ends») × (length (now marks) ≡ 1024) ⌝ }
+    requires { ⌜ Cuts (now «first_ends») × Cuts (now «second_ends») ⌝ }
     ensures { λ r. ⌜
         Tally (now («first_ends» .entry)) (now («second_ends» .entry))
         (settledJobs (now (marks .entry)) (length (now («first_ends» .entry))) (length (now («second_ends» .entry))))
@@ -85,17 +103,4 @@ pub fn tally(marks: &[u8], first_ends: &[u32], second_ends: &[u32]) -> Settled
         a += 1;
     }
     Settled { jobs, pairs }
-}
-
-// Whether a job is settled.
-pub fn is_settled(marks: &[u8], a: usize, b: usize) -> bool
-    requires { ⌜ (a ≤ 32) × (b ≤ 32) ⌝ }
-    ensures { λ r. ⌜ r ≡ settled (now (marks .entry)) (jobOf a b) ⌝ }
-{
-    let at = 32 * a + b;
-    if at < marks.len() {
-        marks[at] == 1
-    } else {
-        false
-    }
 }

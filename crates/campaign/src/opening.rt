@@ -1,7 +1,6 @@
 // Opening a campaign.
 use super::Campaign;
 use super::ends;
-use super::keeper;
 ghost use mathlib.Core.Path.{_≡_};
 ghost use Prim.Native.Nat.{_≤_};
 ghost use lib.ListN.{length};
@@ -30,11 +29,11 @@ pub fn refusal(
         (now («second_ends» .entry)) (results (now (distance .entry)) (now (first .entry)) (now (second .entry)))
         ⌝ }
 {
-    let refused = keeper::lists_refusal(ax, ay, an, bx, by, bn);
+    let refused = site::lists_refusal(ax, ay, an, bx, by, bn);
     if refused != 0 {
         return refused;
     }
-    if !keeper::lawful_k(k) {
+    if !entry::lawful_k(k) {
         return 4;
     }
     if !ends::lawful(ax.len(), first_ends) {
@@ -43,7 +42,7 @@ pub fn refusal(
     if !ends::lawful(bx.len(), second_ends) {
         return 5;
     }
-    if keeper::room(k as usize, distance, first, second) {
+    if entry::room(k as usize, distance, first, second) {
         0
     } else {
         6
@@ -70,13 +69,7 @@ pub fn new(k: u32, first_ends: &[u32], second_ends: &[u32]) -> Campaign
 pub fn none() -> Campaign
     ensures { λ r. ⌜ r ≡ noCampaign ⌝ }
 {
-    Campaign {
-        k: 0,
-        entries: 0,
-        first_strips: 0,
-        second_strips: 0,
-        first_ends: [0; 32],
-        second_ends: [0; 32],
-        marks: [0; 1024],
-    }
+    let first = [0; 1];
+    let second = [0; 1];
+    new(0, &first[..0], &second[..0])
 }

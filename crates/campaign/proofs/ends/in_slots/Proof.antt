@@ -3,7 +3,6 @@ use borrow.Author.Needs.{needs}
 use Prim.Native.Nat.{_-_, _≤_}
 use mathlib.Core.Path.{_≡_, refl}
 use mathlib.Core.List.{_++_}
-use native.Mathlib.Omega.{arith}
 use lib.ListN.{length, take, replicate}
 use Rattle.campaign.proofs.EndTests.{slots-more, slots-all}
 use Rattle.campaign.proofs.ends.in_slots.Statement.{statement}

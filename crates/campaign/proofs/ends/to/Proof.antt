@@ -2,7 +2,6 @@
 use borrow.Author.Needs.{needs}
 use mathlib.Core.Path.{refl}
 use Rattle.campaign.specs.Grid.{stripTo}
-use borrow.Author.Needs.{needs}
 use Rattle.campaign.proofs.ends.to.Statement.{statement}
 use Rattle.campaign.proofs.ends.to.Tie as tie
 

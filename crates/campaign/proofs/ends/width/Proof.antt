@@ -2,7 +2,6 @@
 use borrow.Author.Needs.{needs}
 use native.Mathlib.Omega.{arith}
 use Rattle.campaign.proofs.EndLaws.{cut-wide}
-use borrow.Author.Needs.{needs}
 use Rattle.campaign.proofs.ends.width.Statement.{statement}
 use Rattle.campaign.proofs.ends.width.Tie as tie
 
@@ -15,7 +14,7 @@ from-requires c κs = search needs
 sub-result : tie.Need-sub-result
 sub-result c =
     let s = c .before .before .before in
-    omega (arith, cut-wide (s .args .ends .now) (s .pre .0) (s .args .s) (s .pre .1), c .from .ensures, c .before .to .ensures)
+    omega (arith, cut-wide (s .pre .0) (s .args .s) (s .pre .1), c .from .ensures, c .before .to .ensures)
 
 cast-result : tie.Need-cast-result
 cast-result c = search needs

@@ -3,85 +3,76 @@ use borrow.Author.Needs.{needs}
 use mathlib.Core.Path.{_≡_}
 use native.Mathlib.Omega.{arith}
 use lib.ListN.{length}
-use Rattle.site.specs.SiteList.{Columns, columns}
-use Rattle.entry.specs.Results.{Results, results}
-use Rattle.entry.proofs.Columns.{room-lengths}
-use Rattle.campaign.proofs.ListLaws.{lawful-list}
-use Rattle.campaign.proofs.SoundLaws.{Kept, kept-plan}
-use Rattle.campaign.proofs.JobTests.{job-kept, job-row, job-col, some-k, first-strip, second-strip, not-full, gap-decides}
+use Rattle.campaign.proofs.PlanTests.{asked-parts, some-k}
+use Rattle.campaign.proofs.JobTests.{places, not-full, gap-decides}
 use Rattle.campaign.proofs.jobs.skips.Statement.{statement}
 use Rattle.campaign.proofs.jobs.skips.Tie as tie
 
-long : (s : tie.Start) → (length (s .args .c .«first_ends») ≡ 32) × (length (s .args .c .«second_ends») ≡ 32) × (length (s .args .c .marks) ≡ 1024)
-long s = (search needs, search needs, search needs)
-
-abbrev one : tie.Start → Columns
-one s = columns (s .args .ax .now) (s .args .ay .now) (s .args .an .now)
-
-abbrev other : tie.Start → Columns
-other s = columns (s .args .bx .now) (s .args .by .now) (s .args .bn .now)
-
-abbrev held : tie.Start → Results
-held s = results (s .args .distance .now) (s .args .first .now) (s .args .second .now)
-
-sound : (s : tie.Start) → Kept (s .args .c) (one s) (other s) (held s)
-sound s = job-kept (s .args .c) (one s) (other s) (held s) (s .args .s) (s .args .t) (s .pre)
+long : (s : tie.Start) → (length (s .args .c .«first_ends») ≡ 32) × (length (s .args .c .«second_ends») ≡ 32)
+long s = (search needs, search needs)
 
 returns : tie.Need-returns
-returns c =
-    let s = c .before .before .before .before .before .before .before in
-    not-full (s .args .c) (one s) (other s) (held s) (s .args .s) (s .args .t) (s .pre) (c .if1 .taken)
+returns c = record {
+  across = λ ay by. record {
+    numbered =
+        λ an bn la lb first second room. not-full _ _ _ _ _ _ room (c .before .before .before .pre .1 .0)
+        (c .if1 .taken);
+  };
+}
 
-bounds-requires : tie.Need-bounds-requires
-bounds-requires c κs =
-    let s = c .before .before .before .before .before .before .before in (
-      kept-plan (s .args .c) (one s) (other s) (held s) (sound s),
-      job-row (s .args .c) (one s) (other s) (held s) (s .args .s) (s .args .t) (s .pre),
-      job-col (s .args .c) (one s) (other s) (held s) (s .args .s) (s .args .t) (s .pre),
-    )
+strip-requires : tie.Need-strip-requires
+strip-requires c κs =
+    let asked = c .before .before .before .before .before .pre .0 in (asked-parts asked .rows, asked .row)
+
+strip-requires-2 : tie.Need-strip-requires-2
+strip-requires-2 c κs =
+    let asked = c .before .before .before .before .before .before .pre .0 in (asked-parts asked .cols, asked .column)
 
 squared-gap-requires : tie.Need-squared-gap-requires
 squared-gap-requires c κs =
-    let s = c .before .before .before .before .before .before .before .before in
-    let w = sound s in
-    let m = first-strip (s .args .c) (one s) (other s) (held s) (s .args .s) (s .args .t) (s .pre) (long s .0) (long s .1) in
-    let n = second-strip (s .args .c) (one s) (other s) (held s) (s .args .s) (s .args .t) (s .pre) (long s .0) (long s .1) in
-    let b = c .bounds .ensures in (
-      (lawful-list (one s) (w .lists .first) .level, lawful-list (other s) (w .lists .second) .level),
-      (omega (arith, m, b .0, b .1), omega (arith, m, b .1), omega (arith, n, b .2, b .3), omega (arith, n, b .3)),
-    )
+    let s = c .before .before .before .before .before .before .before in
+    places (s .args .c) (c .before .strip .ensures) (c .strip2 .ensures) (s .pre .0) (long s .0) (long s .1)
 
 cast-last : tie.Need-cast-last
 cast-last c = search needs
 
 sub-last : tie.Need-sub-last
 sub-last c =
-    let s = c .before .before .before .before .before .before .before .before .before .before in
-    omega (arith, c .before .before .before .if1 .left, some-k (s .args .c) (one s) (other s) (held s) (s .args .s) (s .args .t) (s .pre))
+    omega (
+      arith,
+      c .before .before .before .before .before .before .if1 .left,
+      some-k
+          (c .before .before .before .before .before .before .before .before .before .pre .0),
+    )
 
 mul-result : tie.Need-mul-result
-mul-result c =
-    let s = c .before .before .before .before .before .before .before .before .before .before in
-    omega (arith, c .before .before .before .if1 .left, some-k (s .args .c) (one s) (other s) (held s) (s .args .s) (s .args .t) (s .pre))
+mul-result c = search needs
 
 shared-slice-read-result : tie.Need-shared-slice-read-result
 shared-slice-read-result c =
-    let s = c .before .before .before .before .before .before .before .before .before .before .before in
-    let n = room-lengths (s .args .c .k) (held s) (sound s .room) in
-    omega (arith, c .before .before .before .before .if1 .left, some-k (s .args .c) (one s) (other s) (held s) (s .args .s) (s .args .t) (s .pre))
+    let s = c .before .before .before .before .before .before .before .before .before .before in omega
+    (arith, c .before .before .before .before .before .before .before .if1 .left, some-k (s .pre .0), s .pre .1)
 
 returns-2 : tie.Need-returns-2
 returns-2 c =
-    let s = c .before .before .before .before .before .before .before .before .before .before .before in
-    let b = c .before .before .before .bounds .ensures in
-    gap-decides (s .args .c) (one s) (other s) (held s) (s .args .s) (s .args .t) (s .pre) (c .before .before .before .before .if1 .left) (b .0) (b .1) (b .2) (b .3) (c .before .before .squared-gap .ensures)
+    let s = c .before .before .before .before .before .before .before .before .before .before in
+    record {
+      across = λ ay by. record {
+        numbered = λ an bn la lb first second room.
+            gap-decides (s .args .c) (c .before .before .before .before .strip .ensures)
+            (c .before .before .before .strip2 .ensures) _ _ _ room (some-k (s .pre .0) .0)
+            (c .before .before .before .before .before .before .before .if1 .left)
+            (c .before .before .squared-gap .ensures .across ay by .numbered an bn la lb);
+      };
+    }
 
 pub skips-spec : {M : Type 1} → statement M
 skips-spec =
     tie.close
     (tie.spec
     returns
-    bounds-requires
+    strip-requires
+    strip-requires-2
     squared-gap-requires
     cast-last
     sub-last

@@ -1,37 +1,23 @@
 -- `campaign::jobs::swept` meets its contract.
 use borrow.Author.Needs.{needs}
 use mathlib.Core.Path.{_≡_}
+use native.Mathlib.Omega.{arith}
 use lib.ListN.{length}
-use Rattle.site.specs.SiteList.{Columns, columns}
-use Rattle.entry.specs.Results.{Results, results}
-use Rattle.campaign.proofs.ListLaws.{lawful-list}
-use Rattle.campaign.proofs.SoundLaws.{Kept, kept-plan}
-use Rattle.campaign.proofs.JobTests.{job-kept, job-row, job-col, sweep-asked, by-number}
+use Rattle.campaign.proofs.PlanTests.{asked-parts, some-k}
+use Rattle.campaign.proofs.JobTests.{places, by-number}
 use Rattle.campaign.proofs.jobs.swept.Statement.{statement}
 use Rattle.campaign.proofs.jobs.swept.Tie as tie
 
-long : (s : tie.Start) → (length (s .args .c .«first_ends») ≡ 32) × (length (s .args .c .«second_ends») ≡ 32) × (length (s .args .c .marks) ≡ 1024)
-long s = (search needs, search needs, search needs)
+long : (s : tie.Start) → (length (s .args .c .«first_ends») ≡ 32) × (length (s .args .c .«second_ends») ≡ 32)
+long s = (search needs, search needs)
 
-abbrev one : tie.Start → Columns
-one s = columns (s .args .ax .now) (s .args .ay .now) (s .args .an .now)
+strip-requires : tie.Need-strip-requires
+strip-requires c κs =
+    let asked = c .before .before .before .before .before .pre .1 .0 in (asked-parts asked .rows, asked .row)
 
-abbrev other : tie.Start → Columns
-other s = columns (s .args .bx .now) (s .args .by .now) (s .args .bn .now)
-
-abbrev held : tie.Start → Results
-held s = results (s .args .distance .now) (s .args .first .now) (s .args .second .now)
-
-sound : (s : tie.Start) → Kept (s .args .c) (one s) (other s) (held s)
-sound s = job-kept (s .args .c) (one s) (other s) (held s) (s .args .s) (s .args .t) (s .pre)
-
-bounds-requires : tie.Need-bounds-requires
-bounds-requires c κs =
-    let s = c .before .before .before .before .before in (
-      kept-plan (s .args .c) (one s) (other s) (held s) (sound s),
-      job-row (s .args .c) (one s) (other s) (held s) (s .args .s) (s .args .t) (s .pre),
-      job-col (s .args .c) (one s) (other s) (held s) (s .args .s) (s .args .t) (s .pre),
-    )
+strip-requires-2 : tie.Need-strip-requires-2
+strip-requires-2 c κs =
+    let asked = c .before .before .before .before .before .before .pre .1 .0 in (asked-parts asked .cols, asked .column)
 
 cast-run : tie.Need-cast-run
 cast-run c = search needs
@@ -41,9 +27,22 @@ cast-run-2 c = search needs
 
 run-requires : tie.Need-run-requires
 run-requires c κs =
-    let s = c .before .before .before .before .before .before .before .before .before .before .before in
-    let b = c .before .before .before .before .before .bounds .ensures in
-    sweep-asked (s .args .c) (one s) (other s) (held s) (s .args .s) (s .args .t) (s .pre) (long s .0) (long s .1) (b .0) (b .1) (b .2) (b .3)
+    let s = c .before .before .before .before .before .before .before .before .before .before .before .before in
+    let asked = s .pre .1 .0 in
+    let w =
+    places (s .args .c) (c .before .before .before .before .before .before .strip .ensures)
+    (c .before .before .before .before .before .strip2 .ensures) asked (long s .0) (long s .1) in
+    record {
+      a = s .pre .0 .0;
+      b = s .pre .0 .1;
+      a-range = omega (arith, w .0);
+      a-inside = w .1;
+      b-range = omega (arith, w .2);
+      b-inside = w .3;
+      some = some-k asked .0;
+      few = some-k asked .1;
+      ready = s .pre .1 .1;
+    }
 
 same-length : tie.Need-same-length
 same-length c = search needs
@@ -56,17 +55,20 @@ same-length-3 c = search needs
 
 returns : tie.Need-returns
 returns c =
-    let s = c .before .before .before .before .before .before .before .before .before .before .before .before .before .before .before .before .before .before in
-    let b = c .before .before .before .before .before .before .before .before .before .before .before .before .bounds .ensures in
-    let w = sound s in
-    by-number _ _ _ _ _ _ _ _ _ (b .0) (b .1) (b .2) (b .3)
-    (c .before .before .before .before .before .before .run .ensures .numbered (s .args .an .now) (s .args .bn .now) (lawful-list (one s) (w .lists .first) .level) (lawful-list (other s) (w .lists .second) .level))
+    let s =
+    c .before .before .before .before .before .before .before .before .before .before .before .before .before .before .before .before .before .before .before in
+    record {
+      numbered = λ an bn la lb.
+          by-number (s .args .c)
+          (c .before .before .before .before .before .before .before .before .before .before .before .before .before .strip .ensures) (c .before .before .before .before .before .before .before .before .before .before .before .before .strip2 .ensures) _ _ _ _ _ (c .before .before .before .before .before .before .run .ensures .numbered an bn la lb);
+    }
 
 pub swept-spec : {M : Type 1} → statement M
 swept-spec =
     tie.close
     (tie.spec
-    bounds-requires
+    strip-requires
+    strip-requires-2
     cast-run
     cast-run-2
     run-requires

@@ -1,19 +1,19 @@
 -- `campaign::keeper::fits` meets its contract.
 use borrow.Author.Needs.{needs}
 use Rattle.site.specs.SiteList.{Columns, columns}
+use Prim.Native.Nat.{ℕ}
+use mathlib.Core.List.{List}
 use native.Mathlib.Omega.{arith}
-use Rattle.campaign.proofs.ListLaws.{list-length-y, within-x, within-y}
 use Rattle.campaign.proofs.KeeperTests.{holding-few, first-outside, second-outside, wrong-distance, its-job}
-use borrow.Author.Needs.{needs}
 use Rattle.campaign.proofs.keeper.fits.Statement.{statement}
 use Rattle.campaign.proofs.keeper.fits.Tie as tie
 
--- What was lent, at each place.
-abbrev first : tie.Start → Columns
-first s = columns (s .args .ax .now) (s .args .ay .now) (s .args .an .now)
+-- The lists with their numbers.
+abbrev first : tie.Start → List ℕ → Columns
+first s an = columns (s .args .ax .now) (s .args .ay .now) an
 
-abbrev second : tie.Start → Columns
-second s = columns (s .args .bx .now) (s .args .by .now) (s .args .bn .now)
+abbrev second : tie.Start → List ℕ → Columns
+second s bn = columns (s .args .bx .now) (s .args .by .now) bn
 
 cast-i : tie.Need-cast-i
 cast-i c = search needs
@@ -23,27 +23,29 @@ cast-j c = search needs
 
 returns : tie.Need-returns
 returns c =
-    first-outside _ _ _ _ _ (c .before .before .before .before .before .before .before .before .pre .0) _ (c .if1 .taken)
+    let s = c .before .before .before .before .before .before in
+    record { numbered = λ an bn la lb. first-outside _ _ _ (first s an) (second s bn) la lb _ (c .if1 .taken) }
 
 returns-2 : tie.Need-returns-2
 returns-2 c =
-    second-outside _ _ _ _ _ (c .before .before .before .before .before .before .before .before .before .pre .0) _ (c .before .if1 .left) (c .if2 .taken)
+    let s = c .before .before .before .before .before .before .before in
+    record {
+      numbered =
+          λ an bn la lb. second-outside _ _ _ (first s an) (second s bn) la lb _ (c .before .if1 .left) (c .if2 .taken);
+    }
 
 distance-at-requires : tie.Need-distance-at-requires
-distance-at-requires c κs =
-    let s = c .before .before .before .before .before .before .before .before .before in
-    let i = c .before .if1 .left in
-    let j = c .if2 .left in
-    let a = first s in
-    let b = second s in (
-      (i, omega (arith, list-length-y a (s .pre .0 .first)), j, omega (arith, list-length-y b (s .pre .0 .second))),
-      (within-x a (s .pre .0 .first) _ i, within-y a (s .pre .0 .first) _ i, within-x b (s .pre .0 .second) _ j, within-y b (s .pre .0 .second) _ j),
-    )
+distance-at-requires c κs = search needs
 
 returns-3 : tie.Need-returns-3
 returns-3 c =
-    let s = c .before .before .before .before .before .before .before .before .before .before .before .before in
-    wrong-distance _ _ _ (first s) (second s) (s .pre .0) (s .args .e) (c .before .before .before .before .if1 .left) (c .before .before .before .if2 .left) (c .before .before .distance-at .ensures) (c .if3 .taken)
+    let s = c .before .before .before .before .before .before .before .before .before .before in
+    record {
+      numbered = λ an bn la lb.
+          wrong-distance _ _ _ (first s an) (second s bn) la lb (s .args .e)
+          (c .before .before .before .before .if1 .left) (c .before .before .before .if2 .left)
+          (c .before .before .distance-at .ensures .numbered an bn la lb) (c .if3 .taken);
+    }
 
 holding-requires : tie.Need-holding-requires
 holding-requires c κs = search needs
@@ -53,17 +55,22 @@ holding-requires-2 c κs = search needs
 
 is-settled-requires : tie.Need-is-settled-requires
 is-settled-requires c κs =
-    let s = c .before .before .before .before .before .before .before .before .before .before .before .before .before .before in (
+    let s = c .before .before .before .before .before .before .before .before .before .before .before .before in (
       omega (arith, c .before .holding .ensures, s .pre .1, holding-few (s .args .first-ends .now) (s .args .e .first)),
       omega (arith, c .holding2 .ensures, s .pre .1, holding-few (s .args .second-ends .now) (s .args .e .second)),
     )
 
 returns-4 : tie.Need-returns-4
 returns-4 c =
-    let s = c .before .before .before .before .before .before .before .before .before .before .before .before .before .before .before in
+    let s = c .before .before .before .before .before .before .before .before .before .before .before .before .before in
     let d = c .before .before .before in
-    its-job _ _ _ (first s) (second s) (s .pre .0) (s .args .e) (d .before .before .before .before .if1 .left) (d .before .before .before .if2 .left) (d .before .before .distance-at .ensures) (d .if3 .left)
-    (c .before .before .holding .ensures) (c .before .holding2 .ensures) (c .is-settled .ensures)
+    record {
+      numbered = λ an bn la lb.
+          its-job _ _ _ (first s an) (second s bn) la lb (s .args .e) (d .before .before .before .before .if1 .left)
+          (d .before .before .before .if2 .left)
+          (d .before .before .distance-at .ensures .numbered an bn la lb) (d .if3 .left)
+          (c .before .before .holding .ensures) (c .before .holding2 .ensures) (c .is-settled .ensures);
+    }
 
 pub fits-spec : {M : Type 1} → statement M
 fits-spec =

@@ -1,18 +1,17 @@
 -- `campaign::keeper::in_order` meets its contract. The loop's invariant: the entries from place `i` on stand in order where all do.
 use borrow.Author.Needs.{needs}
-use Prim.Native.Nat.{ℕ}
 use mathlib.Core.List.{List}
 use Rattle.entry.specs.declared.Entry.{Entry}
 use Rattle.campaign.proofs.KeeperTests.{stands-at, entries-many}
-use mathlib.Core.Path.{_≡_, refl, sym, ap₂, _∙_}
-use Prim.Native.Nat.{_+_, _-_, _≤_, _<_}
+use mathlib.Core.Path.{_≡_, refl, ap₂, _∙_}
+use Prim.Native.Nat.{_+_, _-_, _≤_}
 use native.Mathlib.Omega.{arith}
 use borrow.Author.Tests.{not-true, not-false}
-use lib.ListN.{length, getD, drop}
+use lib.ListN.{getD, drop}
 use Rattle.order.specs.Order.{ascending}
 use Rattle.entry.specs.Entry.{entry, rankBefore}
 use Rattle.entry.specs.Results.{results, entriesOf}
-use Rattle.entry.proofs.Columns.{room-lengths, length-entries, entry-at}
+use Rattle.entry.proofs.Columns.{room-lengths, entry-at}
 use Rattle.campaign.proofs.Walks.{order-more, order-falls, order-end}
 use Rattle.campaign.proofs.keeper.in_order.Statement.{statement}
 use Rattle.campaign.proofs.keeper.in_order.Tie as tie

@@ -44,7 +44,7 @@ tally-requires : tie.Need-tally-requires
 unfolding firstEnds secondEnds
 tally-requires c κs =
     let s = c .before .before .before .before .before .before .before .before in
-    (s .pre .first, s .pre .second, long s .2)
+    (s .pre .first, s .pre .second)
 
 returns : tie.Need-returns
 returns c =

@@ -2,41 +2,53 @@
 use borrow.Author.Needs.{needs}
 use mathlib.Core.Path.{_≡_, sym, _∙_}
 use mathlib.Core.Bool.{true}
+use mathlib.Core.List.{List}
+use Prim.Native.Nat.{ℕ}
 use lib.ListN.{length}
 use borrow.Author.Tests.{not-true, not-false}
 use Rattle.site.specs.SiteList.{Columns, columns}
-use Rattle.entry.specs.Results.{Results, results}
+use Rattle.entry.specs.Results.{results, roomFor}
 use Rattle.campaign.specs.Kept.{SoundPlan, soundPlan}
-use Rattle.campaign.proofs.ListLaws.{lawful-list}
-use Rattle.campaign.proofs.PlanTests.{sound-plan}
-use Rattle.campaign.proofs.SoundTests.{plan-fails, room-fails, count-fails, room-for, sound-decided}
+use Rattle.campaign.proofs.PlanTests.{sound-plan, count-few}
+use Rattle.campaign.proofs.SoundTests.{plan-fails, room-fails, count-fails, sound-decided}
 use Rattle.campaign.proofs.keeper.sound.Statement.{statement}
 use Rattle.campaign.proofs.keeper.sound.Tie as tie
 
-abbrev first : tie.Start → Columns
-first s = columns (s .args .ax .now) (s .args .ay .now) (s .args .an .now)
+-- The lists with their numbers.
+abbrev first : tie.Start → List ℕ → Columns
+first s an = columns (s .args .ax .now) (s .args .ay .now) an
 
-abbrev second : tie.Start → Columns
-second s = columns (s .args .bx .now) (s .args .by .now) (s .args .bn .now)
+abbrev second : tie.Start → List ℕ → Columns
+second s bn = columns (s .args .bx .now) (s .args .by .now) bn
 
 abbrev start : tie.Else1 → tie.Start
-start c = c .before .before .before .before .before .before .before
+start e = e .before .before .before .before .before
 
-planned : (c : tie.Else1) → soundPlan (start c .args .c) (length (start c .args .ax .now)) (length (start c .args .bx .now)) ≡ true
-planned c = sym (c .before .sound-plan .ensures) ∙ not-false _ (c .if1 .left)
+planned : (e : tie.Else1) → soundPlan (start e .args .c) (length (start e .args .ax .now))
+    (length (start e .args .bx .now)) ≡ true
+planned e = sym (e .before .sound-plan .ensures) ∙ not-false _ (e .if1 .left)
 
-plan : (c : tie.Else1) → SoundPlan (start c .args .c)
-plan c =
-    let s = start c in
-    sound-plan _ _ _ (lawful-list (first s) (s .pre .first) .few) (lawful-list (second s) (s .pre .second) .few) (planned c)
+plan : (e : tie.Else1) → SoundPlan (start e .args .c)
+plan e = sound-plan _ _ _ (start e .pre .0 .few) (start e .pre .1 .few) (planned e)
+
+roomy : (f : tie.Else2)
+    → roomFor (start (f .before .before .before) .args .c .k)
+    (results (start (f .before .before .before) .args .distance .now)
+    (start (f .before .before .before) .args .first .now) (start (f .before .before .before) .args .second .now))
+    ≡ true
+roomy f = sym (f .before .room .ensures) ∙ not-false _ (f .if2 .left)
 
 sound-plan-requires : tie.Need-sound-plan-requires
 sound-plan-requires c κs = search needs
 
 returns : tie.Need-returns
 returns c =
-    let s = c .before .before .before .before .before .before .before in
-    plan-fails _ (first s) (second s) _ (s .pre) (sym (c .before .sound-plan .ensures) ∙ not-true _ (c .if1 .taken))
+    let s = c .before .before .before .before .before in
+    record {
+      numbered = λ an bn la lb.
+          plan-fails _ (first s an) (second s bn) _ la lb
+          (sym (c .before .sound-plan .ensures) ∙ not-true _ (c .if1 .taken));
+    }
 
 cast-room : tie.Need-cast-room
 cast-room c = search needs
@@ -46,32 +58,49 @@ room-requires c κs = search needs
 
 returns-2 : tie.Need-returns-2
 returns-2 c =
-    let e = c .before .before .before in
-    room-fails _ (first (start e)) (second (start e)) _ (start e .pre) (planned e) (sym (c .before .room .ensures) ∙ not-true _ (c .if2 .taken))
+    let s = c .before .before .before .before .before .before .before .before in
+    record {
+      numbered = λ an bn la lb.
+          room-fails _ (first s an) (second s bn) _ la lb (planned (c .before .before .before))
+          (sym (c .before .room .ensures) ∙ not-true _ (c .if2 .taken));
+    }
 
 right-count-requires : tie.Need-right-count-requires
 right-count-requires c κs = plan (c .before .before .before)
 
 returns-3 : tie.Need-returns-3
 returns-3 c =
-    let f = c .before .before in
-    let e = f .before .before .before in
-    count-fails _ (first (start e)) (second (start e)) _ (start e .pre) (planned e) (sym (f .before .room .ensures) ∙ not-false _ (f .if2 .left)) (sym (c .before .right-count .ensures) ∙ not-true _ (c .if3 .taken))
+    let s = c .before .before .before .before .before .before .before .before .before .before in
+    record {
+      numbered = λ an bn la lb.
+          count-fails _ (first s an) (second s bn) _ la lb (planned (c .before .before .before .before .before))
+          (roomy (c .before .before)) (c .before .right-count .ensures) (not-true _ (c .if3 .taken));
+    }
 
 sound-entries-requires : tie.Need-sound-entries-requires
-sound-entries-requires c κs =
-    let f = c .before .before in
-    let e = f .before .before .before in (
-      start e .pre,
-      (plan e, room-for _ (first (start e)) (second (start e)) _ (start e .pre) (planned e) (sym (f .before .room .ensures) ∙ not-false _ (f .if2 .left)) (sym (c .before .right-count .ensures) ∙ not-false _ (c .if3 .left))),
-    )
+sound-entries-requires c κs = (
+  c .before .before .before .before .before .before .before .before .before .before .pre,
+  (
+    plan (c .before .before .before .before .before),
+    record {
+      room =
+          roomy (c .before .before);
+      most = count-few _ _ _ (planned (c .before .before .before .before .before))
+          (c .before .right-count .ensures) (not-false _ (c .if3 .left));
+    },
+  ),
+)
 
 returns-4 : tie.Need-returns-4
 returns-4 c =
-    let g = c .before in
-    let f = g .before .before in
-    let e = f .before .before .before in
-    sound-decided _ (first (start e)) (second (start e)) _ (start e .pre) (planned e) (sym (f .before .room .ensures) ∙ not-false _ (f .if2 .left)) (sym (g .before .right-count .ensures) ∙ not-false _ (g .if3 .left)) (c .sound-entries .ensures)
+    let s = c .before .before .before .before .before .before .before .before .before .before .before in
+    record {
+      numbered = λ an bn la lb.
+          sound-decided _ (first s an) (second s bn) _ la lb
+          (planned (c .before .before .before .before .before .before)) (roomy (c .before .before .before))
+          (c .before .before .right-count .ensures)
+          (not-false _ (c .before .if3 .left)) (c .sound-entries .ensures .numbered an bn la lb);
+    }
 
 pub sound-spec : {M : Type 1} → statement M
 sound-spec =

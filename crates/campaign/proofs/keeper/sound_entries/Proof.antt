@@ -1,9 +1,9 @@
 -- `campaign::keeper::sound_entries` meets its contract.
 use borrow.Author.Needs.{needs}
 use mathlib.Core.Path.{_≡_, sym, _∙_}
+use mathlib.Core.Bool.{true}
 use native.Mathlib.Omega.{arith}
 use borrow.Author.Tests.{not-true, not-false}
-use mathlib.Core.Bool.{true}
 use lib.ListN.{length}
 use Rattle.entry.specs.Results.{results, roomFor}
 use Rattle.entry.proofs.Columns.{room-lengths, lengths-room}
@@ -33,46 +33,67 @@ cast-cols : tie.Need-cast-cols
 cast-cols c = search needs
 
 in-order-requires : tie.Need-in-order-requires
-in-order-requires c κs = fitting (c .before .before .before .before .before .before .before .before .before .before .before)
+in-order-requires c κs = fitting (c .before .before .before .before .before .before .before .before .before)
 
 returns : tie.Need-returns
-returns c = order-fails _ _ _ _ (sym (c .before .in-order .ensures) ∙ not-true _ (c .if1 .taken))
+returns c =
+    record {
+      numbered = λ an bn la lb. order-fails _ _ _ _
+          (sym (c .before .in-order .ensures) ∙ not-true _ (c .if1 .taken));
+    }
 
 array-share-prefix-first-ends : tie.Need-array-share-prefix-first-ends
 array-share-prefix-first-ends c =
-    let s = c .before .before .before .before .before .before .before .before .before .before .before .before .before in
-    omega (arith, long s, s .pre .1 .0 .rows)
+    omega (
+      arith,
+      long
+          (c .before .before .before .before .before .before .before .before .before .before .before),
+      c .before .before .before .before .before .before .before .before .before .before .before .pre .1 .0 .rows,
+    )
 
 slice-aggregate-all-fit : tie.Need-slice-aggregate-all-fit
 slice-aggregate-all-fit c =
-    let s = c .before .before .before .before .before .before .before .before .before .before .before .before .before .before in
-    in-use _ _ (long s .0) (s .pre .1 .0 .rows)
+    in-use _ _ (long
+    (c .before .before .before .before .before .before .before .before .before .before .before .before) .0)
+    (c .before .before .before .before .before .before .before .before .before .before .before .before .pre .1 .0 .rows)
 
 array-share-prefix-second-ends : tie.Need-array-share-prefix-second-ends
 array-share-prefix-second-ends c =
-    let s = c .before .before .before .before .before .before .before .before .before .before .before .before .before .before in
-    omega (arith, long s, s .pre .1 .0 .cols)
+    omega (
+      arith,
+      long
+          (c .before .before .before .before .before .before .before .before .before .before .before .before),
+      c .before .before .before .before .before .before .before .before .before .before .before .before .pre .1 .0 .cols,
+    )
 
 slice-aggregate-all-fit-2 : tie.Need-slice-aggregate-all-fit-2
 slice-aggregate-all-fit-2 c =
-    let s = c .before .before .before .before .before .before .before .before .before .before .before .before .before .before .before in
-    in-use _ _ (long s .1) (s .pre .1 .0 .cols)
+    in-use _ _ (long
+    (c .before .before .before .before .before .before .before .before .before .before .before .before .before) .1)
+    (c .before .before .before .before .before .before .before .before .before .before .before .before .before .pre .1 .0 .cols)
 
 slice-aggregate-all-fit-3 : tie.Need-slice-aggregate-all-fit-3
 slice-aggregate-all-fit-3 c =
-    sym (long (c .before .before .before .before .before .before .before .before .before .before .before .before .before .before .before .before) .2)
+    sym (long
+    (c .before .before .before .before .before .before .before .before .before .before .before .before .before .before) .2)
 
 all-fit-requires : tie.Need-all-fit-requires
 all-fit-requires c κs =
-    let s = c .before .before .before .before .before .before .before .before .before .before .before .before .before .before .before .before in
-    let rows = in-use (s .args .c .«first_ends») (s .args .c .«first_strips») (long s .0) (s .pre .1 .0 .rows) in
-    let cols = in-use (s .args .c .«second_ends») (s .args .c .«second_strips») (long s .1) (s .pre .1 .0 .cols) in
-    (fitting s, (s .pre .0, (omega (arith, rows, s .pre .1 .0 .rows), omega (arith, cols, s .pre .1 .0 .cols))))
+    let s =
+    c .before .before .before .before .before .before .before .before .before .before .before .before .before .before in
+    let p = s .pre .1 .0 in
+    let rows = in-use (s .args .c .«first_ends») (s .args .c .«first_strips») (long s .0) (p .rows) in
+    let cols = in-use (s .args .c .«second_ends») (s .args .c .«second_strips») (long s .1) (p .cols) in
+    (fitting s, (s .pre .0, (omega (arith, rows, p .rows), omega (arith, cols, p .cols))))
 
 returns-2 : tie.Need-returns-2
 returns-2 c =
     let e = c .before .before .before .before in
-    entries-decide _ _ _ _ (sym (e .before .in-order .ensures) ∙ not-false _ (e .if1 .left)) (c .all-fit .ensures)
+    record {
+      numbered = λ an bn la lb.
+          entries-decide _ _ _ _ (sym (e .before .in-order .ensures) ∙ not-false _ (e .if1 .left))
+          (c .all-fit .ensures .numbered an bn la lb);
+    }
 
 pub sound-entries-spec : {M : Type 1} → statement M
 sound-entries-spec =

@@ -1,36 +1,46 @@
 -- `campaign::marks::row` meets its contract. The loop's invariant: the jobs counted and those of the columns left are the row's.
 use borrow.Author.Needs.{needs}
-use mathlib.Core.Path.{ap₂}
-use Rattle.campaign.specs.Grid.{jobOf}
-use Rattle.campaign.proofs.EndLaws.{lawful-parts}
-use Rattle.campaign.proofs.TallyLaws.{jobSize}
-use mathlib.Core.Path.{_≡_}
+use mathlib.Core.Path.{_≡_, sym, ap₂, _∙_}
 use mathlib.Core.Logic.{⊎-elim}
 use Prim.Native.Nat.{_*_, _-_, _≤_, _<_}
 use native.Mathlib.Omega.{arith}
 use lib.ListN.{length}
-use Rattle.campaign.specs.Grid.{stripFrom, stripTo}
-use Rattle.campaign.proofs.TallyLaws.{Left, left-all, left-one, left-none, rowFrom, row-done, row-settled, row-open, size-low}
+use Rattle.campaign.specs.Grid.{jobOf}
+use Rattle.campaign.proofs.EndLaws.{cuts-cut}
+use Rattle.campaign.proofs.TallyLaws.{stripWidth, Left, left-all, left-one, left-none, rowFrom, row-done}
+use Rattle.campaign.proofs.TallyLaws.{row-settled, row-open, widths-low}
 use Rattle.campaign.proofs.marks.row.Statement.{statement}
 use Rattle.campaign.proofs.marks.row.Tie as tie
 
 abbrev Inv-loop : tie.InvT-loop
 Inv-loop marks first-ends a second-ends width jobs₀ pairs₀ b₀ jobs pairs b =
-    (b ≤ length second-ends) × (width ≡ stripTo first-ends a - stripFrom first-ends a) × (jobs ≤ b) × (pairs ≤ 4_294_836_225 * b) × Left first-ends second-ends (rowFrom marks a (length second-ends) 0) (rowFrom marks a (length second-ends) b) jobs pairs
+    (b ≤ length second-ends)
+    × (width ≡ stripWidth first-ends a)
+    × (jobs ≤ b)
+    × (pairs ≤ 4_294_836_225 * b)
+    × Left first-ends second-ends (rowFrom marks a (length second-ends) 0)
+    (rowFrom marks a (length second-ends) b) jobs pairs
 
 abbrev μ-loop : tie.MeasureT-loop
 μ-loop marks first-ends a second-ends width jobs₀ pairs₀ b₀ jobs pairs b = length second-ends - b
 
--- A row's marks are among the 1,024.
+-- Both lists have at most 32 strips.
 few : (c : tie.At-loop Inv-loop μ-loop) → (c .before .before .before .before .before .args .a < 32) × (length (c .before .before .before .before .before .args .second-ends .now) ≤ 32)
 few c =
-    let s = c .before .before .before .before .before in (
-      omega (arith, lawful-parts _ _ (s .pre .0 .lawful) .few, s .pre .2),
-      lawful-parts _ _ (s .pre .1 .lawful) .few,
-    )
+    let s = c .before .before .before .before .before in
+    (omega (arith, cuts-cut (s .pre .0) .few, s .pre .2), cuts-cut (s .pre .1) .few)
 
-size : (c : tie.After-width2 Inv-loop μ-loop) → c .before .before .before .before .before .width .result * c .width2 .result ≡ jobSize (c .before .before .before .before .before .before .before .before .before .args .first-ends .now) (c .before .before .before .before .before .before .before .before .before .args .second-ends .now) (jobOf (c .before .before .before .before .before .before .before .before .before .args .a) (c .before .before .before .before .loop .b))
-size c = ap₂ _*_ (c .before .before .before .before .loop .inv .1) (c .width2 .ensures)
+-- The product of two widths, and how large it is at most.
+size : (c : tie.After-width2 Inv-loop μ-loop)
+    → let s = c .before .before .before .before .before .before .before .before .before in
+    let n =
+    stripWidth (s .args .first-ends .now) (s .args .a) * stripWidth (s .args .second-ends .now)
+    (c .before .before .before .before .loop .b) in
+    (c .before .before .before .before .before .width .result * c .width2 .result ≡ n) × (n ≤ 4_294_836_225)
+size c =
+    let s = c .before .before .before .before .before .before .before .before .before in
+    let l = c .before .before .before .before .loop in
+    (ap₂ _*_ (l .inv .1) (c .width2 .ensures), widths-low _ _ (s .pre .0) (s .pre .1) (s .args .a) (l .b))
 
 width-requires : tie.Need-width-requires Inv-loop μ-loop
 width-requires c κs = (c .before .before .before .pre .0, c .before .before .before .pre .2)
@@ -38,15 +48,8 @@ width-requires c κs = (c .before .before .before .pre .0, c .before .before .be
 loop-holds : tie.Need-loop-holds Inv-loop μ-loop
 loop-holds c = (search needs, c .width .ensures, search needs, search needs, left-all _ _ _)
 
-mul-if1 : tie.Need-mul-if1 Inv-loop μ-loop
-mul-if1 c = omega (arith, few (c .before))
-
-add-if1 : tie.Need-add-if1 Inv-loop μ-loop
-add-if1 c = omega (arith, few (c .before))
-
-shared-slice-read-if1 : tie.Need-shared-slice-read-if1 Inv-loop μ-loop
-shared-slice-read-if1 c =
-    omega (arith, few (c .before .before), c .before .before .before .before .before .before .before .pre)
+is-settled-requires : tie.Need-is-settled-requires Inv-loop μ-loop
+is-settled-requires c κs = let n = few (c .before) in (omega (arith, n), omega (arith, n))
 
 add-jobs : tie.Need-add-jobs Inv-loop μ-loop
 add-jobs c = omega (arith, few (c .before .before .before))
@@ -56,14 +59,10 @@ width-requires-2 c κs =
     (c .before .before .before .before .before .before .before .before .pre .1, c .before .before .loop-test .taken)
 
 mul-pairs : tie.Need-mul-pairs Inv-loop μ-loop
-mul-pairs c =
-    let s = c .before .before .before .before .before .before .before .before .before in
-    omega (arith, size c, size-low _ _ (s .pre .0) (s .pre .1) (jobOf (s .args .a) (c .before .before .before .before .loop .b)))
+mul-pairs c = omega (arith, size c)
 
 add-pairs : tie.Need-add-pairs Inv-loop μ-loop
-add-pairs c =
-    let s = c .before .before .before .before .before .before .before .before .before in
-    omega (arith, size c, few (c .before .before .before .before), size-low _ _ (s .pre .0) (s .pre .1) (jobOf (s .args .a) (c .before .before .before .before .loop .b)))
+add-pairs c = omega (arith, size c, few (c .before .before .before .before))
 
 add-b : tie.Need-add-b Inv-loop μ-loop
 add-b c = omega (arith, few (c .before .before .before))
@@ -76,22 +75,25 @@ loop-again c =
     let l = c .before .before .before .loop in
     let s = c .before .before .before .before .before .before .before .before in
     let inside = c .before .before .loop-test .taken in
+    let mark = sym (c .before .is-settled .ensures) in
     ⊎-elim
     (λ w.
-    let is : c .before .before .before .before .width .result * w .1 .result ≡ jobSize (s .args .first-ends .now) (s .args .second-ends .now) (jobOf (s .args .a) (l .b)) = ap₂ _*_ (l .inv .1) (w .1 .ensures) in
-    let low = size-low _ _ (s .pre .0) (s .pre .1) (jobOf (s .args .a) (l .b)) in (
+    let is : c .before .before .before .before .width .result * w .1 .result ≡ stripWidth (s .args .first-ends .now)
+    (s .args .a) * stripWidth (s .args .second-ends .now) (l .b) = ap₂ _*_ (l .inv .1) (w .1 .ensures) in
+    let low = widths-low _ _ (s .pre .0) (s .pre .1) (s .args .a) (l .b) in (
       search needs,
       l .inv .1,
       omega (arith, w .2),
       omega (arith, w .3),
-      rw (w .2, w .3) (left-one _ _ _ _ (jobOf (s .args .a) (l .b)) (row-settled _ _ _ _ inside (w .0 .taken)) is (l .inv .4)),
+      rw (w .2, w .3) (left-one _ _ _ _ (jobOf (s .args .a) (l .b)) (record { row = s .pre .2; column = inside })
+          (row-settled _ _ _ _ inside (mark ∙ w .0 .taken)) is (l .inv .4)),
     ))
     (λ w. (
       search needs,
       l .inv .1,
       omega (arith, w .1),
       omega (arith, w .2),
-      rw (w .1, w .2) (left-none _ _ _ _ (row-open _ _ _ _ inside (w .0 .left)) (l .inv .4)),
+      rw (w .1, w .2) (left-none _ _ _ _ (row-open _ _ _ _ inside (mark ∙ w .0 .left)) (l .inv .4)),
     ))
     (c .if1 .came)
 
@@ -106,9 +108,7 @@ row-spec =
     μ-loop
     width-requires
     loop-holds
-    mul-if1
-    add-if1
-    shared-slice-read-if1
+    is-settled-requires
     add-jobs
     width-requires-2
     mul-pairs

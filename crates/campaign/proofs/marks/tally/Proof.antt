@@ -3,7 +3,7 @@ use borrow.Author.Needs.{needs}
 use Prim.Native.Nat.{_*_, _-_, _≤_}
 use native.Mathlib.Omega.{arith}
 use lib.ListN.{length}
-use Rattle.campaign.proofs.EndLaws.{lawful-parts}
+use Rattle.campaign.proofs.EndLaws.{cuts-cut}
 use Rattle.campaign.proofs.TallyLaws.{Left, left-all, left-many, rowsFrom, rows-on, rows-done, row-small}
 use Rattle.campaign.proofs.marks.tally.Statement.{statement}
 use Rattle.campaign.proofs.marks.tally.Tie as tie
@@ -18,9 +18,9 @@ abbrev μ-loop : tie.MeasureT-loop
 small : (c : tie.After-row Inv-loop μ-loop) → (c .row .result .jobs ≤ 32) × (c .row .result .pairs ≤ 137_434_759_200) × (length (c .before .before .before .before .before .before .args .first-ends .now) ≤ 32)
 small c =
     let s = c .before .before .before .before .before .before in
-    let few = lawful-parts _ _ (s .pre .1 .lawful) .few in
+    let few = cuts-cut (s .pre .1) .few in
     let low = row-small _ _ _ (c .before .before .loop .a) (c .row .result) (s .pre .0) (s .pre .1) few (c .row .ensures) in
-    (low .0, low .1, lawful-parts _ _ (s .pre .0 .lawful) .few)
+    (low .0, low .1, cuts-cut (s .pre .0) .few)
 
 loop-holds : tie.Need-loop-holds Inv-loop μ-loop
 loop-holds c = (search needs, search needs, search needs, left-all _ _ _)
@@ -28,7 +28,7 @@ loop-holds c = (search needs, search needs, search needs, left-all _ _ _)
 row-requires : tie.Need-row-requires Inv-loop μ-loop
 row-requires c κs =
     let s = c .before .before .before .before .before in
-    (s .pre .0, s .pre .1, c .loop-test .taken, s .pre .2)
+    (s .pre .0, s .pre .1, c .loop-test .taken)
 
 add-jobs : tie.Need-add-jobs Inv-loop μ-loop
 add-jobs c = omega (arith, small (c .before))
@@ -50,7 +50,7 @@ loop-again c =
       search needs,
       omega arith,
       omega arith,
-      left-many _ _ _ _ _ _ _ (rows-on _ _ _ _ (c .before .before .before .loop-test .taken)) (t .jobs) (t .pairs) (l .inv .3),
+      left-many _ _ _ _ _ (rows-on _ _ _ _ (c .before .before .before .loop-test .taken)) t (l .inv .3),
     )
 
 returns : tie.Need-returns Inv-loop μ-loop

@@ -1,6 +1,6 @@
 -- `campaign::strips::range_gap` meets its contract.
 use borrow.Author.Needs.{needs}
-use mathlib.Core.Path.{_≡_, sym, ap, ap₂, _∙_}
+use mathlib.Core.Path.{sym, ap, ap₂, _∙_}
 use lib.IntN.{ℤ}
 use lib.Signed.{ltZ}
 use mir.Facts.{toZ-ofZ}
