@@ -2,10 +2,9 @@
 use mathlib.Core.Path.{_≡_, ap, _∙_}
 use mathlib.Core.Bool.{true}
 use mathlib.Core.List.{List, map, List·Memᴰ}
-use Prim.Native.Nat.{ℕ, _≤_, min}
+use Prim.Native.Nat.{ℕ, _≤_}
 use lib.Dec.{ltb}
 use borrow.Author.Tests.{ltb-true, ltb-false}
-use Rattle.order.specs.Order.{ascending}
 use Rattle.order.specs.Best.{best, sortNumbers}
 use Rattle.order.proofs.Order.{byTest, never-both}
 use Rattle.order.proofs.Lists.{all-mem}
@@ -16,8 +15,8 @@ use Rattle.site.specs.declared.Site.{Site}
 use Rattle.entry.specs.declared.Entry.{Entry}
 use Rattle.entry.specs.Entry.{rankBefore, bestK}
 use Rattle.entry.proofs.Rank.{rank-order, rank-farther}
-use Rattle.sweep.specs.Strip.{whole, pairs}
-use Rattle.sweep.proofs.PlaceLaws.{length-whole-pairs, whole-pairs-distinct}
+use Rattle.sweep.specs.Strip.{allPairs}
+use Rattle.sweep.proofs.PlaceLaws.{whole-pairs-distinct}
 use Rattle.pairs.specs.KList.{kList}
 use Rattle.demands.specs.Demand3.{NoChoiceBetter}
 use Rattle.demands.specs.Demand2.{KClosest}
@@ -34,29 +33,29 @@ module _ (a b : List Site) (k : ℕ) where
   best-distances : sortNumbers (map (λ e. e .distance) (kList k a b)) ≡ map (λ e. e .distance) (kList k a b)
   unfolding kList bestK
   best-distances =
-      sort-weights rank-order (λ e. e .distance) rank-grows (best rankBefore k (pairs (whole a) (whole b)))
-      ∙ ap (map (λ e. e .distance)) (sort-sorted rank-order (best rankBefore k (pairs (whole a) (whole b))) (sorted-best rank-order k (pairs (whole a) (whole b))))
+      sort-weights rank-order (λ e. e .distance) rank-grows (best rankBefore k (allPairs a b))
+      ∙ ap (map (λ e. e .distance)) (sort-sorted rank-order (best rankBefore k (allPairs a b)) (sorted-best rank-order k (allPairs a b)))
 
   pub k-list-none-better : NoChoiceBetter a b (kList k a b)
   unfolding NoChoiceBetter kList bestK
   k-list-none-better choice d among n i h =
       rw best-distances
-      (no-equal-choice-better rank-order (λ e. e .distance) rank-grows k (pairs (whole a) (whole b)) choice (whole-pairs-distinct a b) d among n i h)
+      (no-equal-choice-better rank-order (λ e. e .distance) rank-grows k (allPairs a b) choice (whole-pairs-distinct a b) d among n i h)
 
-  k-list-before : (e : Entry) → List·Memᴰ e (pairs (whole a) (whole b)) → (List·Memᴰ e (kList k a b) → ⊥) → (h : Entry) → List·Memᴰ h (kList k a b)
+  k-list-before : (e : Entry) → List·Memᴰ e (allPairs a b) → (List·Memᴰ e (kList k a b) → ⊥) → (h : Entry) → List·Memᴰ h (kList k a b)
       → rankBefore h e ≡ true
   unfolding kList bestK
   k-list-before e m out h n =
-      all-mem (λ x. rankBefore x e ≡ true) (best-none-better rank-order k (pairs (whole a) (whole b)) (whole-pairs-distinct a b) e m out .0) n
+      all-mem (λ x. rankBefore x e ≡ true) (best-none-better rank-order k (allPairs a b) (whole-pairs-distinct a b) e m out .0) n
 
   pub k-list-closest : KClosest a b k (kList k a b)
   unfolding kList bestK
   k-list-closest = record {
-    size = length-best rankBefore k (pairs (whole a) (whole b)) ∙ ap (min k) (length-whole-pairs a b);
-    different = distinct-best rankBefore k (pairs (whole a) (whole b)) (whole-pairs-distinct a b);
-    among = λ e m. mem-best rankBefore k (pairs (whole a) (whole b)) m;
-    ranked = ascends-ascending rank-order (best rankBefore k (pairs (whole a) (whole b)))
-        (ascends-best rank-order k (pairs (whole a) (whole b)) (whole-pairs-distinct a b));
+    size = length-best rankBefore k (allPairs a b);
+    different = distinct-best rankBefore k (allPairs a b) (whole-pairs-distinct a b);
+    among = λ e m. mem-best rankBefore k (allPairs a b) m;
+    ranked = ascends-ascending rank-order (best rankBefore k (allPairs a b))
+        (ascends-best rank-order k (allPairs a b) (whole-pairs-distinct a b));
     closest = λ e m out h n. let t = k-list-before e m out h n in (t, rank-grows h e t);
     noneBetter = k-list-none-better;
   }

@@ -1,50 +1,53 @@
--- Demand 2: the K list by either sweep, and the distance list.
-use mathlib.Core.Path.{sym}
+-- Demand 2, whole.
+use mathlib.Core.Path.{_≡_, refl, sym, ap}
 use mathlib.Core.Bool.{Bool}
-use mathlib.Core.List.{[]}
+use mathlib.Core.List.{List, [], map}
+use Prim.Native.Nat.{ℕ}
 use lib.Dec.{leb}
 use lib.ListN.{length}
 use borrow.Author.Tests.{leb-true, le-leb}
 use Rattle.order.specs.Lists.{keep}
 use Rattle.order.proofs.Lists.{keep-mem, mem-keep, distinct-keep}
 use Rattle.order.proofs.Best.{best-nil}
+use Rattle.column.specs.Column.{overwritten}
+use Rattle.site.specs.declared.Site.{Site}
 use Rattle.site.specs.Site.{square}
 use Rattle.site.specs.SiteList.{sites}
+use Rattle.site.proofs.Told.{told, unless-done}
+use Rattle.site.proofs.Accepted.{accepted-order}
 use Rattle.entry.specs.declared.Entry.{Entry}
 use Rattle.entry.specs.Entry.{rankBefore, bestK}
-use Rattle.entry.specs.Results.{holding}
+use Rattle.entry.specs.Results.{entriesOf}
 use Rattle.entry.proofs.Columns.{entries-holding}
-use Rattle.sweep.specs.Strip.{whole, pairs}
-use Rattle.sweep.specs.Sweep.{sweep}
+use Rattle.sweep.specs.Strip.{whole, allPairs}
 use Rattle.sweep.proofs.SweepLaws.{sweep-whole-best}
 use Rattle.sweep.proofs.PlaceLaws.{byPlaces, whole-ascends, pairs-ascend, whole-pairs-distinct}
-use Rattle.pairs.specs.KList.{Counts, kList, kListRefusal, kListResults, kListTold}
-use Rattle.pairs.specs.DistanceList.{distanceList}
+use Rattle.pairs.specs.KList.{kList, kListResults}
+use Rattle.pairs.specs.DistanceList.{distanceList, distanceTold, distanceFirst, distanceSecond}
 use Rattle.campaign.proofs.Gathered.{ascends-keep, ascends-neighbours}
-use Rattle.demands.specs.Demand2.{KListClause, SweepClause, placeBefore, DistanceClause}
-use Rattle.demands.proofs.Answers.{tell-none, unless-none, accepted-ascending}
+use Rattle.site_file.proofs.RoundTrip.{every-output-accepted, every-accepted-is-output}
+use Rattle.demands.specs.Demand2.{KClosest, KListClause, SweepClause, placeBefore, WithinLimit, DistanceClause, FileClause, Demand2}
 use Rattle.demands.proofs.Closest.{k-list-closest}
+use Rattle.demands.proofs.Listed.{written, counted, list-told, list-left}
 
 pub k-list-clause : KListClause
-unfolding KListClause kListTold kListResults
+unfolding KListClause
 k-list-clause way a b k r ok =
     let l = kList k (sites a) (sites b) in
-    let swept = sweep way k (whole (sites a)) (whole (sites b)) [] in
-    let c : Counts = record { count = length l; looks = swept .looks; distances = swept .distances } in (
-      c,
-      tell-none (kListRefusal a b k r) c ok,
-      rw (unless-none (kListRefusal a b k r) r (holding l r) ok, entries-holding l r) (k-list-closest (sites a) (sites b) k),
-    )
+    let left = entriesOf (length l) (kListResults a b k r) in
+    let here : left ≡ l = rw (list-left way a b k r ok) (entries-holding l r) in
+    let closest : KClosest (sites a) (sites b) k left = rw here (k-list-closest (sites a) (sites b) k) in
+    (counted way a b k r ok, list-told way a b k r ok, ap (λ (x : List Entry). length x) here, closest)
 
 pub sweep-clause : SweepClause
 unfolding SweepClause kList bestK
 sweep-clause way a b k oka okb =
-    sweep-whole-best way k (sites a) (sites b) [] [] (accepted-ascending a oka) (accepted-ascending b okb) (sym (best-nil rankBefore k))
+    sweep-whole-best way k (sites a) (sites b) [] [] (accepted-order a oka) (accepted-order b okb) (sym (best-nil rankBefore k))
 
-pub distance-clause : DistanceClause
-unfolding DistanceClause distanceList placeBefore
-distance-clause e a b =
-    let all = pairs (whole a) (whole b) in
+distances-within : (e : ℕ) (a b : List Site) → WithinLimit a b e (distanceList e a b)
+unfolding distanceList placeBefore
+distances-within e a b =
+    let all = allPairs a b in
     let test : Entry → Bool = λ p. leb (p .distance) (square e) in
     record {
       exactly = λ p. (
@@ -55,3 +58,25 @@ distance-clause e a b =
       inOrder = ascends-neighbours byPlaces (keep test all)
           (ascends-keep byPlaces test all (pairs-ascend (whole a) (whole b) (whole-ascends a) (whole-ascends b)));
     }
+
+pub distance-clause : DistanceClause
+unfolding DistanceClause distanceTold distanceFirst distanceSecond
+distance-clause a b e first second ok =
+    let l = distanceList e (sites a) (sites b) in (
+      length l,
+      l,
+      sym (told ok),
+      record {
+        size = refl;
+        firsts = rw (← unless-done first (overwritten (map (λ p. p .first) l) first) refl ok) (written l (λ p. p .first) first);
+        seconds = rw (← unless-done second (overwritten (map (λ p. p .second) l) second) refl ok) (written l (λ p. p .second) second);
+      },
+      distances-within e (sites a) (sites b),
+    )
+
+pub file-clause : FileClause
+unfolding FileClause
+file-clause = (every-output-accepted, every-accepted-is-output)
+
+pub demand2 : Demand2
+demand2 = record { kList = k-list-clause; sweeps = sweep-clause; distanceList = distance-clause; file = file-clause }

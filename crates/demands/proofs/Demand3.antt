@@ -2,35 +2,28 @@
 use mathlib.Core.Path.{_≡_, sym, ap, _∙_}
 use mathlib.Core.Bool.{true}
 use mathlib.Core.List.{List, [], _∷_, map}
-use Prim.Native.Nat.{ℕ, _≤_}
+use Prim.Native.Nat.{_≤_}
 use native.Mathlib.Omega.{arith}
-use lib.ListN.{length, take, length-map}
-use Rattle.column.specs.Column.{overwritten}
-use Rattle.column.proofs.Overwritten.{take-overwritten}
+use lib.ListN.{length}
 use Rattle.order.proofs.Best.{length-best}
 use Rattle.site.specs.SiteList.{Columns, sites}
+use Rattle.site.proofs.Told.{number-tell, answer-told}
 use Rattle.entry.specs.declared.Entry.{Entry}
 use Rattle.entry.specs.Entry.{rankBefore, bestK}
 use Rattle.entry.specs.Results.{Results, entriesOf, holding}
 use Rattle.entry.proofs.Columns.{entries-columns}
 use Rattle.sweep.specs.declared.Way.the-variants.{Classic}
-use Rattle.sweep.specs.Strip.{whole}
-use Rattle.sweep.specs.Sweep.{sweep}
-use Rattle.pairs.specs.KList.{Counts, kList, kListRefusal, kListResults, kListTold}
+use Rattle.pairs.specs.KList.{kList}
 use Rattle.campaign.specs.Grid.{jobsPairs}
 use Rattle.campaign.specs.Calls.{newCampaign, openRefusal, openTold, jobRefusal, jobTold}
 use Rattle.demands.specs.Book.{Book, openBook, bookEntries, noneOpen}
 use Rattle.demands.specs.History.{own, otherLists, otherColumns, Call, job, status, opening, Bench, benchAfter, AllAllowed, bookAfterCall}
 use Rattle.demands.specs.Demand3.{SameEntries, LikeBenchA, Agrees, AnswersByBook, Throughout, opened, Demand3}
-use Rattle.demands.proofs.Answers.{tell-none, number-tell, answer-told, unless-none}
 use Rattle.demands.proofs.Closest.{k-list-none-better}
+use Rattle.demands.proofs.Listed.{written, counted, list-told, list-left}
 use Rattle.demands.proofs.BookLaws.{book-finished}
 use Rattle.demands.proofs.Invariant.{Kept, ledger, kept-refusal, kept-status}
 use Rattle.demands.proofs.Steps.{kept-call, kept-opened}
-
--- The written columns begin with the entries' numbers.
-written : (l : List Entry) (f : Entry → ℕ) (column : List ℕ) → take (length l) (overwritten (map f l) column) ≡ map f l
-written l f column = rw (← length-map l f) (take-overwritten (map f l) column)
 
 module _ (a b : Columns) (bench : Bench) (book : Book) (i : Kept a b bench book) where
   few-entries : bench .campaign .entries ≤ book .k
@@ -52,19 +45,16 @@ module _ (a b : Columns) (bench : Bench) (book : Book) (i : Kept a b bench book)
       }
 
   like-bench-a : noneOpen book ≡ true → LikeBenchA a b bench (book .k)
-  unfolding kListTold kListResults
   like-bench-a h =
       let l = kList (book .k) (sites a) (sites b) in
       let finished = book-finished (sites a) (sites b) book (ledger a b bench book i) h in
       let here : entriesOf (bench .campaign .entries) (bench .results) ≡ l = i .entries ∙ finished in
       let count : bench .campaign .entries ≡ length l = i .count ∙ ap (λ (x : List Entry). length x) finished in
-      let swept = sweep Classic (book .k) (whole (sites a)) (whole (sites b)) [] in
-      let c : Counts = record { count = length l; looks = swept .looks; distances = swept .distances } in
       record {
         same = λ r ok. (
-          c,
-          tell-none (kListRefusal a b (book .k) r) c ok,
-          rw (unless-none (kListRefusal a b (book .k) r) r (holding l r) ok) (same-as-written l r here count),
+          counted Classic a b (book .k) r ok,
+          list-told Classic a b (book .k) r ok,
+          rw (list-left Classic a b (book .k) r ok) (same-as-written l r here count),
         );
         noneBetter = rw here (k-list-none-better (sites a) (sites b) (book .k));
       }

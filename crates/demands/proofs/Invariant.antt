@@ -10,26 +10,26 @@ use borrow.Author.Tests.{le-leb, lt-ltb, eq-eqb, ltb-true}
 use Rattle.order.specs.Order.{ascending}
 use Rattle.order.specs.Lists.{all, keep, All, Distinct}
 use Rattle.order.proofs.Order.{byTest}
-use Rattle.order.proofs.Lists.{mem-all, all-mem, holds-all, perm-length, perm-all}
+use Rattle.order.proofs.Lists.{mem-all, all-mem, holds-all, perm-length}
 use Rattle.order.proofs.Best.{length-best}
 use Rattle.order.proofs.Sorted.{mem-best, ascends-best, ascends-ascending}
 use Rattle.site.specs.Told.{answered, orElse}
 use Rattle.site.specs.SiteList.{Columns, sites}
 use Rattle.site.specs.Refusal.{listsRefusal}
+use Rattle.site.proofs.Told.{told, or-none}
 use Rattle.entry.specs.declared.Entry.{Entry}
 use Rattle.entry.specs.Entry.{rankBefore, bestK}
 use Rattle.entry.specs.Results.{entriesOf, roomFor}
 use Rattle.entry.proofs.Rank.{rank-order}
 use Rattle.entry.specs.Entry.{lawfulK}
 use Rattle.campaign.specs.Grid.{lawfulEnds, Job, jobs, settled, settledJobs, lawfulMarks, jobsPairs}
-use Rattle.campaign.specs.Keeper.{firstEnds, secondEnds, soundEnds, soundEntry, settledTotal, sound, campaignRefusal}
+use Rattle.campaign.specs.Keeper.{firstEnds, secondEnds, soundEnds, fits, soundEntry, settledTotal, rightCount, sound, campaignRefusal}
 use Rattle.campaign.specs.Calls.{jobRefusal, statusTold}
 use Rattle.campaign.proofs.Gathered.{keep-same}
 use Rattle.campaign.proofs.CutLaws.{lawful-cut}
-use Rattle.campaign.proofs.GridLaws.{InGrid, jobs-in-grid, jobs-entry, jobs-pairs-perm, pair-total}
+use Rattle.campaign.proofs.GridLaws.{InGrid, jobs-in-grid, jobs-entry, jobs-pairs-perm}
 use Rattle.demands.specs.Book.{Book, isDone, bookRefusal, bookEntries, bookStatus}
 use Rattle.demands.specs.History.{Bench}
-use Rattle.demands.proofs.Answers.{tell-none, or-else-none}
 use Rattle.demands.proofs.BookLaws.{Ledger, mem-done, done-kept, settled-pairs-distinct}
 
 -- Both strip numbers are below the strip counts.
@@ -100,7 +100,7 @@ module _ (a b : Columns) (bench : Bench) (book : Book) (i : Kept a b bench book)
   -- An entry is of a settled job.
   kept-entry : (e : Entry) → List·Memᴰ e (entriesOf (bench .campaign .entries) (bench .results))
       → soundEntry (bench .campaign) (sites a) (sites b) e ≡ true
-  unfolding soundEntry bookEntries bestK
+  unfolding soundEntry fits bookEntries bestK
   kept-entry e m =
       let pairs = jobsPairs (book .ends) (book .ends') (sites a) (sites b) (book .done) in
       let n : List·Memᴰ e pairs = mem-best rankBefore (book .k) pairs (rw (i .entries) at m) in
@@ -120,18 +120,13 @@ module _ (a b : Columns) (bench : Bench) (book : Book) (i : Kept a b bench book)
       ) done
 
   -- The pair total of the settled jobs.
-  kept-total : settledTotal (bench .campaign) ≡ length (jobsPairs (book .ends) (book .ends') (sites a) (sites b) (book .done))
+  kept-total : settledTotal (bench .campaign) (sites a) (sites b) ≡ length (jobsPairs (book .ends) (book .ends') (sites a) (sites b) (book .done))
   unfolding settledTotal
   kept-total =
-      let rows = length (book .ends) in
-      let cols = length (book .ends') in
-      let found = settledJobs (bench .campaign .marks) rows cols in
       rw (i .firsts, i .seconds, i .rows, i .columns)
-      (pair-total (book .ends) (book .ends') (sites a) (sites b) (ledger .cut) (ledger .cut') found
-      (perm-all (InGrid rows cols) settled-done (i .inside))
-      ∙ sym (perm-length (jobs-pairs-perm (book .ends) (book .ends') (sites a) (sites b) settled-done)))
+      (sym (perm-length (jobs-pairs-perm (book .ends) (book .ends') (sites a) (sites b) settled-done)))
 
-  kept-count : bench .campaign .entries ≡ min (bench .campaign .k) (settledTotal (bench .campaign))
+  kept-count : bench .campaign .entries ≡ min (bench .campaign .k) (settledTotal (bench .campaign) (sites a) (sites b))
   unfolding bookEntries bestK
   kept-count =
       i .count
@@ -139,7 +134,7 @@ module _ (a b : Columns) (bench : Bench) (book : Book) (i : Kept a b bench book)
       ∙ ap₂ min (sym (i .k)) (sym kept-total)
 
   pub kept-sound : sound (bench .campaign) (sites a) (sites b) (bench .results) ≡ true
-  unfolding sound
+  unfolding sound rightCount
   kept-sound =
       let l = entriesOf (bench .campaign .entries) (bench .results) in
       let lawful : lawfulK (bench .campaign .k) ≡ true = rw (i .k) (i .lawful) in
@@ -152,13 +147,13 @@ module _ (a b : Columns) (bench : Bench) (book : Book) (i : Kept a b bench book)
   -- Never 7, and never 1, 2 or 3.
   pub kept-passes : campaignRefusal (bench .campaign) a b (bench .results) ≡ 0
   unfolding campaignRefusal
-  kept-passes = or-else-none (listsRefusal a b) _ (i .lists) ∙ rw kept-sound
+  kept-passes = or-none (listsRefusal a b) _ (i .lists) ∙ rw kept-sound
 
   -- "its job refusals .. are those of document 01's book".
   pub kept-refusal : (j : Job) → jobRefusal (bench .campaign) a b (bench .results) j ≡ bookRefusal book j
   unfolding jobRefusal bookRefusal orElse
   kept-refusal j =
-      or-else-none (campaignRefusal (bench .campaign) a b (bench .results)) _ kept-passes
+      or-none (campaignRefusal (bench .campaign) a b (bench .results)) _ kept-passes
       ∙ rw (i .rows, i .columns)
       (byTest (ltb (j .first) (length (book .ends)) && ltb (j .second) (length (book .ends')))
       (λ t. rw t (ap (λ (s : Bool). cond s 9 0) (i .settles j (in-grid (length (book .ends)) (length (book .ends')) j t))))
@@ -167,4 +162,4 @@ module _ (a b : Columns) (bench : Bench) (book : Book) (i : Kept a b bench book)
   -- "and status answers".
   pub kept-status : statusTold (bench .campaign) a b (bench .results) ≡ answered (bookStatus (sites a) (sites b) book)
   unfolding statusTold bookStatus
-  kept-status = tell-none (campaignRefusal (bench .campaign) a b (bench .results)) _ kept-passes ∙ rw (i .rows, i .columns, ← perm-length settled-done, i .count, i .k)
+  kept-status = sym (told kept-passes) ∙ rw (i .rows, i .columns, ← perm-length settled-done, i .count, i .k)

@@ -2,10 +2,10 @@
 use mathlib.Core.Path.{_≡_, refl, sym, ap, _∙_}
 use mathlib.Core.Bool.{false, not, cond, _&&_, and-eq-true-iff}
 use mathlib.Core.List.{List, [], _∷_, _++_, List·Memᴰ·head, List·Memᴰ·eq-of-singleton, Memᴰ·append-right}
-use Prim.Native.Nat.{ℕ, _-_, _≤_, _<_}
+use Prim.Native.Nat.{ℕ, zero, suc, _-_, _≤_, _<_}
 use native.Mathlib.Omega.{arith}
 use lib.Dec.{ltb}
-use lib.ListN.{length, set, replicate, length-set, length-replicate}
+use lib.ListN.{length, replicate, length-replicate}
 use lib.Seq.{take-append-seam}
 use Rattle.order.specs.Lists.{Distinct}
 use Rattle.order.specs.Best.{best}
@@ -13,24 +13,25 @@ use Rattle.order.proofs.Order.{byTest, never-both}
 use Rattle.order.proofs.Lists.{all-nil}
 use Rattle.order.proofs.Best.{length-best, best-nil}
 use Rattle.order.proofs.Sorted.{best-of-best}
+use Rattle.site.specs.Told.{unlessRefused}
 use Rattle.site.specs.SiteList.{Columns, sites}
 use Rattle.site.specs.Refusal.{listsRefusal}
-use Rattle.site.proofs.Told.{orElse-first, orElse-second, no-fault}
+use Rattle.site.proofs.Told.{unless-kept, orElse-first, orElse-second, no-fault, fault-none}
+use Rattle.site.proofs.Accepted.{both-accepted, accepted-length}
 use Rattle.entry.specs.declared.Entry.{Entry}
 use Rattle.entry.specs.Entry.{rankBefore, bestK}
 use Rattle.entry.specs.Results.{Results, entriesOf, holding, roomFor}
 use Rattle.entry.proofs.Rank.{rank-order}
 use Rattle.entry.proofs.Columns.{entries-holding, room-holding}
 use Rattle.entry.specs.Entry.{lawfulK}
-use Rattle.campaign.specs.Grid.{lawfulEnds, Job, markOf, settled, jobPairs, jobsPairs}
+use Rattle.campaign.specs.Grid.{lawfulEnds, Job, markOf, settled, settle, jobPairs, jobsPairs}
 use Rattle.campaign.specs.Keeper.{firstEnds, secondEnds}
 use Rattle.campaign.specs.Calls.{slots, newCampaign, openRefusal, jobRefusal, jobEntries, afterJob, jobCampaign, jobResults}
 use Rattle.campaign.proofs.GridLaws.{InGrid, same-job, jobs-pairs-snoc}
-use Rattle.campaign.proofs.MarkLaws.{none-settled, lawful-zeros, lawful-settled, mark-below, mark-apart, settled-same, settled-other}
+use Rattle.campaign.proofs.MarkLaws.{none-settled, lawful-zeros, lawful-settled, mark-below, mark-apart, length-settle, settled-same, settled-other}
 use Rattle.demands.specs.Book.{Book, openBook, isDone, bookRefusal, bookAfter, bookEntries}
 use Rattle.demands.specs.History.{own, otherLists, otherColumns, Call, job, status, opening, Bench, lentFirst, lentSecond, lentResults, resultsAfter, benchAfter, Allowed, bookAfterCall}
 use Rattle.demands.specs.Demand3.{opened}
-use Rattle.demands.proofs.Answers.{byNumber, unless-none, unless-some, fault-none, lists-both, accepted-length}
 use Rattle.demands.proofs.BookLaws.{mem-done, done-mem, done-other, once-more, inside-more}
 use Rattle.demands.proofs.Invariant.{Kept, in-grid, ledger, kept-refusal}
 
@@ -61,7 +62,7 @@ module _ (a b : Columns) (bench : Bench) (book : Book) (i : Kept a b bench book)
 
     -- The marks tell the settled jobs and this one.
     job-settles : (x : Job) → InGrid (length (book .ends)) (length (book .ends')) x
-        → settled (set (bench .campaign .marks) (markOf j) 1) x ≡ isDone x (book .done ++ (j ∷ []))
+        → settled (settle (bench .campaign .marks) j) x ≡ isDone x (book .done ++ (j ∷ []))
     job-settles x h =
         byTest (isDone x (j ∷ []))
         (λ t.
@@ -101,7 +102,7 @@ module _ (a b : Columns) (bench : Bench) (book : Book) (i : Kept a b bench book)
           columns = i .columns;
           firsts = i .firsts;
           seconds = i .seconds;
-          size = length-set (bench .campaign .marks) (markOf j) 1 ∙ i .size;
+          size = length-settle (bench .campaign .marks) j ∙ i .size;
           marks = lawful-settled (length (book .ends)) (length (book .ends')) few' j g (bench .campaign .marks) (i .marks);
           settles = job-settles;
           room = room-holding (book .k) l (bench .results) (i .room) length-entries;
@@ -120,46 +121,37 @@ accepted-job book j h =
     )
 
 module _ (a b : Columns) (bench : Bench) (book : Book) (i : Kept a b bench book) where
-  -- A job lent B's own lists and columns.
+  -- A job lent B's own lists and columns, by the book's refusal number.
+  kept-number : (j : Job) (n : ℕ) → bookRefusal book j ≡ n
+      → (let c = bench .campaign in
+      let r = bench .results in
+      let l = jobEntries c (sites a) (sites b) (entriesOf (c .entries) r) j in
+      Kept a b
+      (record { campaign = unlessRefused n c (afterJob c (length l) j); results = unlessRefused n r (holding l r) })
+      (unlessRefused n book (withJob book j)))
+  unfolding unlessRefused afterwards
+  kept-number j zero e =
+      let w = accepted-job book j e in
+      rw (job-entries a b bench book i j) (kept-accepted a b bench book i j (w .0) (w .1))
+  kept-number j (suc n) e = i
+
   kept-job : (j : Job)
       → Kept a b
       (record { campaign = jobCampaign (bench .campaign) a b (bench .results) j; results = jobResults (bench .campaign) a b (bench .results) j })
       (bookAfter book j)
-  unfolding jobCampaign jobResults bookAfter afterwards
-  kept-job j =
-      let c = bench .campaign in
-      let r = bench .results in
-      let l = jobEntries c (sites a) (sites b) (entriesOf (c .entries) r) j in
-      let same = kept-refusal a b bench book i j in
-      byNumber (bookRefusal book j)
-      (λ z.
-      let w = accepted-job book j z in
-      rw (
-        unless-none (jobRefusal c a b r j) c (afterJob c (length l) j) (same ∙ z),
-        unless-none (jobRefusal c a b r j) r (holding l r) (same ∙ z),
-        unless-none (bookRefusal book j) book (withJob book j) z,
-        job-entries a b bench book i j,
-      )
-      (kept-accepted a b bench book i j (w .0) (w .1)))
-      (λ m s. rw (
-        unless-some (jobRefusal c a b r j) c (afterJob c (length l) j) m (same ∙ s),
-        unless-some (jobRefusal c a b r j) r (holding l r) m (same ∙ s),
-        unless-some (bookRefusal book j) book (withJob book j) m s,
-      )
-      i)
+  unfolding jobCampaign jobResults bookAfter
+  kept-job j = rw (kept-refusal a b bench book i j) (kept-number j (bookRefusal book j) refl)
 
   -- A refused job lent other lists or columns: nothing of B's changes.
   refused-campaign : (a' b' : Columns) (r : Results) (j : Job) → (jobRefusal (bench .campaign) a' b' r j ≡ 0 → ⊥)
       → jobCampaign (bench .campaign) a' b' r j ≡ bench .campaign
   unfolding jobCampaign
-  refused-campaign a' b' r j h =
-      byNumber (jobRefusal (bench .campaign) a' b' r j) (λ z. absurd (h z)) (λ m s. unless-some _ _ _ m s)
+  refused-campaign a' b' r j h = sym (unless-kept _ _ refl h)
 
   refused-results : (a' b' : Columns) (r : Results) (j : Job) → (jobRefusal (bench .campaign) a' b' r j ≡ 0 → ⊥)
       → jobResults (bench .campaign) a' b' r j ≡ r
   unfolding jobResults
-  refused-results a' b' r j h =
-      byNumber (jobRefusal (bench .campaign) a' b' r j) (λ z. absurd (h z)) (λ m s. unless-some _ _ _ m s)
+  refused-results a' b' r j h = sym (unless-kept _ _ refl h)
 
   -- Each call that may be made.
   pub kept-call : (c : Call) → Allowed a b bench c → Kept a b (benchAfter a b bench c) (bookAfterCall book c)
@@ -185,7 +177,7 @@ module _ (a b : Columns) (k : ℕ) (ends ends' : List ℕ) (r : Results) (ok : o
       let later' = orElse-second (cond (not (lawfulK k)) 4 0) _ later in
       let both = and-eq-true-iff first second .0 (fault-none (first && second) 4 (orElse-first (cond (not (first && second)) 5 0) _ later')) in
       let room = fault-none (roomFor k r) 5 (orElse-second (cond (not (first && second)) 5 0) _ later') in
-      let accepted = lists-both a b lists in
+      let accepted = both-accepted a b lists in
       record {
         lists = lists;
         lawful = kLawful;

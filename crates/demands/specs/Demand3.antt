@@ -7,22 +7,17 @@ use lib.ListN.{length, getD, take}
 use Rattle.order.specs.Best.{sortNumbers}
 use Rattle.order.specs.Lists.{Distinct}
 use Rattle.site.specs.declared.Site.{Site}
-use Rattle.site.specs.Told.{Told, refused, answered}
+use Rattle.site.specs.Told.{answered, numberOf}
 use Rattle.site.specs.SiteList.{Columns, sites}
 use Rattle.entry.specs.declared.Entry.{Entry}
 use Rattle.entry.specs.Results.{Results, entriesOf}
 use Rattle.sweep.specs.declared.Way.the-variants.{Classic}
-use Rattle.sweep.specs.Strip.{whole, pairs}
+use Rattle.sweep.specs.Strip.{allPairs}
 use Rattle.pairs.specs.KList.{Counts, kListRefusal, kListResults, kListTold}
 use Rattle.campaign.specs.declared.Campaign.{Campaign}
 use Rattle.campaign.specs.Calls.{openTold, jobTold, statusTold}
 use Rattle.demands.specs.Book.{Book, openBook, bookRefusal, bookEntries, bookStatus, noneOpen}
-use Rattle.demands.specs.History.{Lent, own, otherLists, otherColumns, Call, job, status, opening, Bench, benchAfter, AllAllowed, bookAfterCall}
-
--- The refusal's number of an answer, 0 for none.
-unfoldable pub numberOf : {A : Type 0} → Told A → ℕ
-numberOf (refused n) = n
-numberOf (answered values) = 0
+use Rattle.demands.specs.History.{own, otherLists, otherColumns, Call, job, status, opening, Bench, benchAfter, AllAllowed, bookAfterCall}
 
 -- "Entries are the same when both counts are and all three columns below that count."
 pub record SameEntries (n : ℕ) (r : Results) (n' : ℕ) (r' : Results) : Type 0 where
@@ -37,7 +32,7 @@ unfoldable pub NoChoiceBetter : List Site → List Site → List Entry → Type 
 NoChoiceBetter a b l =
     (choice : List Entry)
     → Distinct choice
-    → ((e : Entry) → List·Memᴰ e choice → List·Memᴰ e (pairs (whole a) (whole b)))
+    → ((e : Entry) → List·Memᴰ e choice → List·Memᴰ e (allPairs a b))
     → length choice ≡ length l
     → (i : ℕ)
     → i < length choice

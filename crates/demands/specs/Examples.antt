@@ -1,20 +1,19 @@
 -- The fixed examples M1 to M10 of document 01, as data, and what it means that one holds.
 use mathlib.Core.Bool.{Bool, true, false, _&&_}
-use mathlib.Core.List.{List, [], _∷_, map}
+use mathlib.Core.List.{List, [], _∷_}
 use Prim.Native.Nat.{ℕ}
 use lib.Dec.{eqb}
-use lib.IntN.{ℤ, pos, negsuc}
+use lib.IntN.{pos, negsuc}
 use lib.ListN.{length, replicate}
 use Rattle.site.specs.declared.Site.{Site}
 use Rattle.site.specs.Told.{Told, refused, answered}
 use Rattle.site.specs.Site.{squaredDistance}
-use Rattle.site.specs.SiteList.{Columns, columns, site}
+use Rattle.site.specs.SiteList.{Columns, columnsOf, site}
 use Rattle.entry.specs.declared.Entry.{Entry}
 use Rattle.entry.specs.Results.{Results, results, entriesOf}
 use Rattle.sweep.specs.declared.Way.{Way}
 use Rattle.sweep.specs.declared.Way.the-variants.{Classic, ReverseRun}
 use Rattle.sweep.specs.Strip.{whole}
-use Rattle.sweep.specs.Scan.{State}
 use Rattle.sweep.specs.Sweep.{sweep}
 use Rattle.pairs.specs.KList.{kList}
 use Rattle.pairs.specs.DistanceList.{distanceList}
@@ -54,10 +53,6 @@ samePlaces [] [] = true
 samePlaces [] (p ∷ l) = false
 samePlaces (e ∷ l) [] = false
 samePlaces (e ∷ l) (p ∷ m) = eqb (e .first) (p .0) && (eqb (e .second) (p .1) && samePlaces l m)
-
--- The columns of a list.
-unfoldable pub columnsOf : List Site → Columns
-columnsOf l = columns (map (λ s. s .x) l) (map (λ s. s .y) l) (map (λ s. s .number) l)
 
 -- Result columns of `k` elements.
 unfoldable pub blank : ℕ → Results
