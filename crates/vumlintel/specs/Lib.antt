@@ -1,3 +1,4 @@
 -- What a reader must believe of the exported calls beside the definitions that they cite.
 pub mod Crossing
 pub mod Parts
+pub mod Lent

@@ -1,13 +1,15 @@
 // Opening a campaign, its jobs and its status. A campaign crosses in its parts, each behind a reference.
 ghost use mathlib.Core.Path.{_≡_};
 ghost use mathlib.Core.Bool.{cond};
+ghost use Rattle.site.specs.Told.{numberOf};
 ghost use Rattle.site.specs.SiteList.{columns};
 ghost use Rattle.entry.specs.Results.{results};
 ghost use Rattle.sweep.specs.declared.Way.the-variants.{Classic, ReverseRun};
 ghost use Rattle.campaign.specs.Grid.{jobOf};
 ghost use Rattle.campaign.specs.Calls.{openTold, jobTold, jobCampaign, jobResults, jobDoneTold, statusTold};
-ghost use Rattle.vumlintel.specs.Crossing.{numberOf, afterwards};
+ghost use Rattle.vumlintel.specs.Crossing.{afterwards};
 ghost use Rattle.vumlintel.specs.Parts.{campaignOf};
+ghost use Rattle.vumlintel.specs.Lent.{lentList, lentResults, lentCampaign};
 use campaign::Campaign;
 use campaign::JobDone;
 use campaign::Outcome;
@@ -125,6 +127,90 @@ pub extern "C" fn vumlintel_open(
     0
 }
 
+// A job by a sweep: the campaign, whether it was swept, the looks and the distances. A refused one stores nothing.
+fn job(
+    campaign_k: &mut u32,
+    campaign_entries: &mut u32,
+    first_strips: &mut u32,
+    second_strips: &mut u32,
+    first_ends: &mut [u32; 32],
+    second_ends: &mut [u32; 32],
+    marks: &mut [u8; 1024],
+    ax: &[i32],
+    ay: &[i32],
+    an: &[u32],
+    bx: &[i32],
+    by: &[i32],
+    bn: &[u32],
+    distance: &mut [u64],
+    first: &mut [u32],
+    second: &mut [u32],
+    first_strip: u32,
+    second_strip: u32,
+    way: Way,
+    swept: &mut u32,
+    looks: &mut u64,
+    distances: &mut u64,
+) -> u32
+    ensures { λ r.
+        let c = lentCampaign «campaign_k» «campaign_entries» «first_strips» «second_strips» «first_ends» «second_ends» marks in
+        let a = lentList ax ay an .entry in
+        let b = lentList bx by bn .entry in
+        let l = lentResults distance first second in
+        let j = jobOf «first_strip» «second_strip» in
+        let told = jobTold way (c .entry) a b (l .entry) j in
+        ⌜ (r ≡ numberOf told)
+        × ((c .exit ≡ jobCampaign (c .entry) a b (l .entry) j)
+        × ((l .exit ≡ jobResults (c .entry) a b (l .entry) j)
+        × ((now (swept .exit) ≡ afterwards (λ v. cond (v .swept) 1 0) told (now (swept .entry)))
+        × ((now (looks .exit) ≡ afterwards (λ v. v .looks) told (now (looks .entry)))
+        × (now (distances .exit) ≡ afterwards (λ v. v .distances) told (now (distances .entry))))))) ⌝ }
+{
+    let first_cut = *first_ends;
+    let second_cut = *second_ends;
+    let marked = *marks;
+    let c = Campaign {
+        k: *campaign_k,
+        entries: *campaign_entries,
+        first_strips: *first_strips,
+        second_strips: *second_strips,
+        first_ends: first_cut,
+        second_ends: second_cut,
+        marks: marked,
+    };
+    let done = campaign::calls::job(
+        c,
+        ax,
+        ay,
+        an,
+        bx,
+        by,
+        bn,
+        distance,
+        first,
+        second,
+        first_strip,
+        second_strip,
+        way,
+    );
+    let after = done.campaign;
+    let number = cross_done(done, swept, looks, distances);
+    if number != 0 {
+        return number;
+    }
+    put(
+        after,
+        campaign_k,
+        campaign_entries,
+        first_strips,
+        second_strips,
+        first_ends,
+        second_ends,
+        marks,
+    );
+    0
+}
+
 // A job by the classic sweep: the campaign, whether it was swept, the looks and the distances.
 #[no_mangle]
 pub extern "C" fn vumlintel_job_classic(
@@ -157,20 +243,14 @@ pub extern "C" fn vumlintel_job_classic(
     ensures { λ _. ⌜ now (looks .exit) ≡ afterwards (λ v. v .looks) (jobTold Classic (campaignOf (now («campaign_k» .entry)) (now («campaign_entries» .entry)) (now («first_strips» .entry)) (now («second_strips» .entry)) (now («first_ends» .entry)) (now («second_ends» .entry)) (now (marks .entry))) (columns (now (ax .entry)) (now (ay .entry)) (now (an .entry))) (columns (now (bx .entry)) (now (by .entry)) (now (bn .entry))) (results (now (distance .entry)) (now (first .entry)) (now (second .entry))) (jobOf «first_strip» «second_strip»)) (now (looks .entry)) ⌝ }
     ensures { λ _. ⌜ now (distances .exit) ≡ afterwards (λ v. v .distances) (jobTold Classic (campaignOf (now («campaign_k» .entry)) (now («campaign_entries» .entry)) (now («first_strips» .entry)) (now («second_strips» .entry)) (now («first_ends» .entry)) (now («second_ends» .entry)) (now (marks .entry))) (columns (now (ax .entry)) (now (ay .entry)) (now (an .entry))) (columns (now (bx .entry)) (now (by .entry)) (now (bn .entry))) (results (now (distance .entry)) (now (first .entry)) (now (second .entry))) (jobOf «first_strip» «second_strip»)) (now (distances .entry)) ⌝ }
 {
-    let first_cut = *first_ends;
-    let second_cut = *second_ends;
-    let marked = *marks;
-    let c = Campaign {
-        k: *campaign_k,
-        entries: *campaign_entries,
-        first_strips: *first_strips,
-        second_strips: *second_strips,
-        first_ends: first_cut,
-        second_ends: second_cut,
-        marks: marked,
-    };
-    let done = campaign::calls::job(
-        c,
+    job(
+        campaign_k,
+        campaign_entries,
+        first_strips,
+        second_strips,
+        first_ends,
+        second_ends,
+        marks,
         ax,
         ay,
         an,
@@ -183,19 +263,10 @@ pub extern "C" fn vumlintel_job_classic(
         first_strip,
         second_strip,
         Way::Classic,
-    );
-    let after = done.campaign;
-    put(
-        after,
-        campaign_k,
-        campaign_entries,
-        first_strips,
-        second_strips,
-        first_ends,
-        second_ends,
-        marks,
-    );
-    cross_done(done, swept, looks, distances)
+        swept,
+        looks,
+        distances,
+    )
 }
 
 // A job by Reverse Run: the campaign, whether it was swept, the looks and the distances.
@@ -230,20 +301,14 @@ pub extern "C" fn vumlintel_job_reverse_run(
     ensures { λ _. ⌜ now (looks .exit) ≡ afterwards (λ v. v .looks) (jobTold ReverseRun (campaignOf (now («campaign_k» .entry)) (now («campaign_entries» .entry)) (now («first_strips» .entry)) (now («second_strips» .entry)) (now («first_ends» .entry)) (now («second_ends» .entry)) (now (marks .entry))) (columns (now (ax .entry)) (now (ay .entry)) (now (an .entry))) (columns (now (bx .entry)) (now (by .entry)) (now (bn .entry))) (results (now (distance .entry)) (now (first .entry)) (now (second .entry))) (jobOf «first_strip» «second_strip»)) (now (looks .entry)) ⌝ }
     ensures { λ _. ⌜ now (distances .exit) ≡ afterwards (λ v. v .distances) (jobTold ReverseRun (campaignOf (now («campaign_k» .entry)) (now («campaign_entries» .entry)) (now («first_strips» .entry)) (now («second_strips» .entry)) (now («first_ends» .entry)) (now («second_ends» .entry)) (now (marks .entry))) (columns (now (ax .entry)) (now (ay .entry)) (now (an .entry))) (columns (now (bx .entry)) (now (by .entry)) (now (bn .entry))) (results (now (distance .entry)) (now (first .entry)) (now (second .entry))) (jobOf «first_strip» «second_strip»)) (now (distances .entry)) ⌝ }
 {
-    let first_cut = *first_ends;
-    let second_cut = *second_ends;
-    let marked = *marks;
-    let c = Campaign {
-        k: *campaign_k,
-        entries: *campaign_entries,
-        first_strips: *first_strips,
-        second_strips: *second_strips,
-        first_ends: first_cut,
-        second_ends: second_cut,
-        marks: marked,
-    };
-    let done = campaign::calls::job(
-        c,
+    job(
+        campaign_k,
+        campaign_entries,
+        first_strips,
+        second_strips,
+        first_ends,
+        second_ends,
+        marks,
         ax,
         ay,
         an,
@@ -256,19 +321,10 @@ pub extern "C" fn vumlintel_job_reverse_run(
         first_strip,
         second_strip,
         Way::ReverseRun,
-    );
-    let after = done.campaign;
-    put(
-        after,
-        campaign_k,
-        campaign_entries,
-        first_strips,
-        second_strips,
-        first_ends,
-        second_ends,
-        marks,
-    );
-    cross_done(done, swept, looks, distances)
+        swept,
+        looks,
+        distances,
+    )
 }
 
 // Status: the jobs settled, the jobs in all, the entries and K.

@@ -1,10 +1,11 @@
 // The site file: writing one, reading one, and its sites.
 ghost use mathlib.Core.Path.{_≡_};
 ghost use lib.ListN.{length};
+ghost use Rattle.site.specs.Told.{numberOf};
 ghost use Rattle.site.specs.SiteList.{columns};
 ghost use Rattle.site_file.specs.declared.Which.the-variants.{First, Second};
 ghost use Rattle.site_file.specs.Calls.{writeTold, writeBuffer, readTold, siteTold, siteReadTold};
-ghost use Rattle.vumlintel.specs.Crossing.{numberOf, afterwards};
+ghost use Rattle.vumlintel.specs.Crossing.{afterwards};
 use site_file::FileRead;
 use site_file::SiteRead;
 use site_file::Which;
@@ -83,6 +84,26 @@ fn cross_site(answer: SiteRead, x: &mut i32, y: &mut i32, number: &mut u32) -> u
     }
 }
 
+// A site of one of a file's lists.
+fn file_site(
+    file: &[u8],
+    which: Which,
+    place: u32,
+    x: &mut i32,
+    y: &mut i32,
+    number: &mut u32,
+) -> u32
+    ensures { λ r.
+        let told = siteTold (now (file .entry)) which place in
+        ⌜ (r ≡ numberOf told)
+        × ((now (x .exit) ≡ afterwards (λ s. s .x) told (now (x .entry)))
+        × ((now (y .exit) ≡ afterwards (λ s. s .y) told (now (y .entry)))
+        × (now (number .exit) ≡ afterwards (λ s. s .number) told (now (number .entry))))) ⌝ }
+{
+    let answer = site_file::consult(file, which, place);
+    cross_site(answer, x, y, number)
+}
+
 // A site of a file's first list.
 #[no_mangle]
 pub extern "C" fn vumlintel_file_site_first(
@@ -97,8 +118,7 @@ pub extern "C" fn vumlintel_file_site_first(
     ensures { λ _. ⌜ now (y .exit) ≡ afterwards (λ s. s .y) (siteTold (now (file .entry)) First place) (now (y .entry)) ⌝ }
     ensures { λ _. ⌜ now (number .exit) ≡ afterwards (λ s. s .number) (siteTold (now (file .entry)) First place) (now (number .entry)) ⌝ }
 {
-    let answer = site_file::site_of(file, Which::First, place);
-    cross_site(answer, x, y, number)
+    file_site(file, Which::First, place, x, y, number)
 }
 
 // A site of a file's second list.
@@ -115,6 +135,5 @@ pub extern "C" fn vumlintel_file_site_second(
     ensures { λ _. ⌜ now (y .exit) ≡ afterwards (λ s. s .y) (siteTold (now (file .entry)) Second place) (now (y .entry)) ⌝ }
     ensures { λ _. ⌜ now (number .exit) ≡ afterwards (λ s. s .number) (siteTold (now (file .entry)) Second place) (now (number .entry)) ⌝ }
 {
-    let answer = site_file::site_of(file, Which::Second, place);
-    cross_site(answer, x, y, number)
+    file_site(file, Which::Second, place, x, y, number)
 }

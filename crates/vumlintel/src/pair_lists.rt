@@ -1,11 +1,13 @@
 // The K list and the distance list of two lists.
 ghost use mathlib.Core.Path.{_≡_};
+ghost use Rattle.site.specs.Told.{numberOf};
 ghost use Rattle.site.specs.SiteList.{columns};
 ghost use Rattle.entry.specs.Results.{results};
 ghost use Rattle.sweep.specs.declared.Way.the-variants.{Classic, ReverseRun};
 ghost use Rattle.pairs.specs.KList.{kListTold, kListResults, listedTold};
 ghost use Rattle.pairs.specs.DistanceList.{distanceTold, distanceFirst, distanceSecond};
-ghost use Rattle.vumlintel.specs.Crossing.{numberOf, afterwards};
+ghost use Rattle.vumlintel.specs.Crossing.{afterwards};
+ghost use Rattle.vumlintel.specs.Lent.{lentList, lentResults};
 use pairs::Listed;
 use pairs::Within;
 use sweep::Way;
@@ -32,6 +34,38 @@ fn cross_listed(answer: Listed, entries: &mut u32, looks: &mut u64, distances: &
     }
 }
 
+// The K list by a sweep: the entry count, the looks and the distances.
+fn k_list(
+    way: Way,
+    ax: &[i32],
+    ay: &[i32],
+    an: &[u32],
+    bx: &[i32],
+    by: &[i32],
+    bn: &[u32],
+    k: u32,
+    distance: &mut [u64],
+    first: &mut [u32],
+    second: &mut [u32],
+    entries: &mut u32,
+    looks: &mut u64,
+    distances: &mut u64,
+) -> u32
+    ensures { λ r.
+        let a = lentList ax ay an .entry in
+        let b = lentList bx by bn .entry in
+        let l = lentResults distance first second in
+        let told = kListTold way a b k (l .entry) in
+        ⌜ (r ≡ numberOf told)
+        × ((l .exit ≡ kListResults a b k (l .entry))
+        × ((now (entries .exit) ≡ afterwards (λ v. v .count) told (now (entries .entry)))
+        × ((now (looks .exit) ≡ afterwards (λ v. v .looks) told (now (looks .entry)))
+        × (now (distances .exit) ≡ afterwards (λ v. v .distances) told (now (distances .entry)))))) ⌝ }
+{
+    let answer = pairs::k_list(way, ax, ay, an, bx, by, bn, k, distance, first, second);
+    cross_listed(answer, entries, looks, distances)
+}
+
 // The K list by the classic sweep: the entry count, the looks and the distances.
 #[no_mangle]
 pub extern "C" fn vumlintel_k_list_classic(
@@ -55,7 +89,7 @@ pub extern "C" fn vumlintel_k_list_classic(
     ensures { λ _. ⌜ now (looks .exit) ≡ afterwards (λ v. v .looks) (kListTold Classic (columns (now (ax .entry)) (now (ay .entry)) (now (an .entry))) (columns (now (bx .entry)) (now (by .entry)) (now (bn .entry))) k (results (now (distance .entry)) (now (first .entry)) (now (second .entry)))) (now (looks .entry)) ⌝ }
     ensures { λ _. ⌜ now (distances .exit) ≡ afterwards (λ v. v .distances) (kListTold Classic (columns (now (ax .entry)) (now (ay .entry)) (now (an .entry))) (columns (now (bx .entry)) (now (by .entry)) (now (bn .entry))) k (results (now (distance .entry)) (now (first .entry)) (now (second .entry)))) (now (distances .entry)) ⌝ }
 {
-    let answer = pairs::k_list(
+    k_list(
         Way::Classic,
         ax,
         ay,
@@ -67,8 +101,10 @@ pub extern "C" fn vumlintel_k_list_classic(
         distance,
         first,
         second,
-    );
-    cross_listed(answer, entries, looks, distances)
+        entries,
+        looks,
+        distances,
+    )
 }
 
 // The K list by Reverse Run: the entry count, the looks and the distances.
@@ -94,7 +130,7 @@ pub extern "C" fn vumlintel_k_list_reverse_run(
     ensures { λ _. ⌜ now (looks .exit) ≡ afterwards (λ v. v .looks) (kListTold ReverseRun (columns (now (ax .entry)) (now (ay .entry)) (now (an .entry))) (columns (now (bx .entry)) (now (by .entry)) (now (bn .entry))) k (results (now (distance .entry)) (now (first .entry)) (now (second .entry)))) (now (looks .entry)) ⌝ }
     ensures { λ _. ⌜ now (distances .exit) ≡ afterwards (λ v. v .distances) (kListTold ReverseRun (columns (now (ax .entry)) (now (ay .entry)) (now (an .entry))) (columns (now (bx .entry)) (now (by .entry)) (now (bn .entry))) k (results (now (distance .entry)) (now (first .entry)) (now (second .entry)))) (now (distances .entry)) ⌝ }
 {
-    let answer = pairs::k_list(
+    k_list(
         Way::ReverseRun,
         ax,
         ay,
@@ -106,8 +142,10 @@ pub extern "C" fn vumlintel_k_list_reverse_run(
         distance,
         first,
         second,
-    );
-    cross_listed(answer, entries, looks, distances)
+        entries,
+        looks,
+        distances,
+    )
 }
 
 // The distance list: its count.

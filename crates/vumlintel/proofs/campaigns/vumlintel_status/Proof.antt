@@ -1,9 +1,10 @@
 -- `vumlintel_status` meets its contract: each arm returns and writes what its case of the answer tells.
 use borrow.Author.Needs.{needs}
-use mathlib.Core.Path.{ap}
+use mathlib.Core.Path.{refl}
+use Rattle.site.specs.Told.{numberOf}
 use Rattle.campaign.specs.Calls.{statusOf}
-use Rattle.vumlintel.specs.Crossing.{numberOf, afterwards}
-use Rattle.vumlintel.proofs.Crossing.{in-case, leaves}
+use Rattle.vumlintel.specs.Crossing.{afterwards}
+use Rattle.vumlintel.proofs.Crossing.{in-case}
 use Rattle.vumlintel.proofs.campaigns.vumlintel_status.Statement.{statement}
 use Rattle.vumlintel.proofs.campaigns.vumlintel_status.Tie as tie
 
@@ -19,32 +20,14 @@ enum-known-answer-2 c = search needs
 returns : tie.Need-returns
 unfolding statusOf numberOf afterwards
 returns c =
-    let a = c .before .before .before .before .before .before .before .before .before .before .before .before .before .before .before .before .args in
-    let told = in-case statusOf (c .before .answer .given .1) (c .before .before .before .status .ensures) in (
-      ap numberOf told,
-      (
-        leaves (λ v. v .settled) (a .settled .now) told,
-        (
-          leaves (λ v. v .jobs) (a .jobs .now) told,
-          (leaves (λ v. v .entries) (a .entries .now) told, leaves (λ v. v .k) (a .k .now) told),
-        ),
-      ),
-    )
+    rw (← in-case statusOf (c .before .answer .given .1) (c .before .before .before .status .ensures))
+    (refl, (refl, (refl, (refl, refl))))
 
 returns-2 : tie.Need-returns-2
 unfolding statusOf numberOf afterwards
 returns-2 c =
-    let a = c .before .before .before .before .before .before .before .before .before .before .before .before .before .before .before .before .args in
-    let told = in-case statusOf (c .before .answer2 .given .1) (c .before .before .before .status .ensures) in (
-      ap numberOf told,
-      (
-        leaves (λ v. v .settled) (a .settled .now) told,
-        (
-          leaves (λ v. v .jobs) (a .jobs .now) told,
-          (leaves (λ v. v .entries) (a .entries .now) told, leaves (λ v. v .k) (a .k .now) told),
-        ),
-      ),
-    )
+    rw (← in-case statusOf (c .before .answer2 .given .1) (c .before .before .before .status .ensures))
+    (refl, (refl, (refl, (refl, refl))))
 
 pub vumlintel-status-spec : {M : Type 1} → statement M
 vumlintel-status-spec =

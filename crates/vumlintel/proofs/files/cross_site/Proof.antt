@@ -1,10 +1,10 @@
 -- `cross_site` meets its contract: each arm returns and writes what its case of the answer tells.
 use borrow.Author.Needs.{needs, sfits-of}
-use mathlib.Core.Path.{sym, ap, _∙_}
+use mathlib.Core.Path.{refl}
 use mir.Facts.{toZ-ofZ}
+use Rattle.site.specs.Told.{numberOf}
 use Rattle.site_file.specs.Calls.{siteReadTold}
-use Rattle.vumlintel.specs.Crossing.{numberOf, afterwards}
-use Rattle.vumlintel.proofs.Crossing.{leaves}
+use Rattle.vumlintel.specs.Crossing.{afterwards}
 use Rattle.vumlintel.proofs.files.cross_site.Statement.{statement}
 use Rattle.vumlintel.proofs.files.cross_site.Tie as tie
 
@@ -17,29 +17,12 @@ enum-known-answer-2 c = search needs
 returns : tie.Need-returns
 unfolding siteReadTold numberOf afterwards
 returns c =
-    let a = c .before .before .before .before .before .args in
-    let told = sym (ap siteReadTold (c .before .before .before .answer .given .1)) in (
-      ap numberOf told,
-      (
-        toZ-ofZ (sfits-of (c .before .struct-told .given .0 .1)) ∙ leaves (λ s. s .x) (a .x .now) told,
-        (
-          toZ-ofZ (sfits-of (c .struct-told2 .given .1 .0 .1)) ∙ leaves (λ s. s .y) (a .y .now) told,
-          leaves (λ s. s .number) (a .number .now) told,
-        ),
-      ),
-    )
+    rw (c .before .before .before .answer .given .1)
+    (refl, (toZ-ofZ (sfits-of (c .before .struct-told .given .0 .1)), (toZ-ofZ (sfits-of (c .struct-told2 .given .1 .0 .1)), refl)))
 
 returns-2 : tie.Need-returns-2
 unfolding siteReadTold numberOf afterwards
-returns-2 c =
-    let a = c .before .before .before .args in
-    let told = sym (ap siteReadTold (c .before .answer2 .given .1)) in (
-      ap numberOf told,
-      (
-        leaves (λ s. s .x) (a .x .now) told,
-        (leaves (λ s. s .y) (a .y .now) told, leaves (λ s. s .number) (a .number .now) told),
-      ),
-    )
+returns-2 c = rw (c .before .answer2 .given .1) (refl, (refl, (refl, refl)))
 
 pub cross-site-spec : {M : Type 1} → statement M
 cross-site-spec = tie.close (tie.spec enum-known-answer enum-known-answer-2 returns returns-2)

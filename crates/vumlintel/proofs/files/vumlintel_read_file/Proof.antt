@@ -1,9 +1,10 @@
 -- `vumlintel_read_file` meets its contract: each arm returns and writes what its case of the answer tells.
 use borrow.Author.Needs.{needs}
-use mathlib.Core.Path.{ap}
+use mathlib.Core.Path.{refl}
+use Rattle.site.specs.Told.{numberOf}
 use Rattle.site_file.specs.Calls.{fileReadTold}
-use Rattle.vumlintel.specs.Crossing.{numberOf, afterwards}
-use Rattle.vumlintel.proofs.Crossing.{in-case, leaves}
+use Rattle.vumlintel.specs.Crossing.{afterwards}
+use Rattle.vumlintel.proofs.Crossing.{in-case}
 use Rattle.vumlintel.proofs.files.vumlintel_read_file.Statement.{statement}
 use Rattle.vumlintel.proofs.files.vumlintel_read_file.Tie as tie
 
@@ -19,16 +20,12 @@ enum-known-answer-2 c = search needs
 returns : tie.Need-returns
 unfolding fileReadTold numberOf afterwards
 returns c =
-    let a = c .before .before .before .before .before .args in
-    let told = in-case fileReadTold (c .before .answer .given .1) (c .before .before .before .read .ensures) in
-    (ap numberOf told, (leaves (λ v. v .first) (a .first .now) told, leaves (λ v. v .second) (a .second .now) told))
+    rw (← in-case fileReadTold (c .before .answer .given .1) (c .before .before .before .read .ensures)) (refl, (refl, refl))
 
 returns-2 : tie.Need-returns-2
 unfolding fileReadTold numberOf afterwards
 returns-2 c =
-    let a = c .before .before .before .before .before .args in
-    let told = in-case fileReadTold (c .before .answer2 .given .1) (c .before .before .before .read .ensures) in
-    (ap numberOf told, (leaves (λ v. v .first) (a .first .now) told, leaves (λ v. v .second) (a .second .now) told))
+    rw (← in-case fileReadTold (c .before .answer2 .given .1) (c .before .before .before .read .ensures)) (refl, (refl, refl))
 
 pub vumlintel-read-file-spec : {M : Type 1} → statement M
 vumlintel-read-file-spec =

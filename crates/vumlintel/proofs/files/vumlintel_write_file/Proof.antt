@@ -1,9 +1,10 @@
 -- `vumlintel_write_file` meets its contract: each arm returns and writes what its case of the answer tells.
 use borrow.Author.Needs.{needs}
-use mathlib.Core.Path.{ap}
+use mathlib.Core.Path.{refl}
+use Rattle.site.specs.Told.{numberOf}
 use Rattle.site_file.specs.Calls.{writtenTold}
-use Rattle.vumlintel.specs.Crossing.{numberOf, afterwards}
-use Rattle.vumlintel.proofs.Crossing.{in-case, leaves}
+use Rattle.vumlintel.specs.Crossing.{afterwards}
+use Rattle.vumlintel.proofs.Crossing.{in-case}
 use Rattle.vumlintel.proofs.files.vumlintel_write_file.Statement.{statement}
 use Rattle.vumlintel.proofs.files.vumlintel_write_file.Tie as tie
 
@@ -22,9 +23,8 @@ same-length c = search needs
 returns : tie.Need-returns
 unfolding writtenTold numberOf afterwards
 returns c =
-    let call = c .before .before .before .before .before in
-    let told = in-case writtenTold (c .before .answer .given .1) (call .write .ensures .0) in
-    (ap numberOf told, (call .write .ensures .1, leaves (λ n. n) (call .before .before .before .before .before .args .length .now) told))
+    let write = c .before .before .before .before .before .write in
+    rw (← in-case writtenTold (c .before .answer .given .1) (write .ensures .0)) (refl, (write .ensures .1, refl))
 
 same-length-2 : tie.Need-same-length-2
 same-length-2 c = search needs
@@ -32,9 +32,8 @@ same-length-2 c = search needs
 returns-2 : tie.Need-returns-2
 unfolding writtenTold numberOf afterwards
 returns-2 c =
-    let call = c .before .before .before .before .before in
-    let told = in-case writtenTold (c .before .answer2 .given .1) (call .write .ensures .0) in
-    (ap numberOf told, (call .write .ensures .1, leaves (λ n. n) (call .before .before .before .before .before .args .length .now) told))
+    let write = c .before .before .before .before .before .write in
+    rw (← in-case writtenTold (c .before .answer2 .given .1) (write .ensures .0)) (refl, (write .ensures .1, refl))
 
 pub vumlintel-write-file-spec : {M : Type 1} → statement M
 vumlintel-write-file-spec =

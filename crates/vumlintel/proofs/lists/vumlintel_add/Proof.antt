@@ -1,10 +1,10 @@
 -- `vumlintel_add` meets its contract: each arm returns and writes what its case of the answer tells.
 use borrow.Author.Needs.{needs}
-use mathlib.Core.Path.{ap, _∙_}
-use Rattle.site.specs.SiteList.{columns}
-use Rattle.site.specs.Add.{addTold, addedTold, addedColumns}
-use Rattle.vumlintel.specs.Crossing.{numberOf, afterwards}
-use Rattle.vumlintel.proofs.Crossing.{in-case, leaves, site-of}
+use mathlib.Core.Path.{refl}
+use Rattle.site.specs.Told.{numberOf}
+use Rattle.site.specs.Add.{addedTold}
+use Rattle.vumlintel.specs.Crossing.{afterwards}
+use Rattle.vumlintel.proofs.Crossing.{in-case, site-of}
 use Rattle.vumlintel.proofs.lists.vumlintel_add.Statement.{statement}
 use Rattle.vumlintel.proofs.lists.vumlintel_add.Tie as tie
 
@@ -31,18 +31,9 @@ unfolding addedTold numberOf afterwards
 returns c =
     let call = c .before .before .before .before .before .before .before in
     let start = call .before .before .before .before .before in
-    let a = start .args in
-    let list = columns (a .x .now) (a .y .now) (a .number .now) in
-    let new = site-of (a .site-number) (start .fits .site-x) (start .fits .site-y) in
-    let told =
-    in-case addedTold (c .before .answer .given .1) (call .add .ensures .0) ∙ ap (addTold list (a .in-use)) new
-    in (
-      ap numberOf told,
-      (
-        call .add .ensures .1 ∙ ap (addedColumns list (a .in-use)) new,
-        (leaves (λ v. v .place) (a .place .now) told, leaves (λ v. v .count) (a .count .now) told),
-      ),
-    )
+    let new = site-of (start .args .site-number) (start .fits .site-x) (start .fits .site-y) in
+    let told = in-case addedTold (c .before .answer .given .1) (rw new at (call .add .ensures .0)) in
+    rw (← told) (refl, (rw new at (call .add .ensures .1), (refl, refl)))
 
 same-length-4 : tie.Need-same-length-4
 same-length-4 c = search needs
@@ -58,18 +49,9 @@ unfolding addedTold numberOf afterwards
 returns-2 c =
     let call = c .before .before .before .before .before .before .before in
     let start = call .before .before .before .before .before in
-    let a = start .args in
-    let list = columns (a .x .now) (a .y .now) (a .number .now) in
-    let new = site-of (a .site-number) (start .fits .site-x) (start .fits .site-y) in
-    let told =
-    in-case addedTold (c .before .answer2 .given .1) (call .add .ensures .0) ∙ ap (addTold list (a .in-use)) new
-    in (
-      ap numberOf told,
-      (
-        call .add .ensures .1 ∙ ap (addedColumns list (a .in-use)) new,
-        (leaves (λ v. v .place) (a .place .now) told, leaves (λ v. v .count) (a .count .now) told),
-      ),
-    )
+    let new = site-of (start .args .site-number) (start .fits .site-x) (start .fits .site-y) in
+    let told = in-case addedTold (c .before .answer2 .given .1) (rw new at (call .add .ensures .0)) in
+    rw (← told) (refl, (rw new at (call .add .ensures .1), (refl, refl)))
 
 pub vumlintel-add-spec : {M : Type 1} → statement M
 vumlintel-add-spec =

@@ -1,9 +1,10 @@
 -- `vumlintel_check` meets its contract: each arm returns and writes what its case of the answer tells.
 use borrow.Author.Needs.{needs}
-use mathlib.Core.Path.{ap}
+use mathlib.Core.Path.{refl}
+use Rattle.site.specs.Told.{numberOf}
 use Rattle.site.specs.Refusal.{checkedTold}
-use Rattle.vumlintel.specs.Crossing.{numberOf, afterwards}
-use Rattle.vumlintel.proofs.Crossing.{in-case, leaves}
+use Rattle.vumlintel.specs.Crossing.{afterwards}
+use Rattle.vumlintel.proofs.Crossing.{in-case}
 use Rattle.vumlintel.proofs.lists.vumlintel_check.Statement.{statement}
 use Rattle.vumlintel.proofs.lists.vumlintel_check.Tie as tie
 
@@ -19,14 +20,12 @@ enum-known-answer-2 c = search needs
 returns : tie.Need-returns
 unfolding checkedTold numberOf afterwards
 returns c =
-    let told = in-case checkedTold (c .before .answer .given .1) (c .before .before .before .check .ensures) in
-    (ap numberOf told, leaves (λ n. n) (c .before .before .before .before .before .args .count .now) told)
+    rw (← in-case checkedTold (c .before .answer .given .1) (c .before .before .before .check .ensures)) (refl, refl)
 
 returns-2 : tie.Need-returns-2
 unfolding checkedTold numberOf afterwards
 returns-2 c =
-    let told = in-case checkedTold (c .before .answer2 .given .1) (c .before .before .before .check .ensures) in
-    (ap numberOf told, leaves (λ n. n) (c .before .before .before .before .before .args .count .now) told)
+    rw (← in-case checkedTold (c .before .answer2 .given .1) (c .before .before .before .check .ensures)) (refl, refl)
 
 pub vumlintel-check-spec : {M : Type 1} → statement M
 vumlintel-check-spec =

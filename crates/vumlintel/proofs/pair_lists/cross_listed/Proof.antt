@@ -1,9 +1,9 @@
 -- `cross_listed` meets its contract: each arm returns and writes what its case of the answer tells.
 use borrow.Author.Needs.{needs}
-use mathlib.Core.Path.{sym, ap}
+use mathlib.Core.Path.{refl}
+use Rattle.site.specs.Told.{numberOf}
 use Rattle.pairs.specs.KList.{listedTold}
-use Rattle.vumlintel.specs.Crossing.{numberOf, afterwards}
-use Rattle.vumlintel.proofs.Crossing.{leaves}
+use Rattle.vumlintel.specs.Crossing.{afterwards}
 use Rattle.vumlintel.proofs.pair_lists.cross_listed.Statement.{statement}
 use Rattle.vumlintel.proofs.pair_lists.cross_listed.Tie as tie
 
@@ -15,27 +15,11 @@ enum-known-answer-2 c = search needs
 
 returns : tie.Need-returns
 unfolding listedTold numberOf afterwards
-returns c =
-    let a = c .before .before .before .args in
-    let told = sym (ap listedTold (c .before .answer .given .1)) in (
-      ap numberOf told,
-      (
-        leaves (λ v. v .count) (a .entries .now) told,
-        (leaves (λ v. v .looks) (a .looks .now) told, leaves (λ v. v .distances) (a .distances .now) told),
-      ),
-    )
+returns c = rw (c .before .answer .given .1) (refl, (refl, (refl, refl)))
 
 returns-2 : tie.Need-returns-2
 unfolding listedTold numberOf afterwards
-returns-2 c =
-    let a = c .before .before .before .args in
-    let told = sym (ap listedTold (c .before .answer2 .given .1)) in (
-      ap numberOf told,
-      (
-        leaves (λ v. v .count) (a .entries .now) told,
-        (leaves (λ v. v .looks) (a .looks .now) told, leaves (λ v. v .distances) (a .distances .now) told),
-      ),
-    )
+returns-2 c = rw (c .before .answer2 .given .1) (refl, (refl, (refl, refl)))
 
 pub cross-listed-spec : {M : Type 1} → statement M
 cross-listed-spec = tie.close (tie.spec enum-known-answer enum-known-answer-2 returns returns-2)

@@ -1,9 +1,10 @@
 -- `vumlintel_distance_list` meets its contract: each arm returns and writes what its case of the answer tells.
 use borrow.Author.Needs.{needs}
-use mathlib.Core.Path.{ap}
+use mathlib.Core.Path.{refl}
+use Rattle.site.specs.Told.{numberOf}
 use Rattle.pairs.specs.DistanceList.{withinTold}
-use Rattle.vumlintel.specs.Crossing.{numberOf, afterwards}
-use Rattle.vumlintel.proofs.Crossing.{in-case, leaves}
+use Rattle.vumlintel.specs.Crossing.{afterwards}
+use Rattle.vumlintel.proofs.Crossing.{in-case}
 use Rattle.vumlintel.proofs.pair_lists.vumlintel_distance_list.Statement.{statement}
 use Rattle.vumlintel.proofs.pair_lists.vumlintel_distance_list.Tie as tie
 
@@ -25,14 +26,8 @@ same-length-2 c = search needs
 returns : tie.Need-returns
 unfolding withinTold numberOf afterwards
 returns c =
-    let call = c .before .before .before .before .before .before .before in
-    let told = in-case withinTold (c .before .answer .given .1) (call .distance-list .ensures .0) in (
-      ap numberOf told,
-      (
-        call .distance-list .ensures .1 .0,
-        (call .distance-list .ensures .1 .1, leaves (λ n. n) (call .before .before .before .before .before .before .before .args .count .now) told),
-      ),
-    )
+    let call = c .before .before .before .before .before .before .before .distance-list .ensures in
+    rw (← in-case withinTold (c .before .answer .given .1) (call .0)) (refl, (call .1 .0, (call .1 .1, refl)))
 
 same-length-3 : tie.Need-same-length-3
 same-length-3 c = search needs
@@ -43,14 +38,8 @@ same-length-4 c = search needs
 returns-2 : tie.Need-returns-2
 unfolding withinTold numberOf afterwards
 returns-2 c =
-    let call = c .before .before .before .before .before .before .before in
-    let told = in-case withinTold (c .before .answer2 .given .1) (call .distance-list .ensures .0) in (
-      ap numberOf told,
-      (
-        call .distance-list .ensures .1 .0,
-        (call .distance-list .ensures .1 .1, leaves (λ n. n) (call .before .before .before .before .before .before .before .args .count .now) told),
-      ),
-    )
+    let call = c .before .before .before .before .before .before .before .distance-list .ensures in
+    rw (← in-case withinTold (c .before .answer2 .given .1) (call .0)) (refl, (call .1 .0, (call .1 .1, refl)))
 
 pub vumlintel-distance-list-spec : {M : Type 1} → statement M
 vumlintel-distance-list-spec =
