@@ -16,21 +16,6 @@ unfolding overwritten
 within text before p q =
     omega (arith, ap length q ∙ length-append text (drop (length text) before))
 
-slice-aggregate-read-full : tie.Need-slice-aggregate-read-full
-slice-aggregate-read-full c = search needs
-
-read-full-requires : tie.Need-read-full-requires
-read-full-requires c κs = search needs
-
-array-share-prefix-input : tie.Need-array-share-prefix-input
-array-share-prefix-input c = search needs
-
-slice-aggregate-list-cases : tie.Need-slice-aggregate-list-cases
-slice-aggregate-list-cases c = search needs
-
-list-cases-requires : tie.Need-list-cases-requires
-list-cases-requires c κs = search needs
-
 array-share-prefix-out : tie.Need-array-share-prefix-out
 array-share-prefix-out c = within _ _ (c .list-cases .ensures .0) (c .list-cases .ensures .1)
 
@@ -39,22 +24,16 @@ slice-aggregate-write-all c =
     let listed = c .before .list-cases .ensures in
     sym (length-take-le _ _ (within _ _ (listed .0) (listed .1)))
 
-write-all-requires : tie.Need-write-all-requires
-write-all-requires c κs = search needs
-
-returns : tie.Need-returns
-returns c = search needs
-
 pub main-spec : {M : Type 1} → statement M
 main-spec =
     tie.close
     (tie.spec
-    slice-aggregate-read-full
-    read-full-requires
-    array-share-prefix-input
-    slice-aggregate-list-cases
-    list-cases-requires
+    (λ c. search needs)
+    (λ c κs. search needs)
+    (λ c. search needs)
+    (λ c. search needs)
+    (λ c κs. search needs)
     array-share-prefix-out
     slice-aggregate-write-all
-    write-all-requires
-    returns)
+    (λ c κs. search needs)
+    (λ c. search needs))

@@ -5,17 +5,8 @@ use lib.ListN.{List·getD-eq-default}
 use Rattle.column.proofs.get_u64.Statement.{statement}
 use Rattle.column.proofs.get_u64.Tie as tie
 
-mul-result : tie.Need-mul-result
-mul-result c = search needs
-
-shared-slice-read-result : tie.Need-shared-slice-read-result
-shared-slice-read-result c = search needs
-
-returns : tie.Need-returns
-returns c = search needs
-
 returns-2 : tie.Need-returns-2
 returns-2 c = sym (List·getD-eq-default (c .before .args .column .now) 0 (c .if1 .left))
 
 pub get-u64-spec : {M : Type 1} → statement M
-get-u64-spec = tie.close (tie.spec mul-result shared-slice-read-result returns returns-2)
+get-u64-spec = tie.close (tie.spec (λ c. search needs) (λ c. search needs) (λ c. search needs) returns-2)

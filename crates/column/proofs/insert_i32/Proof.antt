@@ -5,27 +5,6 @@ use borrow.Author.Needs.{needs}
 use Rattle.column.proofs.insert_i32.Statement.{statement}
 use Rattle.column.proofs.insert_i32.Tie as tie
 
-mul-push-i32 : tie.Need-mul-push-i32
-mul-push-i32 c = search needs
-
-sub-push-i32 : tie.Need-sub-push-i32
-sub-push-i32 c = search needs
-
-part-push-i32-start : tie.Need-part-push-i32-start
-part-push-i32-start c = search needs
-
-part-push-i32-end : tie.Need-part-push-i32-end
-part-push-i32-end c = search needs
-
-sub-push-i32-2 : tie.Need-sub-push-i32-2
-sub-push-i32-2 c = search needs
-
-push-i32-requires : tie.Need-push-i32-requires
-push-i32-requires c κs = search needs
-
-same-length : tie.Need-same-length
-same-length c = search needs
-
 returns : tie.Need-returns
 returns c =
     let s = c .before .before .before in
@@ -35,11 +14,11 @@ pub insert-i32-spec : {M : Type 1} → statement M
 insert-i32-spec =
     tie.close
     (tie.spec
-    mul-push-i32
-    sub-push-i32
-    part-push-i32-start
-    part-push-i32-end
-    sub-push-i32-2
-    push-i32-requires
-    same-length
+    (λ c. search needs)
+    (λ c. search needs)
+    (λ c. search needs)
+    (λ c. search needs)
+    (λ c. search needs)
+    (λ c κs. search needs)
+    (λ c. search needs)
     returns)

@@ -5,27 +5,6 @@ use borrow.Author.Needs.{needs}
 use Rattle.column.proofs.insert_u32.Statement.{statement}
 use Rattle.column.proofs.insert_u32.Tie as tie
 
-mul-push-u32 : tie.Need-mul-push-u32
-mul-push-u32 c = search needs
-
-sub-push-u32 : tie.Need-sub-push-u32
-sub-push-u32 c = search needs
-
-part-push-u32-start : tie.Need-part-push-u32-start
-part-push-u32-start c = search needs
-
-part-push-u32-end : tie.Need-part-push-u32-end
-part-push-u32-end c = search needs
-
-sub-push-u32-2 : tie.Need-sub-push-u32-2
-sub-push-u32-2 c = search needs
-
-push-u32-requires : tie.Need-push-u32-requires
-push-u32-requires c κs = search needs
-
-same-length : tie.Need-same-length
-same-length c = search needs
-
 returns : tie.Need-returns
 returns c =
     let s = c .before .before .before .before .before in
@@ -35,11 +14,11 @@ pub insert-u32-spec : {M : Type 1} → statement M
 insert-u32-spec =
     tie.close
     (tie.spec
-    mul-push-u32
-    sub-push-u32
-    part-push-u32-start
-    part-push-u32-end
-    sub-push-u32-2
-    push-u32-requires
-    same-length
+    (λ c. search needs)
+    (λ c. search needs)
+    (λ c. search needs)
+    (λ c. search needs)
+    (λ c. search needs)
+    (λ c κs. search needs)
+    (λ c. search needs)
     returns)

@@ -5,27 +5,6 @@ use borrow.Author.Needs.{needs}
 use Rattle.column.proofs.insert_u64.Statement.{statement}
 use Rattle.column.proofs.insert_u64.Tie as tie
 
-mul-push-u64 : tie.Need-mul-push-u64
-mul-push-u64 c = search needs
-
-sub-push-u64 : tie.Need-sub-push-u64
-sub-push-u64 c = search needs
-
-part-push-u64-start : tie.Need-part-push-u64-start
-part-push-u64-start c = search needs
-
-part-push-u64-end : tie.Need-part-push-u64-end
-part-push-u64-end c = search needs
-
-sub-push-u64-2 : tie.Need-sub-push-u64-2
-sub-push-u64-2 c = search needs
-
-push-u64-requires : tie.Need-push-u64-requires
-push-u64-requires c κs = search needs
-
-same-length : tie.Need-same-length
-same-length c = search needs
-
 returns : tie.Need-returns
 returns c =
     let s = c .before .before .before .before .before in
@@ -35,11 +14,11 @@ pub insert-u64-spec : {M : Type 1} → statement M
 insert-u64-spec =
     tie.close
     (tie.spec
-    mul-push-u64
-    sub-push-u64
-    part-push-u64-start
-    part-push-u64-end
-    sub-push-u64-2
-    push-u64-requires
-    same-length
+    (λ c. search needs)
+    (λ c. search needs)
+    (λ c. search needs)
+    (λ c. search needs)
+    (λ c. search needs)
+    (λ c κs. search needs)
+    (λ c. search needs)
     returns)

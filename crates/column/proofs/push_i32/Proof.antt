@@ -16,32 +16,8 @@ abbrev μ-loop : tie.MeasureT-loop
 loop-holds : tie.Need-loop-holds Inv-loop μ-loop
 loop-holds c = moving-starts (pos 0) _ _ _ (search needs) (search needs)
 
-sub-column : tie.Need-sub-column Inv-loop μ-loop
-sub-column c = search needs
-
-mul-column : tie.Need-mul-column Inv-loop μ-loop
-mul-column c = search needs
-
-slice-copy-out-column : tie.Need-slice-copy-out-column Inv-loop μ-loop
-slice-copy-out-column c = search needs
-
-mul-t10 : tie.Need-mul-t10 Inv-loop μ-loop
-mul-t10 c = search needs
-
-slice-set-from-column : tie.Need-slice-set-from-column Inv-loop μ-loop
-slice-set-from-column c = search needs
-
-sub-i : tie.Need-sub-i Inv-loop μ-loop
-sub-i c = search needs
-
-loop-less : tie.Need-loop-less Inv-loop μ-loop
-loop-less c = search needs
-
 loop-again : tie.Need-loop-again Inv-loop μ-loop
 loop-again c = moving-more (pos 0) _ _ _ (search needs) _ _ (search needs) (toZ-ofZ (sfits-of (c .column .given))) (c .before .before .loop .inv)
-
-slice-set-from-v : tie.Need-slice-set-from-v Inv-loop μ-loop
-slice-set-from-v c = search needs
 
 same-length : tie.Need-same-length Inv-loop μ-loop
 same-length c = simp length-set (search needs)
@@ -56,14 +32,14 @@ push-i32-spec =
     Inv-loop
     μ-loop
     loop-holds
-    sub-column
-    mul-column
-    slice-copy-out-column
-    mul-t10
-    slice-set-from-column
-    sub-i
-    loop-less
+    (λ c. search needs)
+    (λ c. search needs)
+    (λ c. search needs)
+    (λ c. search needs)
+    (λ c. search needs)
+    (λ c. search needs)
+    (λ c. search needs)
     loop-again
-    slice-set-from-v
+    (λ c. search needs)
     same-length
     returns)

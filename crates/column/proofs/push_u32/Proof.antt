@@ -15,32 +15,8 @@ abbrev μ-loop : tie.MeasureT-loop
 loop-holds : tie.Need-loop-holds Inv-loop μ-loop
 loop-holds c = moving-starts 0 _ _ _ (search needs) (search needs)
 
-sub-column : tie.Need-sub-column Inv-loop μ-loop
-sub-column c = search needs
-
-mul-column : tie.Need-mul-column Inv-loop μ-loop
-mul-column c = search needs
-
-slice-read-column : tie.Need-slice-read-column Inv-loop μ-loop
-slice-read-column c = search needs
-
-mul-column-2 : tie.Need-mul-column-2 Inv-loop μ-loop
-mul-column-2 c = search needs
-
-slice-write-column : tie.Need-slice-write-column Inv-loop μ-loop
-slice-write-column c = search needs
-
-sub-i : tie.Need-sub-i Inv-loop μ-loop
-sub-i c = search needs
-
-loop-less : tie.Need-loop-less Inv-loop μ-loop
-loop-less c = search needs
-
 loop-again : tie.Need-loop-again Inv-loop μ-loop
 loop-again c = moving-more 0 _ _ _ (search needs) _ _ (search needs) refl (c .before .before .loop .inv)
-
-slice-write-column-2 : tie.Need-slice-write-column-2 Inv-loop μ-loop
-slice-write-column-2 c = search needs
 
 same-length : tie.Need-same-length Inv-loop μ-loop
 same-length c = simp length-set (search needs)
@@ -55,14 +31,14 @@ push-u32-spec =
     Inv-loop
     μ-loop
     loop-holds
-    sub-column
-    mul-column
-    slice-read-column
-    mul-column-2
-    slice-write-column
-    sub-i
-    loop-less
+    (λ c. search needs)
+    (λ c. search needs)
+    (λ c. search needs)
+    (λ c. search needs)
+    (λ c. search needs)
+    (λ c. search needs)
+    (λ c. search needs)
     loop-again
-    slice-write-column-2
+    (λ c. search needs)
     same-length
     returns)

@@ -8,15 +8,6 @@ use Rattle.entry.proofs.offer.Tie as tie
 place-requires : tie.Need-place-requires
 place-requires c κs = ready-whole _ _ _ (c .before .before .before .before .before .before .pre)
 
-same-length : tie.Need-same-length
-same-length c = search needs
-
-same-length-2 : tie.Need-same-length-2
-same-length-2 c = search needs
-
-same-length-3 : tie.Need-same-length-3
-same-length-3 c = search needs
-
 returns : tie.Need-returns
 returns c = offer-keeps _ _ _ (c .before .before .before .before .before .before .before .before .pre) _ _ (c .before .place .ensures) (c .if1 .taken)
 
@@ -67,9 +58,9 @@ offer-spec =
     tie.close
     (tie.spec
     place-requires
-    same-length
-    same-length-2
-    same-length-3
+    (λ c. search needs)
+    (λ c. search needs)
+    (λ c. search needs)
     returns
     stay-requires
     insert-u64-requires

@@ -19,17 +19,8 @@ full column count k i read at e = rw (eq-eqb count k e, ← at) read
 returns : tie.Need-returns
 returns c = simp (ne-eqb (c .before .before .args .count) (c .before .before .args .k) (c .if1 .taken))
 
-get-u64-requires : tie.Need-get-u64-requires
-get-u64-requires c κs = search needs
-
 returns-2 : tie.Need-returns-2
 returns-2 c = let a = c .before .before .before .before .args in full (a .distance .now) (a .count) (a .k) 0 (c .get-u64 .ensures) (omega arith) (omega arith)
-
-sub-get-u64 : tie.Need-sub-get-u64
-sub-get-u64 c = search needs
-
-get-u64-requires-2 : tie.Need-get-u64-requires-2
-get-u64-requires-2 c κs = search needs
 
 returns-3 : tie.Need-returns-3
 returns-3 c = let a = c .before .before .before .before .args in full (a .distance .now) (a .count) (a .k) (a .count - 1) (c .get-u642 .ensures) refl (omega arith)
@@ -37,4 +28,4 @@ returns-3 c = let a = c .before .before .before .before .args in full (a .distan
 pub reach-spec : {M : Type 1} → statement M
 reach-spec =
     tie.close
-    (tie.spec returns get-u64-requires returns-2 sub-get-u64 get-u64-requires-2 returns-3)
+    (tie.spec returns (λ c κs. search needs) returns-2 (λ c. search needs) (λ c κs. search needs) returns-3)

@@ -6,21 +6,12 @@ use Rattle.listing.proofs.Decimal.{power-positive}
 use Rattle.listing.proofs.digit.Statement.{statement}
 use Rattle.listing.proofs.digit.Tie as tie
 
-power-requires : tie.Need-power-requires
-power-requires c κs = search needs
-
 div-result : tie.Need-div-result
 div-result c = omega (arith, power-positive (c .before .args .i))
-
-cast-result : tie.Need-cast-result
-cast-result c = search needs
-
-add-result : tie.Need-add-result
-add-result c = search needs
 
 returns : tie.Need-returns
 unfolding digitAt
 returns c = rw (c .power .ensures)
 
 pub digit-spec : {M : Type 1} → statement M
-digit-spec = tie.close (tie.spec power-requires div-result cast-result add-result returns)
+digit-spec = tie.close (tie.spec (λ c κs. search needs) div-result (λ c. search needs) (λ c. search needs) returns)

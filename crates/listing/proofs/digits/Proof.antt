@@ -15,17 +15,8 @@ abbrev μ-loop : tie.MeasureT-loop
 loop-holds : tie.Need-loop-holds Inv-loop μ-loop
 loop-holds c = (search needs, search needs, λ h. absurd (omega arith))
 
-power-requires : tie.Need-power-requires Inv-loop μ-loop
-power-requires c κs = search needs
-
 returns : tie.Need-returns Inv-loop μ-loop
 returns c = digits-found _ _ (search needs) (search needs) (omega (arith, c .before .power .ensures)) (c .before .before .before .loop .inv .2)
-
-add-count : tie.Need-add-count Inv-loop μ-loop
-add-count c = search needs
-
-loop-less : tie.Need-loop-less Inv-loop μ-loop
-loop-less c = search needs
 
 loop-again : tie.Need-loop-again Inv-loop μ-loop
 loop-again c = (search needs, search needs, λ h. power-passed _ _ (omega (arith, c .before .power .ensures)))
@@ -40,9 +31,9 @@ digits-spec =
     Inv-loop
     μ-loop
     loop-holds
-    power-requires
+    (λ c κs. search needs)
     returns
-    add-count
-    loop-less
+    (λ c. search needs)
+    (λ c. search needs)
     loop-again
     returns-2)

@@ -4,14 +4,8 @@ use borrow.Author.Needs.{needs}
 use Rattle.listing.proofs.file_refusal.Statement.{statement}
 use Rattle.listing.proofs.file_refusal.Tie as tie
 
-read-requires : tie.Need-read-requires
-read-requires c κs = search needs
-
 enum-told : tie.Need-enum-told
 enum-told c = search needs
-
-enum-known-number : tie.Need-enum-known-number
-enum-known-number c = search needs
 
 returns : tie.Need-returns
 returns c = read-none _ (c .before .before .read .ensures) (c .enum-told .given .1)
@@ -21,4 +15,4 @@ returns-2 c = read-number _ (c .before .before .before .read .ensures) (c .befor
 
 pub file-refusal-spec : {M : Type 1} → statement M
 file-refusal-spec =
-    tie.close (tie.spec read-requires enum-told enum-known-number returns returns-2)
+    tie.close (tie.spec (λ c κs. search needs) enum-told (λ c. search needs) returns returns-2)

@@ -11,26 +11,8 @@ returns c = input-long _ (search needs)
 returns-2 : tie.Need-returns-2
 returns-2 c = input-short _ (search needs)
 
-sub-file-refusal : tie.Need-sub-file-refusal
-sub-file-refusal c = search needs
-
-part-file-refusal-start : tie.Need-part-file-refusal-start
-part-file-refusal-start c = search needs
-
-part-file-refusal-end : tie.Need-part-file-refusal-end
-part-file-refusal-end c = search needs
-
-file-refusal-requires : tie.Need-file-refusal-requires
-file-refusal-requires c κs = search needs
-
 returns-3 : tie.Need-returns-3
 returns-3 c = input-file _ (search needs) (search needs) (c .before .file-refusal .ensures) (c .if3 .taken)
-
-word-at-requires : tie.Need-word-at-requires
-word-at-requires c κs = search needs
-
-lawful-k-requires : tie.Need-lawful-k-requires
-lawful-k-requires c κs = search needs
 
 returns-4 : tie.Need-returns-4
 returns-4 c =
@@ -46,12 +28,12 @@ input-refusal-spec =
     (tie.spec
     returns
     returns-2
-    sub-file-refusal
-    part-file-refusal-start
-    part-file-refusal-end
-    file-refusal-requires
+    (λ c. search needs)
+    (λ c. search needs)
+    (λ c. search needs)
+    (λ c κs. search needs)
     returns-3
-    word-at-requires
-    lawful-k-requires
+    (λ c κs. search needs)
+    (λ c κs. search needs)
     returns-4
     returns-5)

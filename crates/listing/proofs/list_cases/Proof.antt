@@ -5,26 +5,17 @@ use borrow.Author.Needs.{needs}
 use Rattle.listing.proofs.list_cases.Statement.{statement}
 use Rattle.listing.proofs.list_cases.Tie as tie
 
-input-refusal-requires : tie.Need-input-refusal-requires
-input-refusal-requires c κs = search needs
-
 put-refused-requires : tie.Need-put-refused-requires
 put-refused-requires c κs = omega (arith, c .put-refused-arg .given .0 .1)
 
 returns : tie.Need-returns
 returns c = put-start (listing-refused _ _ (c .before .before .before .input-refusal .ensures) (c .before .before .if1 .taken)) (c .put-refused .ensures)
 
-word-at-requires : tie.Need-word-at-requires
-word-at-requires c κs = search needs
-
 sub-list-file : tie.Need-sub-list-file
 sub-list-file c = taken _ (c .before .before .input-refusal .ensures) (c .before .if1 .left) .least
 
 part-list-file-start : tie.Need-part-list-file-start
 part-list-file-start c = taken _ (c .before .before .input-refusal .ensures) (c .before .if1 .left) .least
-
-part-list-file-end : tie.Need-part-list-file-end
-part-list-file-end c = search needs
 
 list-file-requires : tie.Need-list-file-requires
 list-file-requires c κs =
@@ -37,12 +28,12 @@ pub list-cases-spec : {M : Type 1} → statement M
 list-cases-spec =
     tie.close
     (tie.spec
-    input-refusal-requires
+    (λ c κs. search needs)
     put-refused-requires
     returns
-    word-at-requires
+    (λ c κs. search needs)
     sub-list-file
     part-list-file-start
-    part-list-file-end
+    (λ c. search needs)
     list-file-requires
     returns-2)

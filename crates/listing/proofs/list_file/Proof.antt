@@ -6,18 +6,6 @@ use borrow.Author.Needs.{needs}
 use Rattle.listing.proofs.list_file.Statement.{statement}
 use Rattle.listing.proofs.list_file.Tie as tie
 
-count-in-requires : tie.Need-count-in-requires
-count-in-requires c κs = search needs
-
-cast-n : tie.Need-cast-n
-cast-n c = search needs
-
-count-in-requires-2 : tie.Need-count-in-requires-2
-count-in-requires-2 c κs = search needs
-
-cast-m : tie.Need-cast-m
-cast-m c = search needs
-
 array-borrow-prefix-ax : tie.Need-array-borrow-prefix-ax
 array-borrow-prefix-ax c = file-few (c .before .before .before .before .pre) First (c .before .count-in .ensures)
 
@@ -58,20 +46,14 @@ list-sites-requires : tie.Need-list-sites-requires
 list-sites-requires c κs =
     (c .before .before .before .before .before .before .before .before .before .before .before .pre .0, (zeros-sized _ (c .before .before .before .before .before .before .before .before .count-in .ensures) (file-few (c .before .before .before .before .before .before .before .before .before .before .before .pre) First (c .before .before .before .before .before .before .before .before .count-in .ensures)), zeros-sized _ (c .before .before .before .before .before .before .before .count-in2 .ensures) (file-few (c .before .before .before .before .before .before .before .before .before .before .before .pre) Second (c .before .before .before .before .before .before .before .count-in2 .ensures))))
 
-same-length : tie.Need-same-length
-same-length c = search needs
-
-returns : tie.Need-returns
-returns c = search needs
-
 pub list-file-spec : {M : Type 1} → statement M
 list-file-spec =
     tie.close
     (tie.spec
-    count-in-requires
-    cast-n
-    count-in-requires-2
-    cast-m
+    (λ c κs. search needs)
+    (λ c. search needs)
+    (λ c κs. search needs)
+    (λ c. search needs)
     array-borrow-prefix-ax
     slice-aggregate-list-sites
     array-borrow-prefix-ay
@@ -85,5 +67,5 @@ list-file-spec =
     array-borrow-prefix-bn
     slice-aggregate-list-sites-6
     list-sites-requires
-    same-length
-    returns)
+    (λ c. search needs)
+    (λ c. search needs))

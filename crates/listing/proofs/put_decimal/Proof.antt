@@ -10,32 +10,11 @@ Inv-loop out₀ at n left₀ next₀ out left next = Lowest n at out₀ left out
 abbrev μ-loop : tie.MeasureT-loop
 μ-loop out₀ at n left₀ next₀ out left next = left
 
-digits-requires : tie.Need-digits-requires Inv-loop μ-loop
-digits-requires c κs = search needs
-
 loop-holds : tie.Need-loop-holds Inv-loop μ-loop
 loop-holds c = lowest-starts _ _ _ (search needs) (c .digits .ensures)
 
-sub-left : tie.Need-sub-left Inv-loop μ-loop
-sub-left c = search needs
-
-digit-requires : tie.Need-digit-requires Inv-loop μ-loop
-digit-requires c κs = search needs
-
-slice-write-out : tie.Need-slice-write-out Inv-loop μ-loop
-slice-write-out c = search needs
-
-add-next : tie.Need-add-next Inv-loop μ-loop
-add-next c = search needs
-
-loop-less : tie.Need-loop-less Inv-loop μ-loop
-loop-less c = search needs
-
 loop-again : tie.Need-loop-again Inv-loop μ-loop
 loop-again c = lowest-more _ _ _ _ _ _ (search needs) (c .digit .ensures) (c .before .before .loop .inv)
-
-same-length : tie.Need-same-length Inv-loop μ-loop
-same-length c = search needs
 
 returns : tie.Need-returns Inv-loop μ-loop
 returns c = lowest-ends _ _ _ _ _ (search needs) (c .before .loop .inv)
@@ -46,13 +25,13 @@ put-decimal-spec =
     (tie.spec
     Inv-loop
     μ-loop
-    digits-requires
+    (λ c κs. search needs)
     loop-holds
-    sub-left
-    digit-requires
-    slice-write-out
-    add-next
-    loop-less
+    (λ c. search needs)
+    (λ c κs. search needs)
+    (λ c. search needs)
+    (λ c. search needs)
+    (λ c. search needs)
     loop-again
-    same-length
+    (λ c. search needs)
     returns)

@@ -22,17 +22,8 @@ put-entry-at-requires c κs =
     let inv = c .before .before .loop .inv in
     (entering-here _ _ _ _ _ _ (c .before .loop-test .taken) inv, omega (arith, inv .room, c .before .loop-test .taken))
 
-add-i : tie.Need-add-i Inv-loop μ-loop
-add-i c = search needs
-
-loop-less : tie.Need-loop-less Inv-loop μ-loop
-loop-less c = search needs
-
 loop-again : tie.Need-loop-again Inv-loop μ-loop
 loop-again c = entering-more _ _ _ _ _ _ (c .before .before .before .before .loop-test .taken) (c .before .before .before .before .before .loop .inv) (c .before .before .put-entry-at .ensures)
-
-same-length : tie.Need-same-length Inv-loop μ-loop
-same-length c = search needs
 
 returns : tie.Need-returns Inv-loop μ-loop
 returns c = entering-ends _ _ _ _ _ _ (search needs) (c .before .loop .inv)
@@ -45,8 +36,8 @@ put-entries-spec =
     μ-loop
     loop-holds
     put-entry-at-requires
-    add-i
-    loop-less
+    (λ c. search needs)
+    (λ c. search needs)
     loop-again
-    same-length
+    (λ c. search needs)
     returns)

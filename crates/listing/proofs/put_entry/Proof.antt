@@ -5,9 +5,6 @@ use borrow.Author.Needs.{needs}
 use Rattle.listing.proofs.put_entry.Statement.{statement}
 use Rattle.listing.proofs.put_entry.Tie as tie
 
-put-field-requires : tie.Need-put-field-requires
-put-field-requires c κs = search needs
-
 put-field-requires-2 : tie.Need-put-field-requires-2
 put-field-requires-2 c κs = omega (arith, field-next _ _ (c .before .before .before .put-field .ensures), c .before .before .before .put-field .kept, c .before .before .before .before .before .before .pre)
 
@@ -17,9 +14,6 @@ put-field-requires-3 c κs = omega (arith, field-next _ _ (c .before .before .be
 put-field-requires-4 : tie.Need-put-field-requires-4
 put-field-requires-4 c κs = omega (arith, field-next _ _ (c .before .before .before .put-field3 .ensures), c .before .before .before .put-field3 .kept, field-next _ _ (c .before .before .before .before .before .before .before .put-field2 .ensures), c .before .before .before .before .before .before .before .put-field2 .kept, field-next _ _ (c .before .before .before .before .before .before .before .before .before .before .before .put-field .ensures), c .before .before .before .before .before .before .before .before .before .before .before .put-field .kept, c .before .before .before .before .before .before .before .before .before .before .before .before .before .before .pre)
 
-same-length : tie.Need-same-length
-same-length c = search needs
-
 returns : tie.Need-returns
 returns c = entry-put _ _ _ _ (c .before .before .before .before .before .before .before .before .before .before .before .before .before .before .before .before .before .pre) (c .before .before .before .before .before .before .before .before .before .before .before .before .before .before .put-field .ensures) (c .before .before .before .before .before .before .before .before .before .before .put-field2 .ensures) (c .before .before .before .before .before .before .put-field3 .ensures) (c .before .before .put-field4 .ensures)
 
@@ -27,9 +21,9 @@ pub put-entry-spec : {M : Type 1} → statement M
 put-entry-spec =
     tie.close
     (tie.spec
-    put-field-requires
+    (λ c κs. search needs)
     put-field-requires-2
     put-field-requires-3
     put-field-requires-4
-    same-length
+    (λ c. search needs)
     returns)

@@ -5,21 +5,15 @@ use borrow.Author.Needs.{needs}
 use Rattle.listing.proofs.put_field.Statement.{statement}
 use Rattle.listing.proofs.put_field.Tie as tie
 
-put-decimal-requires : tie.Need-put-decimal-requires
-put-decimal-requires c κs = search needs
-
 slice-write-out : tie.Need-slice-write-out
 slice-write-out c = decimal-room _ (c .before .before .before .before .before .pre) (c .before .before .put-decimal .ensures)
 
 add-result : tie.Need-add-result
 add-result c = omega (arith, decimal-room _ (c .before .before .before .before .before .pre) (c .before .before .put-decimal .ensures))
 
-same-length : tie.Need-same-length
-same-length c = search needs
-
 returns : tie.Need-returns
 returns c = field-put _ (c .before .before .before .before .before .pre) (c .before .before .put-decimal .ensures) _
 
 pub put-field-spec : {M : Type 1} → statement M
 put-field-spec =
-    tie.close (tie.spec put-decimal-requires slice-write-out add-result same-length returns)
+    tie.close (tie.spec (λ c κs. search needs) slice-write-out add-result (λ c. search needs) returns)

@@ -5,26 +5,11 @@ use borrow.Author.Needs.{needs}
 use Rattle.listing.proofs.put_heading.Statement.{statement}
 use Rattle.listing.proofs.put_heading.Tie as tie
 
-slice-aggregate-put-bytes : tie.Need-slice-aggregate-put-bytes
-slice-aggregate-put-bytes c = search needs
-
-put-bytes-requires : tie.Need-put-bytes-requires
-put-bytes-requires c κs = search needs
-
-put-field-requires : tie.Need-put-field-requires
-put-field-requires c κs = search needs
-
-slice-aggregate-put-bytes-2 : tie.Need-slice-aggregate-put-bytes-2
-slice-aggregate-put-bytes-2 c = search needs
-
 put-bytes-requires-2 : tie.Need-put-bytes-requires-2
 put-bytes-requires-2 c κs = omega (arith, field-next _ _ (c .before .before .before .before .put-field .ensures), c .before .before .before .before .put-field .kept, c .before .before .before .before .before .before .before .before .put-bytes .ensures .position, c .before .before .before .before .before .before .before .before .put-bytes .kept, c .before .before .before .before .before .before .before .before .before .before .before .before .pre)
 
 put-field-requires-2 : tie.Need-put-field-requires-2
 put-field-requires-2 c κs = omega (arith, c .before .before .before .put-bytes2 .ensures .position, c .before .before .before .put-bytes2 .kept, field-next _ _ (c .before .before .before .before .before .before .before .before .put-field .ensures), c .before .before .before .before .before .before .before .before .put-field .kept, c .before .before .before .before .before .before .before .before .before .before .before .before .put-bytes .ensures .position, c .before .before .before .before .before .before .before .before .before .before .before .before .put-bytes .kept, c .before .before .before .before .before .before .before .before .before .before .before .before .before .before .before .before .pre)
-
-same-length : tie.Need-same-length
-same-length c = search needs
 
 returns : tie.Need-returns
 returns c = heading-put _ _ (c .before .before .before .before .before .before .before .before .before .before .before .before .before .before .before .before .before .before .before .pre) (c .before .before .before .before .before .before .before .before .before .before .before .before .before .before .before .put-bytes .ensures) (c .before .before .before .before .before .before .before .before .before .before .before .put-field .ensures) (c .before .before .before .before .before .before .put-bytes2 .ensures) (c .before .before .put-field2 .ensures)
@@ -33,11 +18,11 @@ pub put-heading-spec : {M : Type 1} → statement M
 put-heading-spec =
     tie.close
     (tie.spec
-    slice-aggregate-put-bytes
-    put-bytes-requires
-    put-field-requires
-    slice-aggregate-put-bytes-2
+    (λ c. search needs)
+    (λ c κs. search needs)
+    (λ c κs. search needs)
+    (λ c. search needs)
     put-bytes-requires-2
     put-field-requires-2
-    same-length
+    (λ c. search needs)
     returns)

@@ -15,12 +15,9 @@ put-entries-requires : tie.Need-put-entries-requires
 put-entries-requires c κs =
     (c .before .before .before .before .before .before .before .before .before .before .before .pre .0, omega (arith, c .before .before .before .before .before .before .before .before .before .before .before .pre .1 .2, heading-next _ _ (c .before .before .before .put-heading .ensures), c .before .before .before .put-heading .kept))
 
-same-length : tie.Need-same-length
-same-length c = search needs
-
 returns : tie.Need-returns
 returns c = text-put _ _ _ _ _ (c .before .before .before .before .before .before .before .before .before .before .before .before .before .before .pre .0) (omega (arith, c .before .before .before .before .before .before .before .before .before .before .before .before .before .before .pre .1 .2)) (c .before .before .before .before .before .before .put-heading .ensures) (c .before .before .put-entries .ensures)
 
 pub put-text-spec : {M : Type 1} → statement M
 put-text-spec =
-    tie.close (tie.spec mul-total put-heading-requires put-entries-requires same-length returns)
+    tie.close (tie.spec mul-total put-heading-requires put-entries-requires (λ c. search needs) returns)

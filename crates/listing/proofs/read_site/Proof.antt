@@ -10,41 +10,8 @@ cast-consult : tie.Need-cast-consult
 cast-consult c =
     let start = c .before .before in let g = inside _ (start .args .which) (laid _ (start .pre .0 .0)) in omega (arith, start .pre .0 .1)
 
-consult-requires : tie.Need-consult-requires
-consult-requires c κs = search needs
-
-enum-known-s : tie.Need-enum-known-s
-enum-known-s c = search needs
-
-mul-sx : tie.Need-mul-sx
-mul-sx c = search needs
-
-slice-set-from-sx : tie.Need-slice-set-from-sx
-slice-set-from-sx c = search needs
-
-mul-sy : tie.Need-mul-sy
-mul-sy c = search needs
-
-slice-set-from-sy : tie.Need-slice-set-from-sy
-slice-set-from-sy c = search needs
-
-mul-number : tie.Need-mul-number
-mul-number c = search needs
-
-slice-write-number : tie.Need-slice-write-number
-slice-write-number c = search needs
-
 enum-told : tie.Need-enum-told
 enum-told c = search needs
-
-same-length : tie.Need-same-length
-same-length c = search needs
-
-same-length-2 : tie.Need-same-length-2
-same-length-2 c = search needs
-
-same-length-3 : tie.Need-same-length-3
-same-length-3 c = search needs
 
 returns : tie.Need-returns
 returns c =
@@ -63,17 +30,17 @@ read-site-spec =
     tie.close
     (tie.spec
     cast-consult
-    consult-requires
-    enum-known-s
-    mul-sx
-    slice-set-from-sx
-    mul-sy
-    slice-set-from-sy
-    mul-number
-    slice-write-number
+    (λ c κs. search needs)
+    (λ c. search needs)
+    (λ c. search needs)
+    (λ c. search needs)
+    (λ c. search needs)
+    (λ c. search needs)
+    (λ c. search needs)
+    (λ c. search needs)
     enum-told
-    same-length
-    same-length-2
-    same-length-3
+    (λ c. search needs)
+    (λ c. search needs)
+    (λ c. search needs)
     returns
     returns-2)

@@ -20,24 +20,9 @@ read-site-requires : tie.Need-read-site-requires Inv-loop μ-loop
 read-site-requires c κs =
     let here = reading-here _ _ _ (c .before .before .before .loop-test .taken) (c .before .before .before .before .loop .inv) in ((c .before .before .before .before .before .before .before .pre .0, here .0), here .1)
 
-add-i : tie.Need-add-i Inv-loop μ-loop
-add-i c = search needs
-
-loop-less : tie.Need-loop-less Inv-loop μ-loop
-loop-less c = search needs
-
 loop-again : tie.Need-loop-again Inv-loop μ-loop
 loop-again c =
     let done = c .before .before .before .before .read-site .ensures in reading-more _ _ (c .before .before .before .before .before .before .before .before .loop-test .taken) (done .0) (done .1 .0) (done .1 .1) (c .before .before .before .before .before .before .before .before .before .loop .inv)
-
-same-length : tie.Need-same-length Inv-loop μ-loop
-same-length c = search needs
-
-same-length-2 : tie.Need-same-length-2 Inv-loop μ-loop
-same-length-2 c = search needs
-
-same-length-3 : tie.Need-same-length-3 Inv-loop μ-loop
-same-length-3 c = search needs
 
 returns : tie.Need-returns Inv-loop μ-loop
 returns c = reading-ends _ _ (c .loop-test .left) (c .before .loop .inv)
@@ -50,10 +35,10 @@ read-sites-spec =
     μ-loop
     loop-holds
     read-site-requires
-    add-i
-    loop-less
+    (λ c. search needs)
+    (λ c. search needs)
     loop-again
-    same-length
-    same-length-2
-    same-length-3
+    (λ c. search needs)
+    (λ c. search needs)
+    (λ c. search needs)
     returns)

@@ -47,18 +47,6 @@ room c = let e = start (c .before) in added-room (lent e) (e .args .count) (e .a
 few : (c : tie.Else1) → start (c .before) .args .count < 65_535
 few c = let e = start (c .before) in added-few (lent e) (e .args .count) (e .args .s) (accepted c)
 
-add-refusal-requires : tie.Need-add-refusal-requires
-add-refusal-requires c κs = search needs
-
-same-length : tie.Need-same-length
-same-length c = search needs
-
-same-length-2 : tie.Need-same-length-2
-same-length-2 c = search needs
-
-same-length-3 : tie.Need-same-length-3
-same-length-3 c = search needs
-
 returns : tie.Need-returns
 returns c =
     let e = start (c .before) in
@@ -117,9 +105,6 @@ learnt-place c =
     let a = start f .args in
     at₂ (λ (x y : ℤ). placeOf (site x y (a .s .number)) (sites (inUse (a .count) (lent (start f))))) (toZ-ofZ (fits-x (f .before .before))) (toZ-ofZ (fits-y (f .before .before))) (c .place-of .ensures)
 
-cast-insert-site : tie.Need-cast-insert-site
-cast-insert-site c = search needs
-
 place-small : (c : tie.After-place-of) → c .place-of .result ≤ start (c .before .before .before .before .before .before .before) .args .count
 unfolding inUse
 place-small c =
@@ -138,15 +123,6 @@ add-t30 c =
     let f = c .before .before .before .before .before .before .before .before .before .before .before .before .before .before in
     omega (arith, few f)
 
-same-length-4 : tie.Need-same-length-4
-same-length-4 c = search needs
-
-same-length-5 : tie.Need-same-length-5
-same-length-5 c = search needs
-
-same-length-6 : tie.Need-same-length-6
-same-length-6 c = search needs
-
 returns-2 : tie.Need-returns-2
 returns-2 c =
     let h = c .before .before .before .before in
@@ -159,10 +135,10 @@ pub add-spec : {M : Type 1} → statement M
 add-spec =
     tie.close
     (tie.spec
-    add-refusal-requires
-    same-length
-    same-length-2
-    same-length-3
+    (λ c κs. search needs)
+    (λ c. search needs)
+    (λ c. search needs)
+    (λ c. search needs)
     returns
     slice-reshare-prefix-place-of
     slice-aggregate-place-of
@@ -171,10 +147,10 @@ add-spec =
     slice-reshare-prefix-place-of-3
     slice-aggregate-place-of-3
     place-of-requires
-    cast-insert-site
+    (λ c. search needs)
     insert-site-requires
     add-t30
-    same-length-4
-    same-length-5
-    same-length-6
+    (λ c. search needs)
+    (λ c. search needs)
+    (λ c. search needs)
     returns-2)

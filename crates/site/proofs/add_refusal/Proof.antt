@@ -94,9 +94,6 @@ slice-aggregate-list-refusal-2 c = part-y (c .before .before)
 slice-aggregate-list-refusal-3 : tie.Need-slice-aggregate-list-refusal-3
 slice-aggregate-list-refusal-3 c = part-number (c .before .before .before)
 
-list-refusal-requires : tie.Need-list-refusal-requires
-list-refusal-requires c κs = search needs
-
 returns-5 : tie.Need-returns-5
 unfolding inUse
 returns-5 c =
@@ -104,18 +101,12 @@ returns-5 c =
     let e = from4 f in
     add-content (lent e) (e .args .count) (new e) (level (f .before .before)) (f .before .if3 .left) (f .if4 .left) (c .before .list-refusal .ensures) (c .if5 .taken)
 
-within-requires : tie.Need-within-requires
-within-requires c κs = search needs
-
 returns-6 : tie.Need-returns-6
 returns-6 c =
     let f = from5 (c .before .before) in
     let e = from4 f in
     add-outside-x (lent e) (e .args .count) (new e) (level (f .before .before)) (f .before .if3 .left) (f .if4 .left) (accepted (c .before .before))
     (sym (learnt-x (c .before)) ∙ not-true (c .before .within .result) (c .if6 .taken))
-
-within-requires-2 : tie.Need-within-requires-2
-within-requires-2 c κs = search needs
 
 returns-7 : tie.Need-returns-7
 returns-7 c =
@@ -195,11 +186,11 @@ add-refusal-spec =
     slice-aggregate-list-refusal
     slice-aggregate-list-refusal-2
     slice-aggregate-list-refusal-3
-    list-refusal-requires
+    (λ c κs. search needs)
     returns-5
-    within-requires
+    (λ c κs. search needs)
     returns-6
-    within-requires-2
+    (λ c κs. search needs)
     returns-7
     returns-8
     returns-9

@@ -21,18 +21,6 @@ Inv-loop column faults₀ i₀ faults i =
 abbrev μ-loop : tie.MeasureT-loop
 μ-loop column faults₀ i₀ faults i = length column - i
 
-loop-holds : tie.Need-loop-holds Inv-loop μ-loop
-loop-holds c = omega arith
-
-mul-outside : tie.Need-mul-outside Inv-loop μ-loop
-mul-outside c = search needs
-
-shared-slice-copy-out-outside : tie.Need-shared-slice-copy-out-outside Inv-loop μ-loop
-shared-slice-copy-out-outside c = search needs
-
-outside-requires : tie.Need-outside-requires Inv-loop μ-loop
-outside-requires c κs = search needs
-
 learnt : (c : tie.After-outside Inv-loop μ-loop) → c .outside .result ≡ cond (within (getD (c .before .before .before .before .args .column .now) (c .before .before .before .loop .i) (pos 0))) 0 1
 learnt c =
     at₁ (λ (z : ℤ). cond {A = ℕ} (within z) 0 1) (toZ-ofZ (sfits-of (c .before .outside-arg .given))) (c .outside .ensures)
@@ -43,12 +31,6 @@ small c =
 
 add-faults : tie.Need-add-faults Inv-loop μ-loop
 add-faults c = omega (arith, small c, c .before .before .before .loop .inv, c .before .before .loop-test .taken, c .before .before .before .before .pre)
-
-add-i : tie.Need-add-i Inv-loop μ-loop
-add-i c = search needs
-
-loop-less : tie.Need-loop-less Inv-loop μ-loop
-loop-less c = search needs
 
 loop-again : tie.Need-loop-again Inv-loop μ-loop
 loop-again c =
@@ -69,12 +51,12 @@ all-within-spec =
     (tie.spec
     Inv-loop
     μ-loop
-    loop-holds
-    mul-outside
-    shared-slice-copy-out-outside
-    outside-requires
+    (λ c. omega arith)
+    (λ c. search needs)
+    (λ c. search needs)
+    (λ c κs. search needs)
     add-faults
-    add-i
-    loop-less
+    (λ c. search needs)
+    (λ c. search needs)
     loop-again
     returns)

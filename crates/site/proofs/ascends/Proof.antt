@@ -27,9 +27,6 @@ abbrev μ-loop : tie.MeasureT-loop
 abbrev lent : tie.Start Inv-loop μ-loop → Columns
 lent c = columns (c .args .x .now) (c .args .y .now) (c .args .number .now)
 
-loop-holds : tie.Need-loop-holds Inv-loop μ-loop
-loop-holds c = omega arith
-
 add-loop : tie.Need-add-loop Inv-loop μ-loop
 add-loop c = omega (arith, c .before .before .pre .1)
 
@@ -57,12 +54,6 @@ small c =
 add-breaks : tie.Need-add-breaks Inv-loop μ-loop
 add-breaks c = omega (arith, small c, c .before .before .loop .inv, c .before .loop-test .taken, entry c .pre .1)
 
-add-i : tie.Need-add-i Inv-loop μ-loop
-add-i c = search needs
-
-loop-less : tie.Need-loop-less Inv-loop μ-loop
-loop-less c = search needs
-
 loop-again : tie.Need-loop-again Inv-loop μ-loop
 loop-again c = omega (arith, small c, learnt c, c .before .before .loop .inv, c .before .loop-test .taken)
 
@@ -81,11 +72,11 @@ ascends-spec =
     (tie.spec
     Inv-loop
     μ-loop
-    loop-holds
+    (λ c. omega arith)
     add-loop
     break-at-requires
     add-breaks
-    add-i
-    loop-less
+    (λ c. search needs)
+    (λ c. search needs)
     loop-again
     returns)

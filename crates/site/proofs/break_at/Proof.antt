@@ -14,54 +14,6 @@ use Rattle.site.proofs.Columns.{site-at}
 use Rattle.site.proofs.break_at.Statement.{statement}
 use Rattle.site.proofs.break_at.Tie as tie
 
-mul-before : tie.Need-mul-before
-mul-before c = search needs
-
-shared-slice-copy-out-before : tie.Need-shared-slice-copy-out-before
-shared-slice-copy-out-before c = search needs
-
-mul-before-2 : tie.Need-mul-before-2
-mul-before-2 c = search needs
-
-shared-slice-copy-out-before-2 : tie.Need-shared-slice-copy-out-before-2
-shared-slice-copy-out-before-2 c = search needs
-
-mul-before-3 : tie.Need-mul-before-3
-mul-before-3 c = search needs
-
-shared-slice-read-before : tie.Need-shared-slice-read-before
-shared-slice-read-before c = search needs
-
-add-before : tie.Need-add-before
-add-before c = search needs
-
-mul-before-4 : tie.Need-mul-before-4
-mul-before-4 c = search needs
-
-shared-slice-copy-out-before-3 : tie.Need-shared-slice-copy-out-before-3
-shared-slice-copy-out-before-3 c = search needs
-
-add-before-2 : tie.Need-add-before-2
-add-before-2 c = search needs
-
-mul-before-5 : tie.Need-mul-before-5
-mul-before-5 c = search needs
-
-shared-slice-copy-out-before-4 : tie.Need-shared-slice-copy-out-before-4
-shared-slice-copy-out-before-4 c = search needs
-
-add-before-3 : tie.Need-add-before-3
-add-before-3 c = search needs
-
-mul-before-6 : tie.Need-mul-before-6
-mul-before-6 c = search needs
-
-shared-slice-read-before-2 : tie.Need-shared-slice-read-before-2
-shared-slice-read-before-2 c = search needs
-
-before-requires : tie.Need-before-requires
-before-requires c κs = search needs
-
 abbrev entry : tie.After-before2 → tie.Start
 entry c = c .before .before .before .before .before .before .before .before
 
@@ -91,21 +43,21 @@ pub break-at-spec : {M : Type 1} → statement M
 break-at-spec =
     tie.close
     (tie.spec
-    mul-before
-    shared-slice-copy-out-before
-    mul-before-2
-    shared-slice-copy-out-before-2
-    mul-before-3
-    shared-slice-read-before
-    add-before
-    mul-before-4
-    shared-slice-copy-out-before-3
-    add-before-2
-    mul-before-5
-    shared-slice-copy-out-before-4
-    add-before-3
-    mul-before-6
-    shared-slice-read-before-2
-    before-requires
+    (λ c. search needs)
+    (λ c. search needs)
+    (λ c. search needs)
+    (λ c. search needs)
+    (λ c. search needs)
+    (λ c. search needs)
+    (λ c. search needs)
+    (λ c. search needs)
+    (λ c. search needs)
+    (λ c. search needs)
+    (λ c. search needs)
+    (λ c. search needs)
+    (λ c. search needs)
+    (λ c. search needs)
+    (λ c. search needs)
+    (λ c κs. search needs)
     returns
     returns-2)

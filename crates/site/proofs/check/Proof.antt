@@ -13,9 +13,6 @@ use Rattle.site.proofs.check.Tie as tie
 abbrev lent : tie.Start → Columns
 lent c = columns (c .args .x .now) (c .args .y .now) (c .args .number .now)
 
-list-refusal-requires : tie.Need-list-refusal-requires
-list-refusal-requires c κs = search needs
-
 cast-t8 : tie.Need-cast-t8
 cast-t8 c = omega (arith, accepted-few (lent (c .before .before .before)) (sym (c .before .list-refusal .ensures) ∙ c .if1 .taken))
 
@@ -28,4 +25,4 @@ unfolding checkTold checkedTold
 returns-2 c = told-refused (length (c .before .before .before .args .x .now)) (c .before .list-refusal .ensures) (c .if1 .left)
 
 pub check-spec : {M : Type 1} → statement M
-check-spec = tie.close (tie.spec list-refusal-requires cast-t8 returns returns-2)
+check-spec = tie.close (tie.spec (λ c κs. search needs) cast-t8 returns returns-2)

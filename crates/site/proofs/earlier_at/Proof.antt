@@ -13,27 +13,6 @@ use Rattle.site.proofs.Columns.{site-at}
 use Rattle.site.proofs.earlier_at.Statement.{statement}
 use Rattle.site.proofs.earlier_at.Tie as tie
 
-mul-before : tie.Need-mul-before
-mul-before c = search needs
-
-shared-slice-copy-out-before : tie.Need-shared-slice-copy-out-before
-shared-slice-copy-out-before c = search needs
-
-mul-before-2 : tie.Need-mul-before-2
-mul-before-2 c = search needs
-
-shared-slice-copy-out-before-2 : tie.Need-shared-slice-copy-out-before-2
-shared-slice-copy-out-before-2 c = search needs
-
-mul-before-3 : tie.Need-mul-before-3
-mul-before-3 c = search needs
-
-shared-slice-read-before : tie.Need-shared-slice-read-before
-shared-slice-read-before c = search needs
-
-before-requires : tie.Need-before-requires
-before-requires c κs = search needs
-
 abbrev entry : tie.After-before2 → tie.Start
 entry c = c .before .before .before .before .before
 
@@ -61,12 +40,12 @@ pub earlier-at-spec : {M : Type 1} → statement M
 earlier-at-spec =
     tie.close
     (tie.spec
-    mul-before
-    shared-slice-copy-out-before
-    mul-before-2
-    shared-slice-copy-out-before-2
-    mul-before-3
-    shared-slice-read-before
-    before-requires
+    (λ c. search needs)
+    (λ c. search needs)
+    (λ c. search needs)
+    (λ c. search needs)
+    (λ c. search needs)
+    (λ c. search needs)
+    (λ c κs. search needs)
     returns
     returns-2)

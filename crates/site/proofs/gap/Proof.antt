@@ -7,9 +7,6 @@ use Rattle.site.proofs.Machine.{at₂, below-fits, below-cast, below-ga
 use Rattle.site.proofs.gap.Statement.{statement}
 use Rattle.site.proofs.gap.Tie as tie
 
-difference-requires : tie.Need-difference-requires
-difference-requires c κs = search needs
-
 learnt : (c : tie.After-difference) → c .difference .result ≡ c .before .args .a -ℤ c .before .args .b
 learnt c = at₂ _-ℤ_ (toZ-ofZ (c .before .fits .a)) (toZ-ofZ (c .before .fits .b)) (c .difference .ensures)
 
@@ -34,4 +31,4 @@ returns-2 c = above-gap (c .before .before .fits .a) (c .before .before .fits .b
 
 pub gap-spec : {M : Type 1} → statement M
 gap-spec =
-    tie.close (tie.spec difference-requires sub-result cast-result cast-result-2 returns returns-2)
+    tie.close (tie.spec (λ c κs. search needs) sub-result cast-result cast-result-2 returns returns-2)

@@ -11,24 +11,6 @@ use Rattle.site.proofs.Machine.{at₁}
 use Rattle.site.proofs.insert_site.Statement.{statement}
 use Rattle.site.proofs.insert_site.Tie as tie
 
-insert-i32-requires : tie.Need-insert-i32-requires
-insert-i32-requires c κs = search needs
-
-insert-i32-requires-2 : tie.Need-insert-i32-requires-2
-insert-i32-requires-2 c κs = search needs
-
-insert-u32-requires : tie.Need-insert-u32-requires
-insert-u32-requires c κs = search needs
-
-same-length : tie.Need-same-length
-same-length c = search needs
-
-same-length-2 : tie.Need-same-length-2
-same-length-2 c = search needs
-
-same-length-3 : tie.Need-same-length-3
-same-length-3 c = search needs
-
 abbrev start : tie.After-struct-told → tie.Start
 start c = c .before .before .before
 
@@ -51,10 +33,10 @@ pub insert-site-spec : {M : Type 1} → statement M
 insert-site-spec =
     tie.close
     (tie.spec
-    insert-i32-requires
-    insert-i32-requires-2
-    insert-u32-requires
-    same-length
-    same-length-2
-    same-length-3
+    (λ c κs. search needs)
+    (λ c κs. search needs)
+    (λ c κs. search needs)
+    (λ c. search needs)
+    (λ c. search needs)
+    (λ c. search needs)
     returns)

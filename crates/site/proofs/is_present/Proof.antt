@@ -38,9 +38,6 @@ handed c = site (toZ w32 (ofZ w32 (c .args .sx))) (toZ w32 (ofZ w32 (c .args .sy
 abbrev entry : tie.After-same-at Inv-loop μ-loop → tie.Start Inv-loop μ-loop
 entry c = c .before .before .before .before
 
-loop-holds : tie.Need-loop-holds Inv-loop μ-loop
-loop-holds c = omega arith
-
 same-at-requires : tie.Need-same-at-requires Inv-loop μ-loop
 same-at-requires c κs = (c .before .before .before .pre .0, c .loop-test .taken)
 
@@ -63,12 +60,6 @@ learnt c =
 add-same : tie.Need-add-same Inv-loop μ-loop
 add-same c = omega (arith, small c, c .before .before .loop .inv, c .before .loop-test .taken, entry c .pre .1)
 
-add-i : tie.Need-add-i Inv-loop μ-loop
-add-i c = search needs
-
-loop-less : tie.Need-loop-less Inv-loop μ-loop
-loop-less c = search needs
-
 loop-again : tie.Need-loop-again Inv-loop μ-loop
 loop-again c = omega (arith, small c, learnt c, c .before .before .loop .inv, c .before .loop-test .taken)
 
@@ -89,10 +80,10 @@ is-present-spec =
     (tie.spec
     Inv-loop
     μ-loop
-    loop-holds
+    (λ c. omega arith)
     same-at-requires
     add-same
-    add-i
-    loop-less
+    (λ c. search needs)
+    (λ c. search needs)
     loop-again
     returns)

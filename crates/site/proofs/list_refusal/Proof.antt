@@ -32,17 +32,11 @@ returns-2 c = unequal-number (lent (c .before .before .before)) (c .before .if1 
 returns-3 : tie.Need-returns-3
 returns-3 c = too-many (lent (c .before .before .before .before)) (level (c .before)) (c .if3 .taken)
 
-all-within-requires : tie.Need-all-within-requires
-all-within-requires c κs = search needs
-
 returns-4 : tie.Need-returns-4
 returns-4 c =
     let e = c .before .before in
     outside-x (lent (e .before .before .before .before)) (level (e .before)) (e .if3 .left)
     (sym (c .before .all-within .ensures) ∙ not-true (c .before .all-within .result) (c .if4 .taken))
-
-all-within-requires-2 : tie.Need-all-within-requires-2
-all-within-requires-2 c κs = search needs
 
 returns-5 : tie.Need-returns-5
 returns-5 c =
@@ -76,9 +70,9 @@ list-refusal-spec =
     returns
     returns-2
     returns-3
-    all-within-requires
+    (λ c κs. search needs)
     returns-4
-    all-within-requires-2
+    (λ c κs. search needs)
     returns-5
     ascends-requires
     returns-6

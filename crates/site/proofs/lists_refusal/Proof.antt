@@ -9,16 +9,10 @@ use Rattle.site.proofs.lists_refusal.Tie as tie
 abbrev second-lent : tie.Start → Columns
 second-lent c = columns (c .args .bx .now) (c .args .by .now) (c .args .bn .now)
 
-list-refusal-requires : tie.Need-list-refusal-requires
-list-refusal-requires c κs = search needs
-
 returns : tie.Need-returns
 unfolding listsRefusal
 returns c =
     first-refused (listRefusal (second-lent (c .before .before .before .before))) (c .before .list-refusal .ensures) (c .if1 .taken)
-
-list-refusal-requires-2 : tie.Need-list-refusal-requires-2
-list-refusal-requires-2 c κs = search needs
 
 returns-2 : tie.Need-returns-2
 unfolding listsRefusal
@@ -26,4 +20,4 @@ returns-2 c = next-decides (c .before .before .list-refusal .ensures) (c .before
 
 pub lists-refusal-spec : {M : Type 1} → statement M
 lists-refusal-spec =
-    tie.close (tie.spec list-refusal-requires returns list-refusal-requires-2 returns-2)
+    tie.close (tie.spec (λ c κs. search needs) returns (λ c κs. search needs) returns-2)

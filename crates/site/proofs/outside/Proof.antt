@@ -9,9 +9,6 @@ use Rattle.site.proofs.Machine.{at₁}
 use Rattle.site.proofs.outside.Statement.{statement}
 use Rattle.site.proofs.outside.Tie as tie
 
-within-requires : tie.Need-within-requires
-within-requires c κs = search needs
-
 learnt : (c : tie.After-within) → c .within .result ≡ within (c .before .args .c)
 learnt c = at₁ within (toZ-ofZ (c .before .fits .c)) (c .within .ensures)
 
@@ -22,4 +19,4 @@ returns-2 : tie.Need-returns-2
 returns-2 c = ap (λ (t : Bool). cond {A = ℕ} t 0 1) (sym (c .if1 .left) ∙ learnt (c .before))
 
 pub outside-spec : {M : Type 1} → statement M
-outside-spec = tie.close (tie.spec within-requires returns returns-2)
+outside-spec = tie.close (tie.spec (λ c κs. search needs) returns returns-2)

@@ -36,9 +36,6 @@ handed c = site (toZ w32 (ofZ w32 (c .args .sx))) (toZ w32 (ofZ w32 (c .args .sy
 abbrev entry : tie.After-earlier-at Inv-loop μ-loop → tie.Start Inv-loop μ-loop
 entry c = c .before .before .before .before
 
-loop-holds : tie.Need-loop-holds Inv-loop μ-loop
-loop-holds c = omega arith
-
 earlier-at-requires : tie.Need-earlier-at-requires Inv-loop μ-loop
 earlier-at-requires c κs = (c .before .before .before .pre .0, c .loop-test .taken)
 
@@ -57,12 +54,6 @@ learnt c =
 
 add-place : tie.Need-add-place Inv-loop μ-loop
 add-place c = omega (arith, small c, c .before .before .loop .inv, c .before .loop-test .taken, entry c .pre .1)
-
-add-i : tie.Need-add-i Inv-loop μ-loop
-add-i c = search needs
-
-loop-less : tie.Need-loop-less Inv-loop μ-loop
-loop-less c = search needs
 
 loop-again : tie.Need-loop-again Inv-loop μ-loop
 loop-again c = omega (arith, small c, learnt c, c .before .before .loop .inv, c .before .loop-test .taken)
@@ -83,10 +74,10 @@ place-of-spec =
     (tie.spec
     Inv-loop
     μ-loop
-    loop-holds
+    (λ c. omega arith)
     earlier-at-requires
     add-place
-    add-i
-    loop-less
+    (λ c. search needs)
+    (λ c. search needs)
     loop-again
     returns)

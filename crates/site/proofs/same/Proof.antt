@@ -18,9 +18,6 @@ one c = site (c .args .ax) (c .args .ay) (c .args .an)
 abbrev other : tie.Start → Site
 other c = site (c .args .bx) (c .args .by) (c .args .bn)
 
-before-requires : tie.Need-before-requires
-before-requires c κs = search needs
-
 learnt : (c : tie.After-before2) → c .before2 .result ≡ siteBefore (one (c .before)) (other (c .before))
 learnt c =
     let f = c .before .fits in
@@ -33,9 +30,6 @@ learnt-back c =
     let a = c .before .before .before .args in
     at₄ (λ (bx by ax ay : ℤ). siteBefore (site bx by (a .bn)) (site ax ay (a .an)))
     (toZ-ofZ (f .bx)) (toZ-ofZ (f .by)) (toZ-ofZ (f .ax)) (toZ-ofZ (f .ay)) (c .before3 .ensures)
-
-before-requires-2 : tie.Need-before-requires-2
-before-requires-2 c κs = search needs
 
 -- The answer by the two comparisons.
 joined : {a b p q : Bool} → p ≡ a → q ≡ b → cond {A = ℕ} (p || q) 0 1 ≡ cond (a || b) 0 1
@@ -55,4 +49,4 @@ returns-3 c =
     joined (sym (c .before .before .if1 .left) ∙ learnt (c .before .before .before)) (sym (c .if2 .left) ∙ learnt-back (c .before))
 
 pub same-spec : {M : Type 1} → statement M
-same-spec = tie.close (tie.spec before-requires returns before-requires-2 returns-2 returns-3)
+same-spec = tie.close (tie.spec (λ c κs. search needs) returns (λ c κs. search needs) returns-2 returns-3)

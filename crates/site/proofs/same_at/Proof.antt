@@ -12,27 +12,6 @@ use Rattle.site.proofs.Columns.{site-at}
 use Rattle.site.proofs.same_at.Statement.{statement}
 use Rattle.site.proofs.same_at.Tie as tie
 
-mul-same : tie.Need-mul-same
-mul-same c = search needs
-
-shared-slice-copy-out-same : tie.Need-shared-slice-copy-out-same
-shared-slice-copy-out-same c = search needs
-
-mul-same-2 : tie.Need-mul-same-2
-mul-same-2 c = search needs
-
-shared-slice-copy-out-same-2 : tie.Need-shared-slice-copy-out-same-2
-shared-slice-copy-out-same-2 c = search needs
-
-mul-same-3 : tie.Need-mul-same-3
-mul-same-3 c = search needs
-
-shared-slice-read-same : tie.Need-shared-slice-read-same
-shared-slice-read-same c = search needs
-
-same-requires : tie.Need-same-requires
-same-requires c κs = search needs
-
 returns : tie.Need-returns
 returns c =
     let e = c .before .before .before .before .before in
@@ -49,11 +28,11 @@ pub same-at-spec : {M : Type 1} → statement M
 same-at-spec =
     tie.close
     (tie.spec
-    mul-same
-    shared-slice-copy-out-same
-    mul-same-2
-    shared-slice-copy-out-same-2
-    mul-same-3
-    shared-slice-read-same
-    same-requires
+    (λ c. search needs)
+    (λ c. search needs)
+    (λ c. search needs)
+    (λ c. search needs)
+    (λ c. search needs)
+    (λ c. search needs)
+    (λ c κs. search needs)
     returns)

@@ -12,12 +12,6 @@ use Rattle.site.proofs.Distance.{squared-gap-within, squared-distance-i
 use Rattle.site.proofs.squared_distance.Statement.{statement}
 use Rattle.site.proofs.squared_distance.Tie as tie
 
-squared-gap-requires : tie.Need-squared-gap-requires
-squared-gap-requires c κs = search needs
-
-squared-gap-requires-2 : tie.Need-squared-gap-requires-2
-squared-gap-requires-2 c κs = search needs
-
 along-x : (c : tie.After-squared-gap) → c .squared-gap .result ≡ square (gap (c .before .args .ax) (c .before .args .bx))
 along-x c =
     at₂ (λ (a b : ℤ). square (gap a b)) (toZ-ofZ (c .before .fits .ax)) (toZ-ofZ (c .before .fits .bx)) (c .squared-gap .ensures)
@@ -38,4 +32,4 @@ returns c =
     ap₂ _+_ (along-x (c .before)) (along-y c) ∙ sym (squared-distance-is (site (a .ax) (a .ay) 0) (site (a .bx) (a .by) 0))
 
 pub squared-distance-spec : {M : Type 1} → statement M
-squared-distance-spec = tie.close (tie.spec squared-gap-requires squared-gap-requires-2 add-result returns)
+squared-distance-spec = tie.close (tie.spec (λ c κs. search needs) (λ c κs. search needs) add-result returns)

@@ -8,9 +8,6 @@ use Rattle.site.proofs.Machine.{at₂, gap-squared-fits}
 use Rattle.site.proofs.squared_gap.Statement.{statement}
 use Rattle.site.proofs.squared_gap.Tie as tie
 
-gap-requires : tie.Need-gap-requires
-gap-requires c κs = search needs
-
 learnt : (c : tie.After-gap) → c .gap .result ≡ gap (c .before .args .a) (c .before .args .b)
 learnt c = at₂ gap (toZ-ofZ (c .before .fits .a)) (toZ-ofZ (c .before .fits .b)) (c .gap .ensures)
 
@@ -22,4 +19,4 @@ unfolding square
 returns c = ap₂ _*_ (learnt c) (learnt c)
 
 pub squared-gap-spec : {M : Type 1} → statement M
-squared-gap-spec = tie.close (tie.spec gap-requires mul-result returns)
+squared-gap-spec = tie.close (tie.spec (λ c κs. search needs) mul-result returns)

@@ -21,24 +21,9 @@ abbrev μ-loop : tie.MeasureT-loop
 loop-holds : tie.Need-loop-holds Inv-loop μ-loop
 loop-holds c = (search needs, content-starts _)
 
-lawful-at-requires : tie.Need-lawful-at-requires Inv-loop μ-loop
-lawful-at-requires c κs = search needs
-
 returns : tie.Need-returns Inv-loop μ-loop
 returns c =
     content-stop _ _ _ _ (c .before .before .loop-test .taken) (sym (c .before .lawful-at .ensures) ∙ not-true _ (c .if1 .taken)) ∙ c .before .before .before .loop .inv .1
-
-ordered-at-requires : tie.Need-ordered-at-requires Inv-loop μ-loop
-ordered-at-requires c κs = search needs
-
-add-at : tie.Need-add-at Inv-loop μ-loop
-add-at c = search needs
-
-sub-left : tie.Need-sub-left Inv-loop μ-loop
-sub-left c = search needs
-
-loop-less : tie.Need-loop-less Inv-loop μ-loop
-loop-less c = search needs
 
 loop-again : tie.Need-loop-again Inv-loop μ-loop
 loop-again c =
@@ -57,12 +42,12 @@ content-refusal-spec =
     Inv-loop
     μ-loop
     loop-holds
-    lawful-at-requires
+    (λ c κs. search needs)
     returns
-    ordered-at-requires
-    add-at
-    sub-left
-    loop-less
+    (λ c κs. search needs)
+    (λ c. search needs)
+    (λ c. search needs)
+    (λ c. search needs)
     loop-again
     returns-2
     returns-3)

@@ -7,15 +7,6 @@ use Rattle.site_file.proofs.count_in.Tie as tie
 enum-told : tie.Need-enum-told
 enum-told c = search needs
 
-word-at-requires : tie.Need-word-at-requires
-word-at-requires c κs = search needs
-
-enum-told-2 : tie.Need-enum-told-2
-enum-told-2 c = search needs
-
-word-at-requires-2 : tie.Need-word-at-requires-2
-word-at-requires-2 c κs = search needs
-
 returns : tie.Need-returns
 returns c = count-first _ (c .before .enum-told .given .1) (c .word-at .ensures)
 
@@ -25,4 +16,4 @@ returns-2 c = count-second _ (c .before .enum-told2 .given .1) (c .word-at2 .ens
 pub count-in-spec : {M : Type 1} → statement M
 count-in-spec =
     tie.close
-    (tie.spec enum-told word-at-requires enum-told-2 word-at-requires-2 returns returns-2)
+    (tie.spec enum-told (λ c κs. search needs) (λ c. search needs) (λ c κs. search needs) returns returns-2)

@@ -8,9 +8,6 @@ use Rattle.site_file.proofs.held_start.Tie as tie
 enum-told : tie.Need-enum-told
 enum-told c = search needs
 
-enum-told-2 : tie.Need-enum-told-2
-enum-told-2 c = search needs
-
 returns : tie.Need-returns
 returns c =
     held-first _ _ (c .enum-told .given .1) refl
@@ -20,4 +17,4 @@ returns-2 c =
     held-second _ _ (c .enum-told2 .given .1) refl
 
 pub held-start-spec : {M : Type 1} → statement M
-held-start-spec = tie.close (tie.spec enum-told enum-told-2 returns returns-2)
+held-start-spec = tie.close (tie.spec enum-told (λ c. search needs) returns returns-2)

@@ -4,15 +4,6 @@ use borrow.Author.Needs.{needs}
 use Rattle.site_file.proofs.lawful_at.Statement.{statement}
 use Rattle.site_file.proofs.lawful_at.Tie as tie
 
-site-at-requires : tie.Need-site-at-requires
-site-at-requires c κs = search needs
-
-within-requires : tie.Need-within-requires
-within-requires c κs = search needs
-
-within-requires-2 : tie.Need-within-requires-2
-within-requires-2 c κs = search needs
-
 returns : tie.Need-returns
 returns c =
     lawful-made _ _ (c .before .before .before .before .before .site-at .ensures) (search needs) (c .before .before .before .within .ensures) (c .before .before .if1 .taken) (search needs) (c .within2 .ensures)
@@ -23,4 +14,4 @@ returns-2 c =
 
 pub lawful-at-spec : {M : Type 1} → statement M
 lawful-at-spec =
-    tie.close (tie.spec site-at-requires within-requires within-requires-2 returns returns-2)
+    tie.close (tie.spec (λ c κs. search needs) (λ c κs. search needs) (λ c κs. search needs) returns returns-2)

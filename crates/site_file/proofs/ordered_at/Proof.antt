@@ -7,18 +7,6 @@ use Rattle.site_file.proofs.ordered_at.Tie as tie
 returns : tie.Need-returns
 returns c = ordered-last _ _ _ _ (c .if1 .taken)
 
-site-at-requires : tie.Need-site-at-requires
-site-at-requires c κs = search needs
-
-add-site-at : tie.Need-add-site-at
-add-site-at c = search needs
-
-site-at-requires-2 : tie.Need-site-at-requires-2
-site-at-requires-2 c κs = search needs
-
-before-requires : tie.Need-before-requires
-before-requires c κs = search needs
-
 returns-2 : tie.Need-returns-2
 returns-2 c =
     ordered-kept _ _ _ _ (c .before .before .before .before .before .before .before .before .if1 .left) (ordered-made _ _ (c .before .before .before .before .before .before .before .site-at .ensures) (c .before .before .before .before .before .before .site-at2 .ensures) (search needs) (search needs) (search needs) (search needs) (c .before .before2 .ensures)) (c .if2 .taken)
@@ -32,9 +20,9 @@ ordered-at-spec =
     tie.close
     (tie.spec
     returns
-    site-at-requires
-    add-site-at
-    site-at-requires-2
-    before-requires
+    (λ c κs. search needs)
+    (λ c. search needs)
+    (λ c κs. search needs)
+    (λ c κs. search needs)
     returns-2
     returns-3)

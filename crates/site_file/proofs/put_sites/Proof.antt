@@ -26,36 +26,6 @@ loop-holds : tie.Need-loop-holds Inv-loop μ-loop
 loop-holds c =
     (search needs, search needs, refl, refl)
 
-mul-put-site : tie.Need-mul-put-site Inv-loop μ-loop
-mul-put-site c = search needs
-
-shared-slice-copy-out-put-site : tie.Need-shared-slice-copy-out-put-site Inv-loop μ-loop
-shared-slice-copy-out-put-site c = search needs
-
-mul-put-site-2 : tie.Need-mul-put-site-2 Inv-loop μ-loop
-mul-put-site-2 c = search needs
-
-shared-slice-copy-out-put-site-2 : tie.Need-shared-slice-copy-out-put-site-2 Inv-loop μ-loop
-shared-slice-copy-out-put-site-2 c = search needs
-
-mul-put-site-3 : tie.Need-mul-put-site-3 Inv-loop μ-loop
-mul-put-site-3 c = search needs
-
-shared-slice-read-put-site : tie.Need-shared-slice-read-put-site Inv-loop μ-loop
-shared-slice-read-put-site c = search needs
-
-put-site-requires : tie.Need-put-site-requires Inv-loop μ-loop
-put-site-requires c κs = search needs
-
-add-at : tie.Need-add-at Inv-loop μ-loop
-add-at c = search needs
-
-add-i : tie.Need-add-i Inv-loop μ-loop
-add-i c = search needs
-
-loop-less : tie.Need-loop-less Inv-loop μ-loop
-loop-less c = search needs
-
 loop-again : tie.Need-loop-again Inv-loop μ-loop
 loop-again c = (
   search needs,
@@ -63,9 +33,6 @@ loop-again c = (
   c .before .before .put-site .kept .0 ∙ c .before .before .before .before .before .before .before .before .loop .inv .2,
   sites-step _ (c .before .before .before .before .before .before .before .before .before .before .before .pre .1) _ _ _ (omega arith) (c .before .before .before .before .before .before .before .loop-test .taken) (record { sfits = c .before .before .before .before .before .put-site-arg2 .given }) (record { sfits = c .before .before .before .before .put-site-arg3 .given }) (c .before .before .put-site .ensures) ∙ c .before .before .before .before .before .before .before .before .loop .inv .3,
 )
-
-same-length : tie.Need-same-length Inv-loop μ-loop
-same-length c = search needs
 
 returns : tie.Need-returns Inv-loop μ-loop
 returns c =
@@ -78,16 +45,16 @@ put-sites-spec =
     Inv-loop
     μ-loop
     loop-holds
-    mul-put-site
-    shared-slice-copy-out-put-site
-    mul-put-site-2
-    shared-slice-copy-out-put-site-2
-    mul-put-site-3
-    shared-slice-read-put-site
-    put-site-requires
-    add-at
-    add-i
-    loop-less
+    (λ c. search needs)
+    (λ c. search needs)
+    (λ c. search needs)
+    (λ c. search needs)
+    (λ c. search needs)
+    (λ c. search needs)
+    (λ c κs. search needs)
+    (λ c. search needs)
+    (λ c. search needs)
+    (λ c. search needs)
     loop-again
-    same-length
+    (λ c. search needs)
     returns)

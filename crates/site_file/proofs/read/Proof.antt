@@ -7,9 +7,6 @@ use borrow.Author.Needs.{needs}
 use Rattle.site_file.proofs.read.Statement.{statement}
 use Rattle.site_file.proofs.read.Tie as tie
 
-read-refusal-requires : tie.Need-read-refusal-requires
-read-refusal-requires c κs = search needs
-
 returns : tie.Need-returns
 unfolding fileReadTold
 returns c =
@@ -31,4 +28,4 @@ returns-2 c =
 pub read-spec : {M : Type 1} → statement M
 read-spec =
     tie.close
-    (tie.spec read-refusal-requires returns word-at-requires word-at-requires-2 returns-2)
+    (tie.spec (λ c κs. search needs) returns word-at-requires word-at-requires-2 returns-2)

@@ -6,9 +6,6 @@ use borrow.Author.Needs.{needs}
 use Rattle.site_file.proofs.read_refusal.Statement.{statement}
 use Rattle.site_file.proofs.read_refusal.Tie as tie
 
-contents-refusal-requires : tie.Need-contents-refusal-requires
-contents-refusal-requires c κs = search needs
-
 returns : tie.Need-returns
 returns c =
     read-stops _ (c .before .contents-refusal .ensures) (c .if1 .taken)
@@ -16,9 +13,6 @@ returns c =
 word-at-requires : tie.Need-word-at-requires
 word-at-requires c κs =
     let g = laid _ (sym (c .before .contents-refusal .ensures) ∙ c .if1 .left) in omega arith
-
-cast-content-refusal : tie.Need-cast-content-refusal
-cast-content-refusal c = search needs
 
 content-refusal-requires : tie.Need-content-refusal-requires
 content-refusal-requires c κs =
@@ -32,15 +26,9 @@ word-at-requires-2 : tie.Need-word-at-requires-2
 word-at-requires-2 c κs =
     let g = laid _ (sym (c .before .before .before .before .contents-refusal .ensures) ∙ c .before .before .before .if1 .left) in omega arith
 
-cast-content-refusal-2 : tie.Need-cast-content-refusal-2
-cast-content-refusal-2 c = search needs
-
 word-at-requires-3 : tie.Need-word-at-requires-3
 word-at-requires-3 c κs =
     let g = laid _ (sym (c .before .before .before .before .before .contents-refusal .ensures) ∙ c .before .before .before .before .if1 .left) in omega arith
-
-cast-content-refusal-3 : tie.Need-cast-content-refusal-3
-cast-content-refusal-3 c = search needs
 
 content-refusal-requires-2 : tie.Need-content-refusal-requires-2
 content-refusal-requires-2 c κs =
@@ -54,15 +42,15 @@ pub read-refusal-spec : {M : Type 1} → statement M
 read-refusal-spec =
     tie.close
     (tie.spec
-    contents-refusal-requires
+    (λ c κs. search needs)
     returns
     word-at-requires
-    cast-content-refusal
+    (λ c. search needs)
     content-refusal-requires
     returns-2
     word-at-requires-2
-    cast-content-refusal-2
+    (λ c. search needs)
     word-at-requires-3
-    cast-content-refusal-3
+    (λ c. search needs)
     content-refusal-requires-2
     returns-3)

@@ -4,12 +4,6 @@ use Rattle.site_file.proofs.Bytes.{signed-low, signed-difference, signe
 use Rattle.site_file.proofs.signed.Statement.{statement}
 use Rattle.site_file.proofs.signed.Tie as tie
 
-cast-result : tie.Need-cast-result
-cast-result c = search needs
-
-cast-result-2 : tie.Need-cast-result-2
-cast-result-2 c = search needs
-
 sub-result : tie.Need-sub-result
 sub-result c = signed-difference _ (c .before .fits .n .fits) (c .if1 .left)
 
@@ -24,4 +18,4 @@ returns-2 c = signed-result _ (c .before .fits .n .fits) (c .if1 .left)
 
 pub signed-spec : {M : Type 1} → statement M
 signed-spec =
-    tie.close (tie.spec cast-result cast-result-2 sub-result cast-result-3 returns returns-2)
+    tie.close (tie.spec (λ c. search needs) (λ c. search needs) sub-result cast-result-3 returns returns-2)

@@ -8,9 +8,6 @@ use borrow.Author.Needs.{needs}
 use Rattle.site_file.proofs.site_from.Statement.{statement}
 use Rattle.site_file.proofs.site_from.Tie as tie
 
-contents-refusal-requires : tie.Need-contents-refusal-requires
-contents-refusal-requires c κs = search needs
-
 returns : tie.Need-returns
 unfolding siteReadTold
 returns c =
@@ -43,9 +40,6 @@ unfolding siteReadTold
 returns-4 c =
     held-past _ _ _ _ _ (c .before .before .before .before .before .before .before .contents-refusal .ensures) (c .before .before .before .before .before .before .if1 .left) (c .before .before .before .before .before .word-at .ensures) (c .before .before .before .before .if2 .left) (c .before .before .before .word-at2 .ensures) (c .before .before .if3 .left) (c .before .count-in .ensures) (c .if4 .taken)
 
-held-start-requires : tie.Need-held-start-requires
-held-start-requires c κs = search needs
-
 mul-site-at : tie.Need-mul-site-at
 mul-site-at c =
     let g = inside _ (c .before .before .before .before .before .before .before .before .before .before .args .which) (laid _ (sym (c .before .before .before .before .before .before .before .before .contents-refusal .ensures) ∙ c .before .before .before .before .before .before .before .if1 .left)) in let e = held-start _ (c .before .before .before .before .before .before .before .before .before .before .args .which) (c .before .before .before .before .before .before .word-at .ensures) (c .before .before .before .before .before .if2 .left) (c .before .before .before .before .word-at2 .ensures) (c .before .before .before .if3 .left) in omega (arith, c .before .before .count-in .ensures, c .held-start .ensures)
@@ -53,9 +47,6 @@ mul-site-at c =
 add-site-at : tie.Need-add-site-at
 add-site-at c =
     let g = inside _ (c .before .before .before .before .before .before .before .before .before .before .args .which) (laid _ (sym (c .before .before .before .before .before .before .before .before .contents-refusal .ensures) ∙ c .before .before .before .before .before .before .before .if1 .left)) in let e = held-start _ (c .before .before .before .before .before .before .before .before .before .before .args .which) (c .before .before .before .before .before .before .word-at .ensures) (c .before .before .before .before .before .if2 .left) (c .before .before .before .before .word-at2 .ensures) (c .before .before .before .if3 .left) in omega (arith, c .before .before .count-in .ensures, c .held-start .ensures)
-
-cast-site-at : tie.Need-cast-site-at
-cast-site-at c = search needs
 
 site-at-requires : tie.Need-site-at-requires
 site-at-requires c κs =
@@ -70,7 +61,7 @@ pub site-from-spec : {M : Type 1} → statement M
 site-from-spec =
     tie.close
     (tie.spec
-    contents-refusal-requires
+    (λ c κs. search needs)
     returns
     word-at-requires
     returns-2
@@ -78,9 +69,9 @@ site-from-spec =
     returns-3
     count-in-requires
     returns-4
-    held-start-requires
+    (λ c κs. search needs)
     mul-site-at
     add-site-at
-    cast-site-at
+    (λ c. search needs)
     site-at-requires
     returns-5)

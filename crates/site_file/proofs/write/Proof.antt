@@ -8,9 +8,6 @@ use borrow.Author.Needs.{needs}
 use Rattle.site_file.proofs.write.Statement.{statement}
 use Rattle.site_file.proofs.write.Tie as tie
 
-write-refusal-requires : tie.Need-write-refusal-requires
-write-refusal-requires c κs = search needs
-
 returns : tie.Need-returns
 unfolding writtenTold
 returns c =
@@ -64,9 +61,6 @@ cast-t16 : tie.Need-cast-t16
 cast-t16 c =
     let g = ready _ _ _ (sym (c .before .before .before .before .before .before .before .before .before .before .before .before .before .write-refusal .ensures) ∙ c .before .before .before .before .before .before .before .before .before .before .before .before .if1 .left) in omega arith
 
-same-length : tie.Need-same-length
-same-length c = search needs
-
 returns-2 : tie.Need-returns-2
 unfolding writtenTold
 returns-2 c =
@@ -76,7 +70,7 @@ pub write-spec : {M : Type 1} → statement M
 write-spec =
     tie.close
     (tie.spec
-    write-refusal-requires
+    (λ c κs. search needs)
     returns
     cast-put-contents
     cast-put-contents-2
@@ -90,5 +84,5 @@ write-spec =
     mul-t23
     add-t24
     cast-t16
-    same-length
+    (λ c. search needs)
     returns-2)

@@ -6,9 +6,6 @@ use borrow.Author.Needs.{needs}
 use Rattle.site_file.proofs.write_refusal.Statement.{statement}
 use Rattle.site_file.proofs.write_refusal.Tie as tie
 
-lists-refusal-requires : tie.Need-lists-refusal-requires
-lists-refusal-requires c κs = search needs
-
 returns : tie.Need-returns
 returns c = write-lists _ _ _ (c .before .lists-refusal .ensures) (c .if1 .taken)
 
@@ -36,7 +33,7 @@ pub write-refusal-spec : {M : Type 1} → statement M
 write-refusal-spec =
     tie.close
     (tie.spec
-    lists-refusal-requires
+    (λ c κs. search needs)
     returns
     mul-if2
     add-if2

@@ -19,9 +19,6 @@ abbrev μ-loop : tie.MeasureT-loop
 μ-loop ax ay bx by a-from a-to b-from b-to k count distance₀ first₀ second₀ i₀ j₀ tally₀ distance first second i j tally =
     (a-to - i) + (b-to - j)
 
-reach-requires : tie.Need-reach-requires Inv-loop μ-loop
-reach-requires c κs = search needs
-
 loop-holds : tie.Need-loop-holds Inv-loop μ-loop
 loop-holds c =
     let s = c .before .before .before .before .before .pre in
@@ -100,26 +97,8 @@ loop-again-2 c =
     (w .if2 .left) (a .reference-at2 .ensures) (d .scan-right2 .ensures) in
     (held-lengths _ _ _ _ _ (p .held), p)
 
-same-length : tie.Need-same-length Inv-loop μ-loop
-same-length c = search needs
-
-same-length-2 : tie.Need-same-length-2 Inv-loop μ-loop
-same-length-2 c = search needs
-
-same-length-3 : tie.Need-same-length-3 Inv-loop μ-loop
-same-length-3 c = search needs
-
 returns : tie.Need-returns Inv-loop μ-loop
 returns c = let l = c .before .before in fingers-end (l .before .before .before .before .before .before .pre) (l .loop .inv .1) (inr (ltb-false _ _ (c .if1 .left)))
-
-same-length-4 : tie.Need-same-length-4 Inv-loop μ-loop
-same-length-4 c = search needs
-
-same-length-5 : tie.Need-same-length-5 Inv-loop μ-loop
-same-length-5 c = search needs
-
-same-length-6 : tie.Need-same-length-6 Inv-loop μ-loop
-same-length-6 c = search needs
 
 returns-2 : tie.Need-returns-2 Inv-loop μ-loop
 returns-2 c = let l = c .before in fingers-end (l .before .before .before .before .before .before .pre) (l .loop .inv .1) (inl (c .loop-test .left))
@@ -130,7 +109,7 @@ classic-spec =
     (tie.spec
     Inv-loop
     μ-loop
-    reach-requires
+    (λ c κs. search needs)
     loop-holds
     first-next-requires
     reference-at-requires
@@ -143,11 +122,11 @@ classic-spec =
     add-j
     loop-less-2
     loop-again-2
-    same-length
-    same-length-2
-    same-length-3
+    (λ c. search needs)
+    (λ c. search needs)
+    (λ c. search needs)
     returns
-    same-length-4
-    same-length-5
-    same-length-6
+    (λ c. search needs)
+    (λ c. search needs)
+    (λ c. search needs)
     returns-2)

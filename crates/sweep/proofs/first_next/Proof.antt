@@ -11,21 +11,6 @@ returns c = next-none _ _ _ _ _ _ (c .if1 .taken)
 returns-2 : tie.Need-returns-2
 returns-2 c = next-alone _ _ _ _ _ _ (c .before .if1 .left) (c .if2 .taken)
 
-mul-at-most : tie.Need-mul-at-most
-mul-at-most c = search needs
-
-shared-slice-copy-out-at-most : tie.Need-shared-slice-copy-out-at-most
-shared-slice-copy-out-at-most c = search needs
-
-mul-at-most-2 : tie.Need-mul-at-most-2
-mul-at-most-2 c = search needs
-
-shared-slice-copy-out-at-most-2 : tie.Need-shared-slice-copy-out-at-most-2
-shared-slice-copy-out-at-most-2 c = search needs
-
-at-most-requires : tie.Need-at-most-requires
-at-most-requires c κs = search needs
-
 returns-3 : tie.Need-returns-3
 returns-3 c =
     let r = c .before in
@@ -38,9 +23,9 @@ first-next-spec =
     (tie.spec
     returns
     returns-2
-    mul-at-most
-    shared-slice-copy-out-at-most
-    mul-at-most-2
-    shared-slice-copy-out-at-most-2
-    at-most-requires
+    (λ c. search needs)
+    (λ c. search needs)
+    (λ c. search needs)
+    (λ c. search needs)
+    (λ c κs. search needs)
     returns-3)

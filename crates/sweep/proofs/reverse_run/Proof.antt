@@ -17,9 +17,6 @@ abbrev μ-references : tie.MeasureT-references
 μ-references ax ay bx by a-from a-to b-from b-to k count distance₀ first₀ second₀ i₀ j₀ a-limit₀ b-limit₀ tally₀ distance first second i j a-limit b-limit tally =
     (a-to - i) + (b-to - j)
 
-reach-requires : tie.Need-reach-requires Inv-references μ-references
-reach-requires c κs = search needs
-
 references-holds : tie.Need-references-holds Inv-references μ-references
 references-holds c =
     let s = c .before .before .before .before .before .pre in
@@ -90,15 +87,6 @@ references-again-2 c =
     (a .reference-at2 .ensures) (d .scan-left2 .ensures) in
     (held-lengths _ _ _ _ _ (p .held), p)
 
-same-length : tie.Need-same-length Inv-references μ-references
-same-length c = search needs
-
-same-length-2 : tie.Need-same-length-2 Inv-references μ-references
-same-length-2 c = search needs
-
-same-length-3 : tie.Need-same-length-3 Inv-references μ-references
-same-length-3 c = search needs
-
 returns : tie.Need-returns Inv-references μ-references
 returns c =
     let l = c .before .before .before in
@@ -110,7 +98,7 @@ reverse-run-spec =
     (tie.spec
     Inv-references
     μ-references
-    reach-requires
+    (λ c κs. search needs)
     references-holds
     first-next-requires
     reference-at-requires
@@ -123,7 +111,7 @@ reverse-run-spec =
     add-j
     references-less-2
     references-again-2
-    same-length
-    same-length-2
-    same-length-3
+    (λ c. search needs)
+    (λ c. search needs)
+    (λ c. search needs)
     returns)

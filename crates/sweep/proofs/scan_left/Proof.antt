@@ -52,30 +52,12 @@ loop-again c =
     let p = scanning-goes (l .before .before .before .before .pre) (l .loop .inv .2) (leftward-cons _ _ _ _ (under t .0)) (d .look .ensures) (c .if2 .left) in
     (held-lengths _ _ _ _ _ (p .held), omega (arith, under t), p)
 
-same-length : tie.Need-same-length Inv-loop μ-loop
-same-length c = search needs
-
-same-length-2 : tie.Need-same-length-2 Inv-loop μ-loop
-same-length-2 c = search needs
-
-same-length-3 : tie.Need-same-length-3 Inv-loop μ-loop
-same-length-3 c = search needs
-
 returns : tie.Need-returns Inv-loop μ-loop
 returns c =
     let l = c .before in
     let i = l .loop .inv in
     let e = scanning-ends (l .before .before .before .before .pre) (i .2) (leftward-nil _ _ _ _ (omega (arith, c .if1 .taken))) in
     (tallied-at (e .tallied), left-limit _ _ _ _ _ _ (i .1 .0) (i .1 .1) (e .passed))
-
-same-length-4 : tie.Need-same-length-4 Inv-loop μ-loop
-same-length-4 c = search needs
-
-same-length-5 : tie.Need-same-length-5 Inv-loop μ-loop
-same-length-5 c = search needs
-
-same-length-6 : tie.Need-same-length-6 Inv-loop μ-loop
-same-length-6 c = search needs
 
 returns-2 : tie.Need-returns-2 Inv-loop μ-loop
 returns-2 c =
@@ -98,11 +80,11 @@ scan-left-spec =
     sub-at
     loop-less
     loop-again
-    same-length
-    same-length-2
-    same-length-3
+    (λ c. search needs)
+    (λ c. search needs)
+    (λ c. search needs)
     returns
-    same-length-4
-    same-length-5
-    same-length-6
+    (λ c. search needs)
+    (λ c. search needs)
+    (λ c. search needs)
     returns-2)

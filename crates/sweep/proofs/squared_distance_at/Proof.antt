@@ -11,18 +11,6 @@ use borrow.Author.Needs.{needs, sfits-of}
 use Rattle.sweep.proofs.squared_distance_at.Statement.{statement}
 use Rattle.sweep.proofs.squared_distance_at.Tie as tie
 
-mul-squared-distance : tie.Need-mul-squared-distance
-mul-squared-distance c = search needs
-
-shared-slice-copy-out-squared-distance : tie.Need-shared-slice-copy-out-squared-distance
-shared-slice-copy-out-squared-distance c = search needs
-
-mul-squared-distance-2 : tie.Need-mul-squared-distance-2
-mul-squared-distance-2 c = search needs
-
-shared-slice-copy-out-squared-distance-2 : tie.Need-shared-slice-copy-out-squared-distance-2
-shared-slice-copy-out-squared-distance-2 c = search needs
-
 fits-x : (c : tie.After-struct-told) → SFits w32 (c .before .before .before .args .reference .x)
 fits-x c = sfits-of (search needs)
 
@@ -51,9 +39,9 @@ pub squared-distance-at-spec : {M : Type 1} → statement M
 squared-distance-at-spec =
     tie.close
     (tie.spec
-    mul-squared-distance
-    shared-slice-copy-out-squared-distance
-    mul-squared-distance-2
-    shared-slice-copy-out-squared-distance-2
+    (λ c. search needs)
+    (λ c. search needs)
+    (λ c. search needs)
+    (λ c. search needs)
     squared-distance-requires
     returns)

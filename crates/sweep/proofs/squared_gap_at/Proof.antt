@@ -9,15 +9,6 @@ use borrow.Author.Needs.{needs, sfits-of}
 use Rattle.sweep.proofs.squared_gap_at.Statement.{statement}
 use Rattle.sweep.proofs.squared_gap_at.Tie as tie
 
-mul-squared-gap : tie.Need-mul-squared-gap
-mul-squared-gap c = search needs
-
-shared-slice-copy-out-squared-gap : tie.Need-shared-slice-copy-out-squared-gap
-shared-slice-copy-out-squared-gap c = search needs
-
-squared-gap-requires : tie.Need-squared-gap-requires
-squared-gap-requires c κs = search needs
-
 fits-x : (c : tie.After-struct-told) → SFits w32 (c .before .before .args .reference .x)
 fits-x c = sfits-of (search needs)
 
@@ -28,4 +19,4 @@ returns c =
 pub squared-gap-at-spec : {M : Type 1} → statement M
 squared-gap-at-spec =
     tie.close
-    (tie.spec mul-squared-gap shared-slice-copy-out-squared-gap squared-gap-requires returns)
+    (tie.spec (λ c. search needs) (λ c. search needs) (λ c κs. search needs) returns)

@@ -51,18 +51,6 @@ judged c =
     c .skips .ensures .across _ _ .numbered _ _ (level .0) (level .1) _ _
     (job-kept (s .args .c) (one s) (other s) (held s) _ _ (accepted e) .room)
 
-refusal-requires : tie.Need-refusal-requires
-refusal-requires c κs = search needs
-
-same-length : tie.Need-same-length
-same-length c = search needs
-
-same-length-2 : tie.Need-same-length-2
-same-length-2 c = search needs
-
-same-length-3 : tie.Need-same-length-3
-same-length-3 c = search needs
-
 returns : tie.Need-returns
 returns c =
     let s = c .before .before .before .before .before .before .before .before .before .before in
@@ -76,15 +64,6 @@ skips-requires c κs =
 
 settle-requires : tie.Need-settle-requires
 settle-requires c κs = few (c .before .before .before)
-
-same-length-4 : tie.Need-same-length-4
-same-length-4 c = search needs
-
-same-length-5 : tie.Need-same-length-5
-same-length-5 c = search needs
-
-same-length-6 : tie.Need-same-length-6
-same-length-6 c = search needs
 
 returns-2 : tie.Need-returns-2
 returns-2 c =
@@ -103,15 +82,6 @@ settle-requires-2 : tie.Need-settle-requires-2
 settle-requires-2 c κs =
     few (c .before .before .before .before .before .before .before .before .before .before .before .before .before .before .before)
 
-same-length-7 : tie.Need-same-length-7
-same-length-7 c = search needs
-
-same-length-8 : tie.Need-same-length-8
-same-length-8 c = search needs
-
-same-length-9 : tie.Need-same-length-9
-same-length-9 c = search needs
-
 returns-3 : tie.Need-returns-3
 returns-3 c =
     let w = c .before .before .before .before .before .before .before .before .before in
@@ -127,20 +97,20 @@ pub job-spec : {M : Type 1} → statement M
 job-spec =
     tie.close
     (tie.spec
-    refusal-requires
-    same-length
-    same-length-2
-    same-length-3
+    (λ c κs. search needs)
+    (λ c. search needs)
+    (λ c. search needs)
+    (λ c. search needs)
     returns
     skips-requires
     settle-requires
-    same-length-4
-    same-length-5
-    same-length-6
+    (λ c. search needs)
+    (λ c. search needs)
+    (λ c. search needs)
     returns-2
     swept-requires
     settle-requires-2
-    same-length-7
-    same-length-8
-    same-length-9
+    (λ c. search needs)
+    (λ c. search needs)
+    (λ c. search needs)
     returns-3)

@@ -5,12 +5,6 @@ use Rattle.campaign.proofs.OpenTests.{opened-few, open-refused, open-do
 use Rattle.campaign.proofs.calls.open.Statement.{statement}
 use Rattle.campaign.proofs.calls.open.Tie as tie
 
-refusal-requires : tie.Need-refusal-requires
-refusal-requires c κs = search needs
-
-none-requires : tie.Need-none-requires
-none-requires c κs = search needs
-
 returns : tie.Need-returns
 returns c = open-refused _ _ _ _ _ _ (c .before .before .refusal .ensures) (c .before .if1 .taken) (c .none .ensures)
 
@@ -21,4 +15,4 @@ returns-2 : tie.Need-returns-2
 returns-2 c = open-done _ _ _ _ _ _ (c .before .before .refusal .ensures) (c .before .if1 .left) (c .new .ensures)
 
 pub open-spec : {M : Type 1} → statement M
-open-spec = tie.close (tie.spec refusal-requires none-requires returns new-requires returns-2)
+open-spec = tie.close (tie.spec (λ c κs. search needs) (λ c κs. search needs) returns new-requires returns-2)

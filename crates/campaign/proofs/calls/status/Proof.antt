@@ -7,9 +7,6 @@ use Rattle.campaign.proofs.OpenTests.{status-refused, status-told}
 use Rattle.campaign.proofs.calls.status.Statement.{statement}
 use Rattle.campaign.proofs.calls.status.Tie as tie
 
-refusal-requires : tie.Need-refusal-requires
-refusal-requires c κs = search needs
-
 returns : tie.Need-returns
 returns c = status-refused _ _ _ _ (c .before .refusal .ensures) (c .if1 .taken)
 
@@ -27,4 +24,4 @@ returns-2 c =
     status-told _ _ _ _ (c .before .before .before .refusal .ensures) (c .before .before .if1 .left) _ (c .before .settled .ensures)
 
 pub status-spec : {M : Type 1} → statement M
-status-spec = tie.close (tie.spec refusal-requires returns settled-requires mul-t14 returns-2)
+status-spec = tie.close (tie.spec (λ c κs. search needs) returns settled-requires mul-t14 returns-2)

@@ -4,15 +4,6 @@ use Rattle.campaign.proofs.EndLaws.{starts-at-first, starts-at-end}
 use Rattle.campaign.proofs.ends.from.Statement.{statement}
 use Rattle.campaign.proofs.ends.from.Tie as tie
 
-sub-result : tie.Need-sub-result
-sub-result c = search needs
-
-mul-result : tie.Need-mul-result
-mul-result c = search needs
-
-shared-slice-read-result : tie.Need-shared-slice-read-result
-shared-slice-read-result c = search needs
-
 returns : tie.Need-returns
 returns c = starts-at-first _ _ (c .if1 .taken)
 
@@ -20,4 +11,4 @@ returns-2 : tie.Need-returns-2
 returns-2 c = starts-at-end _ _ (c .before .if1 .left)
 
 pub from-spec : {M : Type 1} → statement M
-from-spec = tie.close (tie.spec sub-result mul-result shared-slice-read-result returns returns-2)
+from-spec = tie.close (tie.spec (λ c. search needs) (λ c. search needs) (λ c. search needs) returns returns-2)

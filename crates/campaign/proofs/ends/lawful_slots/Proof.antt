@@ -13,14 +13,8 @@ long s = search needs
 returns : tie.Need-returns
 returns c = slots-fail _ _ _ (c .if1 .taken)
 
-array-share-prefix-slots : tie.Need-array-share-prefix-slots
-array-share-prefix-slots c = search needs
-
 slice-aggregate-lawful : tie.Need-slice-aggregate-lawful
 slice-aggregate-lawful c = in-use _ _ (long (c .before .before)) (c .before .if1 .left)
-
-lawful-requires : tie.Need-lawful-requires
-lawful-requires c κs = search needs
 
 returns-2 : tie.Need-returns-2
 returns-2 c = slots-decide _ _ _ (c .before .before .if1 .left) (c .lawful .ensures)
@@ -28,4 +22,4 @@ returns-2 c = slots-decide _ _ _ (c .before .before .if1 .left) (c .lawful .ensu
 pub lawful-slots-spec : {M : Type 1} → statement M
 lawful-slots-spec =
     tie.close
-    (tie.spec returns array-share-prefix-slots slice-aggregate-lawful lawful-requires returns-2)
+    (tie.spec returns (λ c. search needs) slice-aggregate-lawful (λ c κs. search needs) returns-2)

@@ -10,17 +10,11 @@ use Rattle.campaign.proofs.ends.strip.Tie as tie
 used : (s : tie.Start) → s .args .used ≡ length (take (s .args .used) (s .args .t1))
 used s = let long : length (s .args .t1) ≡ 32 = search needs in in-use _ _ long (s .pre .0)
 
-array-share-prefix-slots : tie.Need-array-share-prefix-slots
-array-share-prefix-slots c = search needs
-
 slice-aggregate-from : tie.Need-slice-aggregate-from
 slice-aggregate-from c = used (c .before)
 
 from-requires : tie.Need-from-requires
 from-requires c κs = omega (arith, used (c .before), c .before .pre .1)
-
-array-share-prefix-slots-2 : tie.Need-array-share-prefix-slots-2
-array-share-prefix-slots-2 c = search needs
 
 slice-aggregate-to : tie.Need-slice-aggregate-to
 slice-aggregate-to c = used (c .before .before .before)
@@ -28,25 +22,16 @@ slice-aggregate-to c = used (c .before .before .before)
 to-requires : tie.Need-to-requires
 to-requires c κs = omega (arith, used (c .before .before .before), c .before .before .before .pre .1)
 
-cast-t10 : tie.Need-cast-t10
-cast-t10 c = search needs
-
-cast-t13 : tie.Need-cast-t13
-cast-t13 c = search needs
-
-returns : tie.Need-returns
-returns c = search needs
-
 pub strip-spec : {M : Type 1} → statement M
 strip-spec =
     tie.close
     (tie.spec
-    array-share-prefix-slots
+    (λ c. search needs)
     slice-aggregate-from
     from-requires
-    array-share-prefix-slots-2
+    (λ c. search needs)
     slice-aggregate-to
     to-requires
-    cast-t10
-    cast-t13
-    returns)
+    (λ c. search needs)
+    (λ c. search needs)
+    (λ c. search needs))

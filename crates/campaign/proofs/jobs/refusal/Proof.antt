@@ -22,9 +22,6 @@ other s = columns (s .args .bx .now) (s .args .by .now) (s .args .bn .now)
 abbrev held : tie.Start → Results
 held s = results (s .args .distance .now) (s .args .first .now) (s .args .second .now)
 
-refusal-requires : tie.Need-refusal-requires
-refusal-requires c κs = search needs
-
 returns : tie.Need-returns
 returns c = refuses-campaign _ _ _ _ _ _ (c .before .refusal .ensures) (c .if1 .taken)
 
@@ -70,7 +67,7 @@ pub refusal-spec : {M : Type 1} → statement M
 refusal-spec =
     tie.close
     (tie.spec
-    refusal-requires
+    (λ c κs. search needs)
     returns
     returns-2
     returns-3

@@ -33,9 +33,6 @@ squared-gap-requires c κs =
     let s = c .before .before .before .before .before .before .before in
     places (s .args .c) (c .before .strip .ensures) (c .strip2 .ensures) (s .pre .0) (long s .0) (long s .1)
 
-cast-last : tie.Need-cast-last
-cast-last c = search needs
-
 sub-last : tie.Need-sub-last
 sub-last c =
     omega (
@@ -44,9 +41,6 @@ sub-last c =
       some-k
           (c .before .before .before .before .before .before .before .before .before .pre .0),
     )
-
-mul-result : tie.Need-mul-result
-mul-result c = search needs
 
 shared-slice-read-result : tie.Need-shared-slice-read-result
 shared-slice-read-result c =
@@ -74,8 +68,8 @@ skips-spec =
     strip-requires
     strip-requires-2
     squared-gap-requires
-    cast-last
+    (λ c. search needs)
     sub-last
-    mul-result
+    (λ c. search needs)
     shared-slice-read-result
     returns-2)

@@ -19,12 +19,6 @@ strip-requires-2 : tie.Need-strip-requires-2
 strip-requires-2 c κs =
     let asked = c .before .before .before .before .before .before .pre .1 .0 in (asked-parts asked .cols, asked .column)
 
-cast-run : tie.Need-cast-run
-cast-run c = search needs
-
-cast-run-2 : tie.Need-cast-run-2
-cast-run-2 c = search needs
-
 run-requires : tie.Need-run-requires
 run-requires c κs =
     let s = c .before .before .before .before .before .before .before .before .before .before .before .before in
@@ -44,15 +38,6 @@ run-requires c κs =
       ready = s .pre .1 .1;
     }
 
-same-length : tie.Need-same-length
-same-length c = search needs
-
-same-length-2 : tie.Need-same-length-2
-same-length-2 c = search needs
-
-same-length-3 : tie.Need-same-length-3
-same-length-3 c = search needs
-
 returns : tie.Need-returns
 returns c =
     let s =
@@ -69,10 +54,10 @@ swept-spec =
     (tie.spec
     strip-requires
     strip-requires-2
-    cast-run
-    cast-run-2
+    (λ c. search needs)
+    (λ c. search needs)
     run-requires
-    same-length
-    same-length-2
-    same-length-3
+    (λ c. search needs)
+    (λ c. search needs)
+    (λ c. search needs)
     returns)

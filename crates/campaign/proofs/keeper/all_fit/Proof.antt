@@ -54,9 +54,6 @@ learnt c an bn la lb =
 loop-holds : tie.Need-loop-holds Inv-loop μ-loop
 loop-holds c = (search needs, record { numbered = λ an bn la lb. refl })
 
-entry-at-requires : tie.Need-entry-at-requires Inv-loop μ-loop
-entry-at-requires c κs = search needs
-
 fits-requires : tie.Need-fits-requires Inv-loop μ-loop
 fits-requires c κs = c .before .before .before .before .before .before .before .before .before .pre .1
 
@@ -73,9 +70,6 @@ returns c =
 
 add-i : tie.Need-add-i Inv-loop μ-loop
 add-i c = omega (arith, c .before .before .before .loop-test .taken)
-
-loop-less : tie.Need-loop-less Inv-loop μ-loop
-loop-less c = search needs
 
 loop-again : tie.Need-loop-again Inv-loop μ-loop
 loop-again c =
@@ -107,10 +101,10 @@ all-fit-spec =
     Inv-loop
     μ-loop
     loop-holds
-    entry-at-requires
+    (λ c κs. search needs)
     fits-requires
     returns
     add-i
-    loop-less
+    (λ c. search needs)
     loop-again
     returns-2)

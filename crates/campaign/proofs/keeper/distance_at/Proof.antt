@@ -10,30 +10,6 @@ use Rattle.campaign.proofs.KeeperTests.{apart-at}
 use Rattle.campaign.proofs.keeper.distance_at.Statement.{statement}
 use Rattle.campaign.proofs.keeper.distance_at.Tie as tie
 
-mul-squared-distance : tie.Need-mul-squared-distance
-mul-squared-distance c = search needs
-
-shared-slice-copy-out-squared-distance : tie.Need-shared-slice-copy-out-squared-distance
-shared-slice-copy-out-squared-distance c = search needs
-
-mul-squared-distance-2 : tie.Need-mul-squared-distance-2
-mul-squared-distance-2 c = search needs
-
-shared-slice-copy-out-squared-distance-2 : tie.Need-shared-slice-copy-out-squared-distance-2
-shared-slice-copy-out-squared-distance-2 c = search needs
-
-mul-squared-distance-3 : tie.Need-mul-squared-distance-3
-mul-squared-distance-3 c = search needs
-
-shared-slice-copy-out-squared-distance-3 : tie.Need-shared-slice-copy-out-squared-distance-3
-shared-slice-copy-out-squared-distance-3 c = search needs
-
-mul-squared-distance-4 : tie.Need-mul-squared-distance-4
-mul-squared-distance-4 c = search needs
-
-shared-slice-copy-out-squared-distance-4 : tie.Need-shared-slice-copy-out-squared-distance-4
-shared-slice-copy-out-squared-distance-4 c = search needs
-
 squared-distance-requires : tie.Need-squared-distance-requires
 squared-distance-requires c κs =
     let s = c .before .before .before .before in
@@ -67,13 +43,13 @@ pub distance-at-spec : {M : Type 1} → statement M
 distance-at-spec =
     tie.close
     (tie.spec
-    mul-squared-distance
-    shared-slice-copy-out-squared-distance
-    mul-squared-distance-2
-    shared-slice-copy-out-squared-distance-2
-    mul-squared-distance-3
-    shared-slice-copy-out-squared-distance-3
-    mul-squared-distance-4
-    shared-slice-copy-out-squared-distance-4
+    (λ c. search needs)
+    (λ c. search needs)
+    (λ c. search needs)
+    (λ c. search needs)
+    (λ c. search needs)
+    (λ c. search needs)
+    (λ c. search needs)
+    (λ c. search needs)
     squared-distance-requires
     returns)

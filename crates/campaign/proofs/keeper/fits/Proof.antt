@@ -15,12 +15,6 @@ first s an = columns (s .args .ax .now) (s .args .ay .now) an
 abbrev second : tie.Start → List ℕ → Columns
 second s bn = columns (s .args .bx .now) (s .args .by .now) bn
 
-cast-i : tie.Need-cast-i
-cast-i c = search needs
-
-cast-j : tie.Need-cast-j
-cast-j c = search needs
-
 returns : tie.Need-returns
 returns c =
     let s = c .before .before .before .before .before .before in
@@ -34,9 +28,6 @@ returns-2 c =
           λ an bn la lb. second-outside _ _ _ (first s an) (second s bn) la lb _ (c .before .if1 .left) (c .if2 .taken);
     }
 
-distance-at-requires : tie.Need-distance-at-requires
-distance-at-requires c κs = search needs
-
 returns-3 : tie.Need-returns-3
 returns-3 c =
     let s = c .before .before .before .before .before .before .before .before .before .before in
@@ -46,12 +37,6 @@ returns-3 c =
           (c .before .before .before .before .if1 .left) (c .before .before .before .if2 .left)
           (c .before .before .distance-at .ensures .numbered an bn la lb) (c .if3 .taken);
     }
-
-holding-requires : tie.Need-holding-requires
-holding-requires c κs = search needs
-
-holding-requires-2 : tie.Need-holding-requires-2
-holding-requires-2 c κs = search needs
 
 is-settled-requires : tie.Need-is-settled-requires
 is-settled-requires c κs =
@@ -76,13 +61,13 @@ pub fits-spec : {M : Type 1} → statement M
 fits-spec =
     tie.close
     (tie.spec
-    cast-i
-    cast-j
+    (λ c. search needs)
+    (λ c. search needs)
     returns
     returns-2
-    distance-at-requires
+    (λ c κs. search needs)
     returns-3
-    holding-requires
-    holding-requires-2
+    (λ c κs. search needs)
+    (λ c κs. search needs)
     is-settled-requires
     returns-4)

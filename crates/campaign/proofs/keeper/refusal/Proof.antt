@@ -18,9 +18,6 @@ accepted : (c : tie.Else1)
     (c .before .before .before .before .before .before .before .args .bn .now)) ≡ 0)
 accepted c = both-accepted _ _ (sym (c .before .lists-refusal .ensures) ∙ c .if1 .left)
 
-lists-refusal-requires : tie.Need-lists-refusal-requires
-lists-refusal-requires c κs = search needs
-
 returns : tie.Need-returns
 returns c = lists-refused _ _ _ _ (c .before .lists-refusal .ensures) (c .if1 .taken)
 
@@ -43,4 +40,4 @@ returns-3 c =
 
 pub refusal-spec : {M : Type 1} → statement M
 refusal-spec =
-    tie.close (tie.spec lists-refusal-requires returns sound-requires returns-2 returns-3)
+    tie.close (tie.spec (λ c κs. search needs) returns sound-requires returns-2 returns-3)

@@ -11,15 +11,6 @@ use Rattle.campaign.proofs.keeper.settled.Tie as tie
 long : (s : tie.Start) → (length (s .args .c .«first_ends») ≡ 32) × (length (s .args .c .«second_ends») ≡ 32) × (length (s .args .c .marks) ≡ 1024)
 long s = (search needs, search needs, search needs)
 
-cast-rows : tie.Need-cast-rows
-cast-rows c = search needs
-
-cast-cols : tie.Need-cast-cols
-cast-cols c = search needs
-
-slice-aggregate-tally : tie.Need-slice-aggregate-tally
-slice-aggregate-tally c = search needs
-
 array-share-prefix-first-ends : tie.Need-array-share-prefix-first-ends
 array-share-prefix-first-ends c =
     let s = c .before .before .before .before .before .before in
@@ -55,9 +46,9 @@ pub settled-spec : {M : Type 1} → statement M
 settled-spec =
     tie.close
     (tie.spec
-    cast-rows
-    cast-cols
-    slice-aggregate-tally
+    (λ c. search needs)
+    (λ c. search needs)
+    (λ c. search needs)
     array-share-prefix-first-ends
     slice-aggregate-tally-2
     array-share-prefix-second-ends

@@ -38,9 +38,6 @@ roomy : (f : tie.Else2)
     ≡ true
 roomy f = sym (f .before .room .ensures) ∙ not-false _ (f .if2 .left)
 
-sound-plan-requires : tie.Need-sound-plan-requires
-sound-plan-requires c κs = search needs
-
 returns : tie.Need-returns
 returns c =
     let s = c .before .before .before .before .before in
@@ -49,12 +46,6 @@ returns c =
           plan-fails _ (first s an) (second s bn) _ la lb
           (sym (c .before .sound-plan .ensures) ∙ not-true _ (c .if1 .taken));
     }
-
-cast-room : tie.Need-cast-room
-cast-room c = search needs
-
-room-requires : tie.Need-room-requires
-room-requires c κs = search needs
 
 returns-2 : tie.Need-returns-2
 returns-2 c =
@@ -106,10 +97,10 @@ pub sound-spec : {M : Type 1} → statement M
 sound-spec =
     tie.close
     (tie.spec
-    sound-plan-requires
+    (λ c κs. search needs)
     returns
-    cast-room
-    room-requires
+    (λ c. search needs)
+    (λ c κs. search needs)
     returns-2
     right-count-requires
     returns-3

@@ -23,15 +23,6 @@ fitting s =
 long : (s : tie.Start) → (length (s .args .c .«first_ends») ≡ 32) × (length (s .args .c .«second_ends») ≡ 32) × (length (s .args .c .marks) ≡ 1024)
 long s = (search needs, search needs, search needs)
 
-cast-count : tie.Need-cast-count
-cast-count c = search needs
-
-cast-rows : tie.Need-cast-rows
-cast-rows c = search needs
-
-cast-cols : tie.Need-cast-cols
-cast-cols c = search needs
-
 in-order-requires : tie.Need-in-order-requires
 in-order-requires c κs = fitting (c .before .before .before .before .before .before .before .before .before)
 
@@ -99,9 +90,9 @@ pub sound-entries-spec : {M : Type 1} → statement M
 sound-entries-spec =
     tie.close
     (tie.spec
-    cast-count
-    cast-rows
-    cast-cols
+    (λ c. search needs)
+    (λ c. search needs)
+    (λ c. search needs)
     in-order-requires
     returns
     array-share-prefix-first-ends

@@ -11,22 +11,13 @@ use Rattle.campaign.proofs.keeper.sound_plan.Tie as tie
 lawful : (c : tie.Else1) → lawfulK (c .before .before .args .c .k) ≡ true
 lawful c = sym (c .before .lawful-k .ensures) ∙ not-false _ (c .if1 .left)
 
-lawful-k-requires : tie.Need-lawful-k-requires
-lawful-k-requires c κs = search needs
-
 returns : tie.Need-returns
 returns c = unlawful-k _ _ _ (sym (c .before .lawful-k .ensures) ∙ not-true _ (c .if1 .taken))
-
-lawful-slots-requires : tie.Need-lawful-slots-requires
-lawful-slots-requires c κs = search needs
 
 returns-2 : tie.Need-returns-2
 returns-2 c =
     unlawful-first _ _ _ (lawful (c .before .before .before .before .before))
     (sym (c .before .lawful-slots .ensures) ∙ not-true _ (c .if2 .taken))
-
-lawful-slots-requires-2 : tie.Need-lawful-slots-requires-2
-lawful-slots-requires-2 c κs = search needs
 
 returns-3 : tie.Need-returns-3
 returns-3 c =
@@ -34,18 +25,6 @@ returns-3 c =
     unlawful-second _ _ _ (lawful (e .before .before .before .before .before))
     (sym (e .before .lawful-slots .ensures) ∙ not-false _ (e .if2 .left))
     (sym (c .before .lawful-slots2 .ensures) ∙ not-true _ (c .if3 .taken))
-
-cast-lawful : tie.Need-cast-lawful
-cast-lawful c = search needs
-
-cast-lawful-2 : tie.Need-cast-lawful-2
-cast-lawful-2 c = search needs
-
-slice-aggregate-lawful : tie.Need-slice-aggregate-lawful
-slice-aggregate-lawful c = search needs
-
-lawful-requires : tie.Need-lawful-requires
-lawful-requires c κs = search needs
 
 returns-4 : tie.Need-returns-4
 returns-4 c =
@@ -59,14 +38,14 @@ pub sound-plan-spec : {M : Type 1} → statement M
 sound-plan-spec =
     tie.close
     (tie.spec
-    lawful-k-requires
+    (λ c κs. search needs)
     returns
-    lawful-slots-requires
+    (λ c κs. search needs)
     returns-2
-    lawful-slots-requires-2
+    (λ c κs. search needs)
     returns-3
-    cast-lawful
-    cast-lawful-2
-    slice-aggregate-lawful
-    lawful-requires
+    (λ c. search needs)
+    (λ c. search needs)
+    (λ c. search needs)
+    (λ c κs. search needs)
     returns-4)

@@ -4,15 +4,6 @@ use Rattle.campaign.proofs.MarkTests.{settled-at, settled-past}
 use Rattle.campaign.proofs.marks.is_settled.Statement.{statement}
 use Rattle.campaign.proofs.marks.is_settled.Tie as tie
 
-mul-at : tie.Need-mul-at
-mul-at c = search needs
-
-add-at : tie.Need-add-at
-add-at c = search needs
-
-shared-slice-read-result : tie.Need-shared-slice-read-result
-shared-slice-read-result c = search needs
-
 returns : tie.Need-returns
 returns c = settled-at _ _ _
 
@@ -20,4 +11,4 @@ returns-2 : tie.Need-returns-2
 returns-2 c = settled-past _ _ _ (c .if1 .left)
 
 pub is-settled-spec : {M : Type 1} → statement M
-is-settled-spec = tie.close (tie.spec mul-at add-at shared-slice-read-result returns returns-2)
+is-settled-spec = tie.close (tie.spec (λ c. search needs) (λ c. search needs) (λ c. search needs) returns returns-2)

@@ -18,22 +18,10 @@ abbrev μ-loop : tie.MeasureT-loop
 loop-holds : tie.Need-loop-holds Inv-loop μ-loop
 loop-holds c = (search needs, refl)
 
-shared-slice-read-lawful-at : tie.Need-shared-slice-read-lawful-at Inv-loop μ-loop
-shared-slice-read-lawful-at c = search needs
-
-lawful-at-requires : tie.Need-lawful-at-requires Inv-loop μ-loop
-lawful-at-requires c κs = search needs
-
 returns : tie.Need-returns Inv-loop μ-loop
 returns c =
     let l = c .before .before .before .before .loop in
     marks-fall _ _ _ (l .i) (l .inv .1) (c .before .before .before .loop-test .taken) (c .before .lawful-at .ensures) (not-true _ (c .if1 .taken))
-
-add-i : tie.Need-add-i Inv-loop μ-loop
-add-i c = search needs
-
-loop-less : tie.Need-loop-less Inv-loop μ-loop
-loop-less c = search needs
 
 loop-again : tie.Need-loop-again Inv-loop μ-loop
 loop-again c =
@@ -50,10 +38,10 @@ lawful-spec =
     Inv-loop
     μ-loop
     loop-holds
-    shared-slice-read-lawful-at
-    lawful-at-requires
+    (λ c. search needs)
+    (λ c κs. search needs)
     returns
-    add-i
-    loop-less
+    (λ c. search needs)
+    (λ c. search needs)
     loop-again
     returns-2)

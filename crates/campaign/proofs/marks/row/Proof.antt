@@ -67,9 +67,6 @@ add-pairs c = omega (arith, size c, few (c .before .before .before .before))
 add-b : tie.Need-add-b Inv-loop μ-loop
 add-b c = omega (arith, few (c .before .before .before))
 
-loop-less : tie.Need-loop-less Inv-loop μ-loop
-loop-less c = search needs
-
 loop-again : tie.Need-loop-again Inv-loop μ-loop
 loop-again c =
     let l = c .before .before .before .loop in
@@ -114,6 +111,6 @@ row-spec =
     mul-pairs
     add-pairs
     add-b
-    loop-less
+    (λ c. search needs)
     loop-again
     returns)

@@ -39,9 +39,6 @@ add-pairs c = omega (arith, small (c .before .before))
 add-a : tie.Need-add-a Inv-loop μ-loop
 add-a c = omega (arith, small (c .before .before))
 
-loop-less : tie.Need-loop-less Inv-loop μ-loop
-loop-less c = search needs
-
 loop-again : tie.Need-loop-again Inv-loop μ-loop
 loop-again c =
     let l = c .before .before .before .before .loop in
@@ -67,6 +64,6 @@ tally-spec =
     add-jobs
     add-pairs
     add-a
-    loop-less
+    (λ c. search needs)
     loop-again
     returns)

@@ -6,22 +6,13 @@ use Rattle.campaign.proofs.OpenTests.{opens-lists, opens-k, opens-first
 use Rattle.campaign.proofs.opening.refusal.Statement.{statement}
 use Rattle.campaign.proofs.opening.refusal.Tie as tie
 
-lists-refusal-requires : tie.Need-lists-refusal-requires
-lists-refusal-requires c κs = search needs
-
 returns : tie.Need-returns
 returns c = opens-lists _ _ _ _ _ _ (c .before .lists-refusal .ensures) (c .if1 .taken)
-
-lawful-k-requires : tie.Need-lawful-k-requires
-lawful-k-requires c κs = search needs
 
 returns-2 : tie.Need-returns-2
 returns-2 c =
     let l = c .before .before in
     opens-k _ _ _ _ _ _ (l .before .lists-refusal .ensures) (l .if1 .left) (sym (c .before .lawful-k .ensures) ∙ not-true _ (c .if2 .taken))
-
-lawful-requires : tie.Need-lawful-requires
-lawful-requires c κs = search needs
 
 returns-3 : tie.Need-returns-3
 returns-3 c =
@@ -29,18 +20,12 @@ returns-3 c =
     let l = m .before .before in
     opens-first _ _ _ _ _ _ (l .before .lists-refusal .ensures) (l .if1 .left) (sym (m .before .lawful-k .ensures) ∙ not-false _ (m .if2 .left)) (sym (c .before .lawful .ensures) ∙ not-true _ (c .if3 .taken))
 
-lawful-requires-2 : tie.Need-lawful-requires-2
-lawful-requires-2 c κs = search needs
-
 returns-4 : tie.Need-returns-4
 returns-4 c =
     let n = c .before .before in
     let m = n .before .before in
     let l = m .before .before in
     opens-second _ _ _ _ _ _ (l .before .lists-refusal .ensures) (l .if1 .left) (sym (m .before .lawful-k .ensures) ∙ not-false _ (m .if2 .left)) (sym (n .before .lawful .ensures) ∙ not-false _ (n .if3 .left)) (sym (c .before .lawful2 .ensures) ∙ not-true _ (c .if4 .taken))
-
-room-requires : tie.Need-room-requires
-room-requires c κs = search needs
 
 returns-5 : tie.Need-returns-5
 returns-5 c =
@@ -62,14 +47,14 @@ pub refusal-spec : {M : Type 1} → statement M
 refusal-spec =
     tie.close
     (tie.spec
-    lists-refusal-requires
+    (λ c κs. search needs)
     returns
-    lawful-k-requires
+    (λ c κs. search needs)
     returns-2
-    lawful-requires
+    (λ c κs. search needs)
     returns-3
-    lawful-requires-2
+    (λ c κs. search needs)
     returns-4
-    room-requires
+    (λ c κs. search needs)
     returns-5
     returns-6)

@@ -10,17 +10,11 @@ use Rattle.campaign.proofs.StripTests.{range-before, range-after, range
 use Rattle.campaign.proofs.strips.range_gap.Statement.{statement}
 use Rattle.campaign.proofs.strips.range_gap.Tie as tie
 
-squared-gap-requires : tie.Need-squared-gap-requires
-squared-gap-requires c κs = search needs
-
 returns : tie.Need-returns
 returns c =
     let s = c .before .before in
     at₂ (λ (a b : ℤ). square (gap a b)) (toZ-ofZ (s .fits .to)) (toZ-ofZ (s .fits .other-from)) (c .squared-gap .ensures)
     ∙ ap square (range-before _ _ _ _ (sym (ap₂ ltZ (toZ-ofZ (s .fits .to)) (toZ-ofZ (s .fits .other-from))) ∙ c .before .if1 .taken))
-
-squared-gap-requires-2 : tie.Need-squared-gap-requires-2
-squared-gap-requires-2 c κs = search needs
 
 returns-2 : tie.Need-returns-2
 returns-2 c =
@@ -38,4 +32,4 @@ returns-3 c =
 
 pub range-gap-spec : {M : Type 1} → statement M
 range-gap-spec =
-    tie.close (tie.spec squared-gap-requires returns squared-gap-requires-2 returns-2 returns-3)
+    tie.close (tie.spec (λ c κs. search needs) returns (λ c κs. search needs) returns-2 returns-3)

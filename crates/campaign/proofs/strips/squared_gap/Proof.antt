@@ -11,39 +11,6 @@ use Rattle.campaign.proofs.StripTests.{strip-gap}
 use Rattle.campaign.proofs.strips.squared_gap.Statement.{statement}
 use Rattle.campaign.proofs.strips.squared_gap.Tie as tie
 
-sub-last : tie.Need-sub-last
-sub-last c = search needs
-
-sub-other-last : tie.Need-sub-other-last
-sub-other-last c = search needs
-
-mul-range-gap : tie.Need-mul-range-gap
-mul-range-gap c = search needs
-
-shared-slice-copy-out-range-gap : tie.Need-shared-slice-copy-out-range-gap
-shared-slice-copy-out-range-gap c = search needs
-
-mul-range-gap-2 : tie.Need-mul-range-gap-2
-mul-range-gap-2 c = search needs
-
-shared-slice-copy-out-range-gap-2 : tie.Need-shared-slice-copy-out-range-gap-2
-shared-slice-copy-out-range-gap-2 c = search needs
-
-mul-range-gap-3 : tie.Need-mul-range-gap-3
-mul-range-gap-3 c = search needs
-
-shared-slice-copy-out-range-gap-3 : tie.Need-shared-slice-copy-out-range-gap-3
-shared-slice-copy-out-range-gap-3 c = search needs
-
-mul-range-gap-4 : tie.Need-mul-range-gap-4
-mul-range-gap-4 c = search needs
-
-shared-slice-copy-out-range-gap-4 : tie.Need-shared-slice-copy-out-range-gap-4
-shared-slice-copy-out-range-gap-4 c = search needs
-
-range-gap-requires : tie.Need-range-gap-requires
-range-gap-requires c κs = search needs
-
 returns : tie.Need-returns
 returns c =
     let s = c .before .before .before .before .before .before .before in
@@ -66,15 +33,15 @@ pub squared-gap-spec : {M : Type 1} → statement M
 squared-gap-spec =
     tie.close
     (tie.spec
-    sub-last
-    sub-other-last
-    mul-range-gap
-    shared-slice-copy-out-range-gap
-    mul-range-gap-2
-    shared-slice-copy-out-range-gap-2
-    mul-range-gap-3
-    shared-slice-copy-out-range-gap-3
-    mul-range-gap-4
-    shared-slice-copy-out-range-gap-4
-    range-gap-requires
+    (λ c. search needs)
+    (λ c. search needs)
+    (λ c. search needs)
+    (λ c. search needs)
+    (λ c. search needs)
+    (λ c. search needs)
+    (λ c. search needs)
+    (λ c. search needs)
+    (λ c. search needs)
+    (λ c. search needs)
+    (λ c κs. search needs)
     returns)

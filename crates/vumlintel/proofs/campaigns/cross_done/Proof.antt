@@ -7,14 +7,8 @@ use Rattle.vumlintel.specs.Crossing.{afterwards}
 use Rattle.vumlintel.proofs.campaigns.cross_done.Statement.{statement}
 use Rattle.vumlintel.proofs.campaigns.cross_done.Tie as tie
 
-enum-known-outcome : tie.Need-enum-known-outcome
-enum-known-outcome c = search needs
-
 enum-told : tie.Need-enum-told
 enum-told c = search needs
-
-enum-known-outcome-2 : tie.Need-enum-known-outcome-2
-enum-known-outcome-2 c = search needs
 
 returns : tie.Need-returns
 unfolding jobDoneTold numberOf afterwards
@@ -31,4 +25,4 @@ returns-3 c = rw (c .before .outcome2 .given .1) (refl, (refl, (refl, refl)))
 pub cross-done-spec : {M : Type 1} → statement M
 cross-done-spec =
     tie.close
-    (tie.spec enum-known-outcome enum-told enum-known-outcome-2 returns returns-2 returns-3)
+    (tie.spec (λ c. search needs) enum-told (λ c. search needs) returns returns-2 returns-3)

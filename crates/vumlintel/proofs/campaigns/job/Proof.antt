@@ -19,21 +19,6 @@ refused-leaves : (way : Way) (c : Campaign) (a b : Columns) (l : Results) (j : J
 unfolding jobTold jobCampaign
 refused-leaves way c a b l j number some = unless-kept _ _ (number ∙ number-tell _ _) some
 
-job-requires : tie.Need-job-requires
-job-requires c κs = search needs
-
-cross-done-requires : tie.Need-cross-done-requires
-cross-done-requires c κs = search needs
-
-same-length : tie.Need-same-length
-same-length c = search needs
-
-same-length-2 : tie.Need-same-length-2
-same-length-2 c = search needs
-
-same-length-3 : tie.Need-same-length-3
-same-length-3 c = search needs
-
 returns : tie.Need-returns
 returns c =
     let call = c .before .before .before .before .before .before .before .before .before .before .before .before in
@@ -41,18 +26,6 @@ returns c =
       crossed .0,
       (refused-leaves _ _ _ _ _ _ (crossed .0) (c .if1 .taken), (call .job .ensures .1 .1, crossed .1)),
     )
-
-put-requires : tie.Need-put-requires
-put-requires c κs = search needs
-
-same-length-4 : tie.Need-same-length-4
-same-length-4 c = search needs
-
-same-length-5 : tie.Need-same-length-5
-same-length-5 c = search needs
-
-same-length-6 : tie.Need-same-length-6
-same-length-6 c = search needs
 
 returns-2 : tie.Need-returns-2
 returns-2 c =
@@ -67,14 +40,14 @@ pub job-spec : {M : Type 1} → statement M
 job-spec =
     tie.close
     (tie.spec
-    job-requires
-    cross-done-requires
-    same-length
-    same-length-2
-    same-length-3
+    (λ c κs. search needs)
+    (λ c κs. search needs)
+    (λ c. search needs)
+    (λ c. search needs)
+    (λ c. search needs)
     returns
-    put-requires
-    same-length-4
-    same-length-5
-    same-length-6
+    (λ c κs. search needs)
+    (λ c. search needs)
+    (λ c. search needs)
+    (λ c. search needs)
     returns-2)

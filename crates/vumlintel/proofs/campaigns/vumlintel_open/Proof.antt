@@ -7,16 +7,10 @@ use Rattle.vumlintel.proofs.Crossing.{refusal-leaves, success-leaves}
 use Rattle.vumlintel.proofs.campaigns.vumlintel_open.Statement.{statement}
 use Rattle.vumlintel.proofs.campaigns.vumlintel_open.Tie as tie
 
-open-requires : tie.Need-open-requires
-open-requires c κs = search needs
-
 returns : tie.Need-returns
 unfolding openedTold
 returns c =
     rw (← c .before .open .ensures .0) (sym (number-tell _ _), refusal-leaves _ _ _ _ (c .if1 .taken))
-
-put-requires : tie.Need-put-requires
-put-requires c κs = search needs
 
 returns-2 : tie.Need-returns-2
 unfolding openedTold
@@ -26,4 +20,4 @@ returns-2 c =
     (sym (test .if1 .left) ∙ sym (number-tell _ _), c .put .ensures ∙ success-leaves _ _ _ _ (test .if1 .left))
 
 pub vumlintel-open-spec : {M : Type 1} → statement M
-vumlintel-open-spec = tie.close (tie.spec open-requires returns put-requires returns-2)
+vumlintel-open-spec = tie.close (tie.spec (λ c κs. search needs) returns (λ c κs. search needs) returns-2)

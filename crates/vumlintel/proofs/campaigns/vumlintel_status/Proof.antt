@@ -8,15 +8,6 @@ use Rattle.vumlintel.proofs.Crossing.{in-case}
 use Rattle.vumlintel.proofs.campaigns.vumlintel_status.Statement.{statement}
 use Rattle.vumlintel.proofs.campaigns.vumlintel_status.Tie as tie
 
-status-requires : tie.Need-status-requires
-status-requires c κs = search needs
-
-enum-known-answer : tie.Need-enum-known-answer
-enum-known-answer c = search needs
-
-enum-known-answer-2 : tie.Need-enum-known-answer-2
-enum-known-answer-2 c = search needs
-
 returns : tie.Need-returns
 unfolding statusOf numberOf afterwards
 returns c =
@@ -31,4 +22,4 @@ returns-2 c =
 
 pub vumlintel-status-spec : {M : Type 1} → statement M
 vumlintel-status-spec =
-    tie.close (tie.spec status-requires enum-known-answer enum-known-answer-2 returns returns-2)
+    tie.close (tie.spec (λ c κs. search needs) (λ c. search needs) (λ c. search needs) returns returns-2)

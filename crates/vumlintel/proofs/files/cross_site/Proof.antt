@@ -8,12 +8,6 @@ use Rattle.vumlintel.specs.Crossing.{afterwards}
 use Rattle.vumlintel.proofs.files.cross_site.Statement.{statement}
 use Rattle.vumlintel.proofs.files.cross_site.Tie as tie
 
-enum-known-answer : tie.Need-enum-known-answer
-enum-known-answer c = search needs
-
-enum-known-answer-2 : tie.Need-enum-known-answer-2
-enum-known-answer-2 c = search needs
-
 returns : tie.Need-returns
 unfolding siteReadTold numberOf afterwards
 returns c =
@@ -25,4 +19,4 @@ unfolding siteReadTold numberOf afterwards
 returns-2 c = rw (c .before .answer2 .given .1) (refl, (refl, (refl, refl)))
 
 pub cross-site-spec : {M : Type 1} → statement M
-cross-site-spec = tie.close (tie.spec enum-known-answer enum-known-answer-2 returns returns-2)
+cross-site-spec = tie.close (tie.spec (λ c. search needs) (λ c. search needs) returns returns-2)

@@ -3,14 +3,8 @@ use borrow.Author.Needs.{needs}
 use Rattle.vumlintel.proofs.files.file_site.Statement.{statement}
 use Rattle.vumlintel.proofs.files.file_site.Tie as tie
 
-consult-requires : tie.Need-consult-requires
-consult-requires c κs = search needs
-
-cross-site-requires : tie.Need-cross-site-requires
-cross-site-requires c κs = search needs
-
 returns : tie.Need-returns
 returns c = rw (c .before .before .before .before .consult .ensures) at (c .cross-site .ensures)
 
 pub file-site-spec : {M : Type 1} → statement M
-file-site-spec = tie.close (tie.spec consult-requires cross-site-requires returns)
+file-site-spec = tie.close (tie.spec (λ c κs. search needs) (λ c κs. search needs) returns)

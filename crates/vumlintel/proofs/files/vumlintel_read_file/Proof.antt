@@ -8,15 +8,6 @@ use Rattle.vumlintel.proofs.Crossing.{in-case}
 use Rattle.vumlintel.proofs.files.vumlintel_read_file.Statement.{statement}
 use Rattle.vumlintel.proofs.files.vumlintel_read_file.Tie as tie
 
-read-requires : tie.Need-read-requires
-read-requires c κs = search needs
-
-enum-known-answer : tie.Need-enum-known-answer
-enum-known-answer c = search needs
-
-enum-known-answer-2 : tie.Need-enum-known-answer-2
-enum-known-answer-2 c = search needs
-
 returns : tie.Need-returns
 unfolding fileReadTold numberOf afterwards
 returns c =
@@ -29,4 +20,4 @@ returns-2 c =
 
 pub vumlintel-read-file-spec : {M : Type 1} → statement M
 vumlintel-read-file-spec =
-    tie.close (tie.spec read-requires enum-known-answer enum-known-answer-2 returns returns-2)
+    tie.close (tie.spec (λ c κs. search needs) (λ c. search needs) (λ c. search needs) returns returns-2)

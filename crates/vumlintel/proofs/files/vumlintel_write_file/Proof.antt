@@ -8,26 +8,11 @@ use Rattle.vumlintel.proofs.Crossing.{in-case}
 use Rattle.vumlintel.proofs.files.vumlintel_write_file.Statement.{statement}
 use Rattle.vumlintel.proofs.files.vumlintel_write_file.Tie as tie
 
-write-requires : tie.Need-write-requires
-write-requires c κs = search needs
-
-enum-known-answer : tie.Need-enum-known-answer
-enum-known-answer c = search needs
-
-enum-known-answer-2 : tie.Need-enum-known-answer-2
-enum-known-answer-2 c = search needs
-
-same-length : tie.Need-same-length
-same-length c = search needs
-
 returns : tie.Need-returns
 unfolding writtenTold numberOf afterwards
 returns c =
     let write = c .before .before .before .before .before .write in
     rw (← in-case writtenTold (c .before .answer .given .1) (write .ensures .0)) (refl, (write .ensures .1, refl))
-
-same-length-2 : tie.Need-same-length-2
-same-length-2 c = search needs
 
 returns-2 : tie.Need-returns-2
 unfolding writtenTold numberOf afterwards
@@ -39,10 +24,10 @@ pub vumlintel-write-file-spec : {M : Type 1} → statement M
 vumlintel-write-file-spec =
     tie.close
     (tie.spec
-    write-requires
-    enum-known-answer
-    enum-known-answer-2
-    same-length
+    (λ c κs. search needs)
+    (λ c. search needs)
+    (λ c. search needs)
+    (λ c. search needs)
     returns
-    same-length-2
+    (λ c. search needs)
     returns-2)

@@ -8,15 +8,6 @@ use Rattle.vumlintel.proofs.Crossing.{in-case}
 use Rattle.vumlintel.proofs.lists.vumlintel_check.Statement.{statement}
 use Rattle.vumlintel.proofs.lists.vumlintel_check.Tie as tie
 
-check-requires : tie.Need-check-requires
-check-requires c κs = search needs
-
-enum-known-answer : tie.Need-enum-known-answer
-enum-known-answer c = search needs
-
-enum-known-answer-2 : tie.Need-enum-known-answer-2
-enum-known-answer-2 c = search needs
-
 returns : tie.Need-returns
 unfolding checkedTold numberOf afterwards
 returns c =
@@ -29,4 +20,4 @@ returns-2 c =
 
 pub vumlintel-check-spec : {M : Type 1} → statement M
 vumlintel-check-spec =
-    tie.close (tie.spec check-requires enum-known-answer enum-known-answer-2 returns returns-2)
+    tie.close (tie.spec (λ c κs. search needs) (λ c. search needs) (λ c. search needs) returns returns-2)

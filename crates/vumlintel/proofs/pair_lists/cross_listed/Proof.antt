@@ -7,12 +7,6 @@ use Rattle.vumlintel.specs.Crossing.{afterwards}
 use Rattle.vumlintel.proofs.pair_lists.cross_listed.Statement.{statement}
 use Rattle.vumlintel.proofs.pair_lists.cross_listed.Tie as tie
 
-enum-known-answer : tie.Need-enum-known-answer
-enum-known-answer c = search needs
-
-enum-known-answer-2 : tie.Need-enum-known-answer-2
-enum-known-answer-2 c = search needs
-
 returns : tie.Need-returns
 unfolding listedTold numberOf afterwards
 returns c = rw (c .before .answer .given .1) (refl, (refl, (refl, refl)))
@@ -22,4 +16,4 @@ unfolding listedTold numberOf afterwards
 returns-2 c = rw (c .before .answer2 .given .1) (refl, (refl, (refl, refl)))
 
 pub cross-listed-spec : {M : Type 1} → statement M
-cross-listed-spec = tie.close (tie.spec enum-known-answer enum-known-answer-2 returns returns-2)
+cross-listed-spec = tie.close (tie.spec (λ c. search needs) (λ c. search needs) returns returns-2)

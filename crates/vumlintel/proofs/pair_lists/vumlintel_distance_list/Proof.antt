@@ -8,32 +8,11 @@ use Rattle.vumlintel.proofs.Crossing.{in-case}
 use Rattle.vumlintel.proofs.pair_lists.vumlintel_distance_list.Statement.{statement}
 use Rattle.vumlintel.proofs.pair_lists.vumlintel_distance_list.Tie as tie
 
-distance-list-requires : tie.Need-distance-list-requires
-distance-list-requires c κs = search needs
-
-enum-known-answer : tie.Need-enum-known-answer
-enum-known-answer c = search needs
-
-enum-known-answer-2 : tie.Need-enum-known-answer-2
-enum-known-answer-2 c = search needs
-
-same-length : tie.Need-same-length
-same-length c = search needs
-
-same-length-2 : tie.Need-same-length-2
-same-length-2 c = search needs
-
 returns : tie.Need-returns
 unfolding withinTold numberOf afterwards
 returns c =
     let call = c .before .before .before .before .before .before .before .distance-list .ensures in
     rw (← in-case withinTold (c .before .answer .given .1) (call .0)) (refl, (call .1 .0, (call .1 .1, refl)))
-
-same-length-3 : tie.Need-same-length-3
-same-length-3 c = search needs
-
-same-length-4 : tie.Need-same-length-4
-same-length-4 c = search needs
 
 returns-2 : tie.Need-returns-2
 unfolding withinTold numberOf afterwards
@@ -45,12 +24,12 @@ pub vumlintel-distance-list-spec : {M : Type 1} → statement M
 vumlintel-distance-list-spec =
     tie.close
     (tie.spec
-    distance-list-requires
-    enum-known-answer
-    enum-known-answer-2
-    same-length
-    same-length-2
+    (λ c κs. search needs)
+    (λ c. search needs)
+    (λ c. search needs)
+    (λ c. search needs)
+    (λ c. search needs)
     returns
-    same-length-3
-    same-length-4
+    (λ c. search needs)
+    (λ c. search needs)
     returns-2)
