@@ -7,18 +7,13 @@ use lib.IntN.{ℤ}
 use Rattle.order.specs.Order.{ascending}
 use Rattle.order.specs.Lists.{all}
 use Rattle.site.specs.declared.Site.{Site}
-use Rattle.site.specs.SiteList.{Level, columns, sites}
+use Rattle.site.specs.SiteList.{Numbered}
 use Rattle.entry.specs.Entry.{rankBefore, lawfulK}
 use Rattle.entry.specs.Results.{Results, entriesOf, roomFor}
 use Rattle.campaign.specs.declared.Campaign.{Campaign}
 use Rattle.campaign.specs.Grid.{Job, lawfulMarks}
 use Rattle.campaign.specs.Keeper.{firstEnds, secondEnds, soundEnds, soundEntry}
 use Rattle.campaign.specs.Tally.{Cuts}
-
--- What holds of two lists with these coordinates, whatever the numbers of their sites.
-pub record Numbered (ax ay bx by : List ℤ) (holds : List Site → List Site → Type 0) : Type 0 where
-  pub numbered : (an bn : List ℕ) → Level (columns ax ay an) → Level (columns bx by bn)
-      → holds (sites (columns ax ay an)) (sites (columns bx by bn))
 
 -- What holds of two lists with these x, whatever else their sites have.
 pub record Across (ax bx : List ℤ) (holds : List Site → List Site → Type 0) : Type 0 where

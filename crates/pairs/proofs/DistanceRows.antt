@@ -20,18 +20,14 @@ use Rattle.sweep.specs.Strip.{Placed, whole, product, pair, pairs}
 use Rattle.sweep.specs.Runs.{spotOf, spot, rightward}
 use Rattle.sweep.proofs.PlaceLaws.{length-pairs, strip-whole}
 use Rattle.sweep.proofs.ProductLaws.{product-nil, product-cons}
-use Rattle.sweep.proofs.RunLaws.{rightward-nil, rightward-cons}
-use Rattle.sweep.proofs.NumberLaws.{strip-bare}
+use Rattle.sweep.proofs.RunLaws.{rightward-nil, rightward-cons, length-rightward}
+use Rattle.sweep.proofs.NumberLaws.{bare, strip-bare}
 use Rattle.pairs.specs.declared.Run.{Run}
 use Rattle.pairs.specs.DistanceList.{distanceList}
 use Rattle.pairs.specs.Run.{Behind, RunOf, InOrder, Rising, offsetAt, near, nearSites, rowPairs, nearPairs, Reference}
 use Rattle.pairs.proofs.Rows.{row-run}
 
 -- ---- no number
-
--- The site with the number left out.
-abbrev bare : Placed → Placed
-bare p = spotOf (p .site .x) (p .site .y) (p .place)
 
 pair-bare : (p q : Placed) → pair p q ≡ pair (bare p) (bare q)
 unfolding pair
@@ -63,11 +59,6 @@ list-is e a b la lb =
     (pairs-bare (whole (sites a)) (whole (sites b)) ∙ ap₂ pairs (whole-bare a la) (whole-bare b lb))
 
 -- ---- row by row
-
-length-rightward : (xs ys : List ℤ) (from n : ℕ) → length (rightward xs ys from n) ≡ n
-unfolding rightward
-length-rightward xs ys from zero = refl
-length-rightward xs ys from (suc n) = ap suc (length-rightward xs ys (suc from) n)
 
 module _ (e : ℕ) (ax ay bx by : List ℤ) where
   abbrev test : Entry → Bool

@@ -54,3 +54,8 @@ pub record Coordinates (xs ys : List ℤ) : Type 0 where
   pub few : length xs ≤ 65_535
   pub xs-within : all within xs ≡ true
   pub ys-within : all within ys ≡ true
+
+-- What holds of two lists with these coordinates, whatever the numbers of their sites.
+pub record Numbered (ax ay bx by : List ℤ) (holds : List Site → List Site → Type 0) : Type 0 where
+  pub numbered : (an bn : List ℕ) → Level (columns ax ay an) → Level (columns bx by bn)
+      → holds (sites (columns ax ay an)) (sites (columns bx by bn))

@@ -84,7 +84,7 @@ module _ {A B C D : Type 0} (f : A → C) (g : B → D) (leads : C → D → Boo
 -- ---- no number
 
 -- The site with the number left out.
-abbrev bare : Placed → Placed
+abbrev pub bare : Placed → Placed
 bare p = spotOf (p .site .x) (p .site .y) (p .place)
 
 look-bare : look ≡ (λ p q. look (bare p) (bare q))

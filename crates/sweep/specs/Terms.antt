@@ -6,7 +6,7 @@ use Prim.Native.Nat.{ℕ, _+_, _≤_, _<_, _^_}
 use lib.IntN.{ℤ}
 use lib.ListN.{length}
 use Rattle.site.specs.Site.{within}
-use Rattle.site.specs.SiteList.{Level, Coordinates, columns, sites}
+use Rattle.site.specs.SiteList.{Coordinates, Numbered}
 use Rattle.entry.specs.Results.{Results, entriesOf, holding, roomFor}
 use Rattle.entry.specs.Offered.{Ready, reachOf}
 use Rattle.sweep.specs.declared.Looked.{Looked}
@@ -39,10 +39,11 @@ pub record SweptTo (s : State) (before after : Results) (answer : Swept) : Type 
   pub columns : after ≡ holding (s .entries) before
 
 -- The same over strips of two lists with these coordinates, whatever the numbers of their sites.
-pub record SweptStrips (way : Way) (ax ay bx by : List ℤ) (aFrom aTo bFrom bTo k count : ℕ) (before after : Results) (answer : Swept) : Type 0 where
-  pub numbered : (an bn : List ℕ) → Level (columns ax ay an) → Level (columns bx by bn)
-      → SweptTo (sweep way k (strip aFrom aTo (sites (columns ax ay an))) (strip bFrom bTo (sites (columns bx by bn))) (entriesOf count before))
-      before after answer
+abbrev pub SweptStrips :
+    Way → List ℤ → List ℤ → List ℤ → List ℤ → ℕ → ℕ → ℕ → ℕ → ℕ → ℕ → Results → Results → Swept → Type 0
+SweptStrips way ax ay bx by aFrom aTo bFrom bTo k count before after answer =
+    Numbered ax ay bx by (λ a b.
+    SweptTo (sweep way k (strip aFrom aTo a) (strip bFrom bTo b) (entriesOf count before)) before after answer)
 
 -- The tally is that of the columns, which are ready for up to `k` entries: they hold its entries, and its reach is theirs.
 pub record TallyReady (k : ℕ) (t : Tally) (r : Results) : Type 0 where

@@ -13,7 +13,7 @@ use Rattle.entry.specs.declared.Entry.{Entry}
 use Rattle.entry.specs.Entry.{entry}
 use Rattle.entry.specs.Results.{results, entriesOf}
 use Rattle.campaign.specs.Keeper.{fits}
-use Rattle.campaign.specs.Kept.{Numbered}
+use Rattle.site.specs.SiteList.{Numbered}
 use Rattle.campaign.proofs.KeeperTests.{stands-at, entries-many}
 use Rattle.campaign.proofs.Walks.{all-more, all-falls, all-end}
 use Rattle.campaign.proofs.keeper.all_fit.Statement.{statement}
