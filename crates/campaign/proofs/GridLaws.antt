@@ -19,7 +19,7 @@ use Rattle.site.specs.declared.Site.{Site}
 use Rattle.site.specs.Site.{squaredDistance}
 use Rattle.site.specs.SiteList.{site, siteAt}
 use Rattle.entry.specs.declared.Entry.{Entry}
-use Rattle.sweep.specs.Strip.{whole, pair, product, pairs}
+use Rattle.sweep.specs.Strip.{pair, product, pairs, allPairs}
 use Rattle.sweep.proofs.ProductLaws.{perm-eq, mem-product, product-mem, length-product, product-ascends}
 use Rattle.sweep.proofs.PlaceLaws.{mem-pairs, mem-strip-pairs, whole-pairs-distinct}
 use Rattle.campaign.specs.Grid.{stripFrom, stripTo, stripAt, stripHolding, Job, jobOf, countFrom, jobs, jobPairs}
@@ -136,7 +136,7 @@ module _ (ends ends' : List ℕ) (a b : List Site) where
 
   module _ (cut : Cut (length a) ends) (cut' : Cut (length b) ends') where
     -- The pairs of all jobs are all pairs.
-    pub grid-pairs : List·Permᴰ (pairs (whole a) (whole b)) (jobsPairs ends ends' a b (jobs (length ends) (length ends')))
+    pub grid-pairs : List·Permᴰ (allPairs a b) (jobsPairs ends ends' a b (jobs (length ends) (length ends')))
     unfolding jobs pairs jobPairs
     grid-pairs =
         let p = product-gathered pair jobOf (jobPairs ends ends' a b) (stripAt ends a) (stripAt ends' b) (λ i j. refl)

@@ -1,6 +1,6 @@
 -- A job, test by test, and what it leaves, skipped or swept.
 use mathlib.Core.Path.{_≡_, refl, sym, ap, _∙_}
-use mathlib.Core.Bool.{true, false, _&&_}
+use mathlib.Core.Bool.{Bool, true, false, not, cond, _&&_}
 use mathlib.Core.List.{List}
 use Prim.Native.Nat.{ℕ, _-_, _≤_, _<_}
 use native.Mathlib.Omega.{arith}
@@ -64,13 +64,10 @@ module _ (c : Campaign) (a b : Columns) (r : Results) (s t : ℕ) where
         past-cols h = next-decides is z (simp (lt-ltb s (c .«first_strips») row, le-ltb t (c .«second_strips») h))
 
         module _ (col : t < c .«second_strips») where
-          pub already : settled (c .marks) (jobOf s t) ≡ true → 9 ≡ jobRefusal c a b r (jobOf s t)
+          pub mark-decides : {m : Bool} → settled (c .marks) (jobOf s t) ≡ m → cond m 9 0 ≡ jobRefusal c a b r (jobOf s t)
           unfolding jobRefusal orElse
-          already h = next-decides is z (simp (lt-ltb s (c .«first_strips») row, lt-ltb t (c .«second_strips») col, h))
-
-          pub open-job : settled (c .marks) (jobOf s t) ≡ false → 0 ≡ jobRefusal c a b r (jobOf s t)
-          unfolding jobRefusal orElse
-          open-job h = next-decides is z (simp (lt-ltb s (c .«first_strips») row, lt-ltb t (c .«second_strips») col, h))
+          mark-decides h =
+              next-decides is z (simp (lt-ltb s (c .«first_strips») row, lt-ltb t (c .«second_strips») col, h))
 
   -- What an accepted job is.
   module _ (ok : jobRefusal c a b r (jobOf s t) ≡ 0) where

@@ -1,6 +1,6 @@
 -- Refusal 7 whole: its tests in an order in which each may rest on those before.
 use mathlib.Core.Path.{_≡_, refl, sym, ap, _∙_}
-use mathlib.Core.Bool.{Bool, true, false, _&&_}
+use mathlib.Core.Bool.{Bool, true, false, not, cond, _&&_}
 use mathlib.Core.List.{List}
 use Prim.Native.Nat.{ℕ}
 use lib.ListN.{length, take}
@@ -91,10 +91,6 @@ module _ (c : Campaign) (a b : Columns) (r : Results) {q : ℕ} (is : q ≡ list
   unfolding campaignRefusal
   lists-refused h = first-refused _ is h
 
-  pub campaign-refused : q ≡ 0 → sound c (sites a) (sites b) r ≡ false → 7 ≡ campaignRefusal c a b r
+  pub sound-decides : q ≡ 0 → {t : Bool} → sound c (sites a) (sites b) r ≡ t → cond (not t) 7 0 ≡ campaignRefusal c a b r
   unfolding campaignRefusal
-  campaign-refused z h = next-decides is z (simp h)
-
-  pub campaign-accepted : q ≡ 0 → sound c (sites a) (sites b) r ≡ true → 0 ≡ campaignRefusal c a b r
-  unfolding campaignRefusal
-  campaign-accepted z h = next-decides is z (simp h)
+  sound-decides z h = next-decides is z (simp h)

@@ -39,6 +39,7 @@ fits marks ends ends' a b e =
     && (eqb (e .distance) (squaredDistance (siteAt a (e .first)) (siteAt b (e .second)))
     && settled marks (jobOf (stripHolding ends (e .first)) (stripHolding ends' (e .second)))))
 
+-- The same, of a campaign's entry.
 unfoldable pub soundEntry : Campaign → List Site → List Site → Entry → Bool
 soundEntry c a b = fits (c .marks) (firstEnds c) (secondEnds c) a b
 

@@ -3,24 +3,13 @@ use borrow.Author.Needs.{needs}
 use mathlib.Core.Path.{_≡_, sym, _∙_}
 use native.Mathlib.Omega.{arith}
 use lib.ListN.{length}
-use Rattle.site.specs.SiteList.{Columns, columns}
-use Rattle.entry.specs.Results.{Results, results}
 use Rattle.campaign.proofs.SoundLaws.{kept, kept-plan}
-use Rattle.campaign.proofs.JobTests.{refuses-campaign, past-rows, past-cols, already, open-job}
+use Rattle.campaign.proofs.JobTests.{refuses-campaign, past-rows, past-cols, mark-decides}
 use Rattle.campaign.proofs.jobs.refusal.Statement.{statement}
 use Rattle.campaign.proofs.jobs.refusal.Tie as tie
 
-long : (s : tie.Start) → (length (s .args .c .«first_ends») ≡ 32) × (length (s .args .c .«second_ends») ≡ 32) × (length (s .args .c .marks) ≡ 1024)
-long s = (search needs, search needs, search needs)
-
-abbrev one : tie.Start → Columns
-one s = columns (s .args .ax .now) (s .args .ay .now) (s .args .an .now)
-
-abbrev other : tie.Start → Columns
-other s = columns (s .args .bx .now) (s .args .by .now) (s .args .bn .now)
-
-abbrev held : tie.Start → Results
-held s = results (s .args .distance .now) (s .args .first .now) (s .args .second .now)
+long : (s : tie.Start) → length (s .args .c .marks) ≡ 1024
+long s = search needs
 
 returns : tie.Need-returns
 returns c = refuses-campaign _ _ _ _ _ _ (c .before .refusal .ensures) (c .if1 .taken)
@@ -37,31 +26,29 @@ returns-3 c =
     past-cols _ _ _ _ _ _ (e .before .refusal .ensures) (e .if1 .left) (f .if2 .left) (c .if3 .taken)
 
 slice-aggregate-is-settled : tie.Need-slice-aggregate-is-settled
-slice-aggregate-is-settled c =
-    sym (long (c .before .before .before .before .before .before .before .before .before .before .before .before .before) .2)
+slice-aggregate-is-settled c = sym (long (c .before .before .before .before .before .before .before .before .before .before .before .before .before))
 
 is-settled-requires : tie.Need-is-settled-requires
 is-settled-requires c κs =
-    let s = c .before .before .before .before .before .before .before .before .before .before .before .before .before in
     let g = c .before .before in
     let f = g .before .before in
     let e = f .before .before in
-    let p = kept-plan (s .args .c) (one s) (other s) (held s) (kept (s .args .c) (one s) (other s) (held s) (e .before .refusal .ensures) (e .if1 .left)) in
+    let p = kept-plan _ _ _ _ (kept _ _ _ _ (e .before .refusal .ensures) (e .if1 .left)) in
     (omega (arith, p .rows, f .if2 .left), omega (arith, p .cols, g .if3 .left))
 
 returns-4 : tie.Need-returns-4
 returns-4 c =
     let g = c .before .before .before .before in
-    let f = g .before .before in
-    let e = f .before .before in
-    already _ _ _ _ _ _ (e .before .refusal .ensures) (e .if1 .left) (f .if2 .left) (g .if3 .left) (sym (c .before .is-settled .ensures) ∙ c .if4 .taken)
+    let e = g .before .before .before .before in
+    mark-decides _ _ _ _ _ _ (e .before .refusal .ensures) (e .if1 .left) (g .before .before .if2 .left) (g .if3 .left)
+    (sym (c .before .is-settled .ensures) ∙ c .if4 .taken)
 
 returns-5 : tie.Need-returns-5
 returns-5 c =
     let g = c .before .before .before .before in
-    let f = g .before .before in
-    let e = f .before .before in
-    open-job _ _ _ _ _ _ (e .before .refusal .ensures) (e .if1 .left) (f .if2 .left) (g .if3 .left) (sym (c .before .is-settled .ensures) ∙ c .if4 .left)
+    let e = g .before .before .before .before in
+    mark-decides _ _ _ _ _ _ (e .before .refusal .ensures) (e .if1 .left) (g .before .before .if2 .left) (g .if3 .left)
+    (sym (c .before .is-settled .ensures) ∙ c .if4 .left)
 
 pub refusal-spec : {M : Type 1} → statement M
 refusal-spec =

@@ -1,22 +1,37 @@
 -- `campaign::keeper::refusal` meets its contract.
 use borrow.Author.Needs.{needs}
 use mathlib.Core.Path.{_≡_, sym, _∙_}
-use Rattle.site.specs.SiteList.{columns}
+use mathlib.Core.Bool.{Bool, not, cond}
+use Rattle.site.specs.SiteList.{Columns, columns}
 use Rattle.site.specs.Refusal.{listRefusal}
+use Rattle.entry.specs.Results.{Results, results}
+use Rattle.campaign.specs.Keeper.{campaignRefusal}
 use Rattle.site.proofs.Accepted.{both-accepted, accepted-level, accepted-coordinates}
-use Rattle.campaign.proofs.SoundTests.{lists-refused, campaign-refused, campaign-accepted}
+use Rattle.campaign.proofs.SoundTests.{lists-refused, sound-decides}
 use Rattle.campaign.proofs.keeper.refusal.Statement.{statement}
 use Rattle.campaign.proofs.keeper.refusal.Tie as tie
 
--- Both lists were accepted.
-accepted : (c : tie.Else1)
-    → (listRefusal (columns (c .before .before .before .before .before .before .before .args .ax .now)
-    (c .before .before .before .before .before .before .before .args .ay .now)
-    (c .before .before .before .before .before .before .before .args .an .now)) ≡ 0)
-    × (listRefusal (columns (c .before .before .before .before .before .before .before .args .bx .now)
-    (c .before .before .before .before .before .before .before .args .by .now)
-    (c .before .before .before .before .before .before .before .args .bn .now)) ≡ 0)
-accepted c = both-accepted _ _ (sym (c .before .lists-refusal .ensures) ∙ c .if1 .left)
+-- What was lent.
+abbrev one : tie.Start → Columns
+one s = columns (s .args .ax .now) (s .args .ay .now) (s .args .an .now)
+
+abbrev other : tie.Start → Columns
+other s = columns (s .args .bx .now) (s .args .by .now) (s .args .bn .now)
+
+abbrev held : tie.Start → Results
+held s = results (s .args .distance .now) (s .args .first .now) (s .args .second .now)
+
+-- Both lists were accepted, and the test decides.
+accepted : (e : tie.Else1) → (listRefusal (one (e .before .before .before .before .before .before .before)) ≡ 0) × (listRefusal (other (e .before .before .before .before .before .before .before)) ≡ 0)
+accepted e = both-accepted _ _ (sym (e .before .lists-refusal .ensures) ∙ e .if1 .left)
+
+decided : (c : tie.After-sound) {t : Bool} → c .sound .result ≡ t
+    → cond (not t) 7 0 ≡ campaignRefusal (c .before .before .before .before .before .before .before .before .args .c) (one (c .before .before .before .before .before .before .before .before)) (other (c .before .before .before .before .before .before .before .before)) (held (c .before .before .before .before .before .before .before .before))
+decided c h =
+    let e = c .before in
+    let ok = accepted e in
+    let told = c .sound .ensures .numbered _ _ (accepted-level _ (ok .0)) (accepted-level _ (ok .1)) in
+    sound-decides _ _ _ _ (e .before .lists-refusal .ensures) (e .if1 .left) (sym told ∙ h)
 
 returns : tie.Need-returns
 returns c = lists-refused _ _ _ _ (c .before .lists-refusal .ensures) (c .if1 .taken)
@@ -25,18 +40,10 @@ sound-requires : tie.Need-sound-requires
 sound-requires c κs = (accepted-coordinates _ (accepted c .0), accepted-coordinates _ (accepted c .1))
 
 returns-2 : tie.Need-returns-2
-returns-2 c =
-    let e = c .before .before in
-    let ok = accepted e in
-    let told = c .before .sound .ensures .numbered _ _ (accepted-level _ (ok .0)) (accepted-level _ (ok .1)) in
-    campaign-accepted _ _ _ _ (e .before .lists-refusal .ensures) (e .if1 .left) (sym told ∙ c .if2 .taken)
+returns-2 c = decided (c .before) (c .if2 .taken)
 
 returns-3 : tie.Need-returns-3
-returns-3 c =
-    let e = c .before .before in
-    let ok = accepted e in
-    let told = c .before .sound .ensures .numbered _ _ (accepted-level _ (ok .0)) (accepted-level _ (ok .1)) in
-    campaign-refused _ _ _ _ (e .before .lists-refusal .ensures) (e .if1 .left) (sym told ∙ c .if2 .left)
+returns-3 c = decided (c .before) (c .if2 .left)
 
 pub refusal-spec : {M : Type 1} → statement M
 refusal-spec =

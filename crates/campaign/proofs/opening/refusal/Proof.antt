@@ -1,10 +1,24 @@
 -- `campaign::opening::refusal` meets its contract.
 use borrow.Author.Needs.{needs}
-use mathlib.Core.Path.{sym, _∙_}
+use mathlib.Core.Path.{_≡_, sym, _∙_}
+use mathlib.Core.Bool.{true}
 use borrow.Author.Tests.{not-true, not-false}
-use Rattle.campaign.proofs.OpenTests.{opens-lists, opens-k, opens-first, opens-second, opens-short, opens}
+use lib.ListN.{length}
+use Rattle.entry.specs.Entry.{lawfulK}
+use Rattle.campaign.specs.Grid.{lawfulEnds}
+use Rattle.campaign.proofs.OpenTests.{opens-lists, opens-k, opens-first, opens-second, opens}
 use Rattle.campaign.proofs.opening.refusal.Statement.{statement}
 use Rattle.campaign.proofs.opening.refusal.Tie as tie
+
+-- The tests passed so far.
+past-k : (m : tie.Else2) → lawfulK (m .before .before .before .before .before .before .before .before .before .before .before .args .k) ≡ true
+past-k m = sym (m .before .lawful-k .ensures) ∙ not-false _ (m .if2 .left)
+
+past-first : (n : tie.Else3) → lawfulEnds (length (n .before .before .before .before .before .before .before .before .before .before .before .before .before .args .ax .now)) (n .before .before .before .before .before .before .before .before .before .before .before .before .before .args .first-ends .now) ≡ true
+past-first n = sym (n .before .lawful .ensures) ∙ not-false _ (n .if3 .left)
+
+past-second : (o : tie.Else4) → lawfulEnds (length (o .before .before .before .before .before .before .before .before .before .before .before .before .before .before .before .args .bx .now)) (o .before .before .before .before .before .before .before .before .before .before .before .before .before .before .before .args .second-ends .now) ≡ true
+past-second o = sym (o .before .lawful2 .ensures) ∙ not-false _ (o .if4 .left)
 
 returns : tie.Need-returns
 returns c = opens-lists _ _ _ _ _ _ (c .before .lists-refusal .ensures) (c .if1 .taken)
@@ -12,36 +26,34 @@ returns c = opens-lists _ _ _ _ _ _ (c .before .lists-refusal .ensures) (c .if1 
 returns-2 : tie.Need-returns-2
 returns-2 c =
     let l = c .before .before in
-    opens-k _ _ _ _ _ _ (l .before .lists-refusal .ensures) (l .if1 .left) (sym (c .before .lawful-k .ensures) ∙ not-true _ (c .if2 .taken))
+    opens-k _ _ _ _ _ _ (l .before .lists-refusal .ensures) (l .if1 .left)
+    (sym (c .before .lawful-k .ensures) ∙ not-true _ (c .if2 .taken))
 
 returns-3 : tie.Need-returns-3
 returns-3 c =
-    let m = c .before .before in
-    let l = m .before .before in
-    opens-first _ _ _ _ _ _ (l .before .lists-refusal .ensures) (l .if1 .left) (sym (m .before .lawful-k .ensures) ∙ not-false _ (m .if2 .left)) (sym (c .before .lawful .ensures) ∙ not-true _ (c .if3 .taken))
+    let l = c .before .before .before .before in
+    opens-first _ _ _ _ _ _ (l .before .lists-refusal .ensures) (l .if1 .left) (past-k (c .before .before))
+    (sym (c .before .lawful .ensures) ∙ not-true _ (c .if3 .taken))
 
 returns-4 : tie.Need-returns-4
 returns-4 c =
-    let n = c .before .before in
-    let m = n .before .before in
-    let l = m .before .before in
-    opens-second _ _ _ _ _ _ (l .before .lists-refusal .ensures) (l .if1 .left) (sym (m .before .lawful-k .ensures) ∙ not-false _ (m .if2 .left)) (sym (n .before .lawful .ensures) ∙ not-false _ (n .if3 .left)) (sym (c .before .lawful2 .ensures) ∙ not-true _ (c .if4 .taken))
+    let l = c .before .before .before .before .before .before in
+    opens-second _ _ _ _ _ _ (l .before .lists-refusal .ensures) (l .if1 .left) (past-k (c .before .before .before .before)) (past-first (c .before .before))
+    (sym (c .before .lawful2 .ensures) ∙ not-true _ (c .if4 .taken))
 
 returns-5 : tie.Need-returns-5
 returns-5 c =
     let o = c .before .before in
-    let n = o .before .before in
-    let m = n .before .before in
-    let l = m .before .before in
-    opens _ _ _ _ _ _ (l .before .lists-refusal .ensures) (l .if1 .left) (sym (m .before .lawful-k .ensures) ∙ not-false _ (m .if2 .left)) (sym (n .before .lawful .ensures) ∙ not-false _ (n .if3 .left)) (sym (o .before .lawful2 .ensures) ∙ not-false _ (o .if4 .left)) (sym (c .before .room .ensures) ∙ c .if5 .taken)
+    let l = o .before .before .before .before .before .before in
+    opens _ _ _ _ _ _ (l .before .lists-refusal .ensures) (l .if1 .left) (past-k (o .before .before .before .before)) (past-first (o .before .before)) (past-second o)
+    (sym (c .before .room .ensures) ∙ c .if5 .taken)
 
 returns-6 : tie.Need-returns-6
 returns-6 c =
     let o = c .before .before in
-    let n = o .before .before in
-    let m = n .before .before in
-    let l = m .before .before in
-    opens-short _ _ _ _ _ _ (l .before .lists-refusal .ensures) (l .if1 .left) (sym (m .before .lawful-k .ensures) ∙ not-false _ (m .if2 .left)) (sym (n .before .lawful .ensures) ∙ not-false _ (n .if3 .left)) (sym (o .before .lawful2 .ensures) ∙ not-false _ (o .if4 .left)) (sym (c .before .room .ensures) ∙ c .if5 .left)
+    let l = o .before .before .before .before .before .before in
+    opens _ _ _ _ _ _ (l .before .lists-refusal .ensures) (l .if1 .left) (past-k (o .before .before .before .before)) (past-first (o .before .before)) (past-second o)
+    (sym (c .before .room .ensures) ∙ c .if5 .left)
 
 pub refusal-spec : {M : Type 1} → statement M
 refusal-spec =
