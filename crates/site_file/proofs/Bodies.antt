@@ -3,6 +3,7 @@ use mathlib.Core.Path.{_≡_, refl, sym, ap, ap₂, _∙_}
 use mathlib.Core.Bool.{true, _&&_}
 use mathlib.Core.List.{List, [], _∷_, _++_, append-assoc}
 use Prim.Native.Nat.{ℕ, zero, suc, _+_, _*_, _≤_, _<_}
+use native.Mathlib.Nat.{add-zero}
 use native.Mathlib.Omega.{arith}
 use lib.ListN.{length, take, drop, length-append}
 use lib.Seq.{take-add, drop-drop}
@@ -22,43 +23,38 @@ use Rattle.site_file.specs.Calls.{readRefusal}
 use Rattle.site_file.specs.RoundTrip.{Bytes, Numbers}
 use Rattle.site_file.proofs.File.{list-length}
 use Rattle.site_file.proofs.Contents.{inside, read-laid, read-content}
-use Rattle.site_file.proofs.Words.{word-read, signed-back, unsigned-back, coordinate-fits, bytes-back, word-fits}
+use Rattle.site_file.proofs.Words.{digits, word-past, signed-back, unsigned-back, coordinate-fits, bytes-back, word-fits}
 
 -- A site that can be written: inside the limits, with a number of 32 bits.
 abbrev pub Fit : Site → Type 0
 Fit s = (lawfulSite s ≡ true) × (s .number < 4_294_967_296)
-
-pub bytes-length : (n : ℕ) → length (bytes4 n) ≡ 4
-unfolding bytes4
-bytes-length n = refl
 
 site-length : (s : Site) → length (siteBytes s) ≡ 12
 unfolding siteBytes bytes4
 site-length s = refl
 
 -- A site that was written is read.
-site-read : (p q : List ℕ) (s : Site) (at : ℕ) → length p ≡ at → Fit s → siteIn (p ++ (siteBytes s ++ q)) at ≡ s
-unfolding siteIn siteBytes
-site-read p q s at e h =
-    let x : List ℕ = bytes4 (unsigned (s .x)) in
-    let y : List ℕ = bytes4 (unsigned (s .y)) in
-    let n : List ℕ = bytes4 (s .number) in
+site-words : (s : Site) (q : List ℕ) → unsigned (s .x) < 4_294_967_296 → unsigned (s .y) < 4_294_967_296 → s .number < 4_294_967_296 → (word (siteBytes s ++ q) 0 ≡ unsigned (s .x)) × (word (siteBytes s ++ q) 4 ≡ unsigned (s .y)) × (word (siteBytes s ++ q) 8 ≡ s .number)
+unfolding siteBytes bytes4 word
+site-words s q hx hy hn = (digits (unsigned (s .x)) hx, digits (unsigned (s .y)) hy, digits (s .number) hn)
+
+site-first : (q : List ℕ) (s : Site) → Fit s → siteIn (siteBytes s ++ q) 0 ≡ s
+unfolding siteIn
+site-first q s h =
     let both : (within (s .x) && within (s .y)) ≡ true = sym (lawful-is s) ∙ h .0 in
     let wx : within (s .x) ≡ true = and-first (within (s .x)) (within (s .y)) both in
     let wy : within (s .y) ≡ true = and-second (within (s .x)) (within (s .y)) both in
-    let l : List ℕ = p ++ ((x ++ (y ++ n)) ++ q) in
-    let at-x : l ≡ p ++ (x ++ (y ++ (n ++ q))) = simp append-assoc in
-    let at-y : l ≡ (p ++ x) ++ (y ++ (n ++ q)) = simp append-assoc in
-    let at-n : l ≡ ((p ++ x) ++ y) ++ (n ++ q) = simp append-assoc in
-    let px : length (p ++ x) ≡ at + 4 = omega (arith, length-append p x, bytes-length (unsigned (s .x))) in
-    let py : length ((p ++ x) ++ y) ≡ at + 8 =
-    omega (arith, length-append (p ++ x) y, bytes-length (unsigned (s .y))) in
-    let rx : word l at ≡ unsigned (s .x) =
-    rw at-x (word-read p (y ++ (n ++ q)) (unsigned (s .x)) at e (coordinate-fits (s .x) wx)) in
-    let ry : word l (at + 4) ≡ unsigned (s .y) =
-    rw at-y (word-read (p ++ x) (n ++ q) (unsigned (s .y)) (at + 4) px (coordinate-fits (s .y) wy)) in
-    let rn : word l (at + 8) ≡ s .number = rw at-n (word-read ((p ++ x) ++ y) q (s .number) (at + 8) py (h .1)) in
-    rw (rx, ry, rn, signed-back (s .x) wx, signed-back (s .y) wy)
+    let w = site-words s q (coordinate-fits (s .x) wx) (coordinate-fits (s .y) wy) (h .1) in
+    rw (w .0, w .1, w .2, signed-back (s .x) wx, signed-back (s .y) wy)
+
+site-past : (p l : List ℕ) → siteIn (p ++ l) (length p) ≡ siteIn l 0
+unfolding siteIn
+site-past p l =
+    let first : word (p ++ l) (length p) ≡ word l 0 = rw add-zero at (word-past p l 0) in
+    rw (first, word-past p l 4, word-past p l 8)
+
+site-read : (p q : List ℕ) (s : Site) (at : ℕ) → length p ≡ at → Fit s → siteIn (p ++ (siteBytes s ++ q)) at ≡ s
+site-read p q s at e h = rw (← e) (site-past p (siteBytes s ++ q) ∙ site-first q s h)
 
 -- A list that was written is read.
 pub sites-read : (l : List Site) (p q : List ℕ) (at : ℕ) → length p ≡ at → All Fit l → sitesFrom (p ++ (bodyBytes l ++ q)) at (length l) ≡ l

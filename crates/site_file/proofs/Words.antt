@@ -58,17 +58,6 @@ word-past p l k =
       getD-append-add p l (k + 3) 0,
     )
 
-word-first : (n : ℕ) (q : List ℕ) → n < 4_294_967_296 → word (bytes4 n ++ q) 0 ≡ n
-unfolding word bytes4
-word-first n q h = digits n h
-
--- A number that was written is read.
-pub word-read : (p q : List ℕ) (n at : ℕ) → length p ≡ at → n < 4_294_967_296 → word (p ++ (bytes4 n ++ q)) at ≡ n
-word-read p q n at e h =
-    let past : word (p ++ (bytes4 n ++ q)) at ≡ word (bytes4 n ++ q) 0 =
-    rw (← e) (rw (← add-zero (length p)) (word-past p (bytes4 n ++ q) 0)) in
-    past ∙ word-first n q h
-
 -- Four bytes that were read are written.
 bytes-first : (l : List ℕ) → Bytes l → 4 ≤ length l → bytes4 (word l 0) ≡ take 4 l
 unfolding bytes4 word All
