@@ -20,7 +20,7 @@ use Rattle.site_file.specs.declared.Which.the-variants.{First, Second}
 use Rattle.site_file.specs.declared.SiteRead.{SiteRead}
 use Rattle.site_file.specs.declared.SiteRead.the-variants.{Found, Refused}
 use Rattle.site_file.specs.File.{countIn, sitesIn}
-use Rattle.site_file.specs.Calls.{contentsRefusal, readRefusal, siteTold, siteReadTold}
+use Rattle.site_file.specs.Calls.{contentsRefusal, siteTold, siteReadTold}
 use Rattle.site_file.proofs.File.{list-length}
 use Rattle.site_file.proofs.Contents.{inside, read-laid, site-found}
 use Rattle.site_file.proofs.Bodies.{columns-accepted}

@@ -19,7 +19,7 @@ use Rattle.site_file.specs.declared.Which.the-variants.{First, Second}
 use Rattle.site_file.specs.Bytes.{bytes4, word}
 use Rattle.site_file.specs.File.{secondStart, fileLength, bodyBytes, contentsBytes, fileBytes, startIn, countIn, sitesFrom, sitesIn}
 use Rattle.site_file.specs.Calls.{writeRefusal, writeBuffer, contentsRefusal, readRefusal, siteTold}
-use Rattle.site_file.specs.RoundTrip.{Bytes, Numbers, output, EveryOutputAccepted, EveryAcceptedIsOutput}
+use Rattle.site_file.specs.RoundTrip.{Bytes, output, EveryOutputAccepted, EveryAcceptedIsOutput}
 use Rattle.site_file.proofs.Words.{digits, bytes-back}
 use Rattle.site_file.proofs.File.{from-length, list-length}
 use Rattle.site_file.proofs.Contents.{Laid, contents-right, read-laid, read-answered, site-found}

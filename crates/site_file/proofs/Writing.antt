@@ -9,7 +9,7 @@ use lib.ListN.{length, length-append}
 use Rattle.column.specs.Column.{overwritten, stored}
 use Rattle.column.proofs.Stored.{stored-start, stored-after}
 use Rattle.site.specs.declared.Site.{Site}
-use Rattle.site.specs.Told.{refused, answered, unlessRefused, orElse}
+use Rattle.site.specs.Told.{refused, answered, unlessRefused}
 use Rattle.site.specs.SiteList.{Columns, sites}
 use Rattle.site.specs.Refusal.{listRefusal, listsRefusal}
 use Rattle.site.proofs.Told.{told, told-refused, unless-kept, first-refused, next-decides, orElse-first, orElse-second, no-fault}
