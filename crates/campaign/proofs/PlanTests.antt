@@ -10,6 +10,7 @@ use lib.Seq.{length-take-le}
 use borrow.Author.Tests.{leb-true, eqb-true}
 use Rattle.site.proofs.Cases.{and-first, and-second}
 use Rattle.entry.specs.Entry.{lawfulK}
+use Rattle.entry.proofs.Rank.{k-limits}
 use Rattle.campaign.specs.declared.Campaign.{Campaign}
 use Rattle.campaign.specs.declared.Settled.{Settled}
 use Rattle.campaign.specs.Grid.{lawfulEnds, stripFrom, stripTo, jobOf, lawfulMarks, settledJobs}
@@ -91,14 +92,6 @@ sound-plan c n m s t h =
       first = lawful-cuts n (firstEnds c) (p .first) s;
       second = lawful-cuts m (secondEnds c) (p .second) t;
     }
-
-k-limits : (k : ℕ) → lawfulK k ≡ true → (0 < k) × (k ≤ 4_096)
-unfolding lawfulK
-k-limits k h = (
-  omega (arith, leb-true 1 k (and-first (leb 1 k) (leb k 4_096) h)),
-  leb-true k 4_096
-      (and-second (leb 1 k) (leb k 4_096) h),
-)
 
 -- ---- the settled jobs
 

@@ -1,6 +1,6 @@
 -- Laws of rank, and of an entry taking its place.
 use mathlib.Core.Path.{_≡_, refl, sym, ap, _∙_}
-use mathlib.Core.Bool.{Bool, true, false}
+use mathlib.Core.Bool.{Bool, true, false, and-eq-true-iff}
 use mathlib.Core.List.{List, [], _∷_, _++_}
 use Prim.Native.Nat.{ℕ, zero, suc, _+_, _-_, _≤_, _<_, min}
 use native.Mathlib.Omega.{arith}
@@ -17,7 +17,7 @@ use Rattle.order.proofs.Lists.{all-at, last-map, last-at}
 use Rattle.order.proofs.Best.{insert-nil, insert-later, insert-here, length-insert}
 use Rattle.order.proofs.Sorted.{sorted-insert, sorted-take, take-insert-full, last-weak}
 use Rattle.entry.specs.declared.Entry.{Entry}
-use Rattle.entry.specs.Entry.{entry, rankBefore, offer, lastDistance}
+use Rattle.entry.specs.Entry.{entry, rankBefore, lawfulK, offer, lastDistance}
 
 same-entry : (a b : Entry) → (a .distance ≡ b .distance) × ((a .first ≡ b .first) × (a .second ≡ b .second)) → a ≡ b
 same-entry a b h = λ i. record { distance = h .0 i; first = h .1 .0 i; second = h .1 .1 i }
@@ -27,6 +27,13 @@ pub rank-order : StrictOrder rankBefore
 unfolding rankBefore
 rank-order =
     strict (lex-order (by-number (λ e. e .distance)) (lex-order (by-number (λ e. e .first)) (by-number (λ e. e .second)))) same-entry
+
+-- A lawful K, by its limits.
+pub k-limits : (k : ℕ) → lawfulK k ≡ true → (0 < k) × (k ≤ 4_096)
+unfolding lawfulK
+k-limits k h =
+    let both = and-eq-true-iff (leb 1 k) (leb k 4_096) .0 h in
+    (leb-true 1 k (both .0), leb-true k 4_096 (both .1))
 
 -- ---- rank by its three numbers
 

@@ -5,20 +5,20 @@ use mathlib.Core.List.{List, [], _∷_}
 use Prim.Native.Nat.{ℕ, suc, _+_, _*_, _≤_}
 use native.Mathlib.Omega.{arith}
 use lib.ListN.{length, getD, replicate, List·getD-eq-default}
-use borrow.Author.Tests.{leb-true, ltb-true, ltb-false}
-use lib.Dec.{leb, ltb}
+use borrow.Author.Tests.{ltb-true, ltb-false}
+use lib.Dec.{ltb}
 use Rattle.order.proofs.Order.{byTest}
 use Rattle.order.proofs.Best.{length-best}
 use Rattle.site.specs.SiteList.{Columns, Level, sites, siteAt}
 use Rattle.site.specs.Told.{orElse, unlessRefused}
 use Rattle.site.specs.Refusal.{listRefusal}
-use Rattle.site.proofs.Cases.{and-second}
 use Rattle.site.proofs.Told.{answer-told, refusal-told}
 use Rattle.site.proofs.Accepted.{accepted-level, accepted-few, both-accepted}
 use Rattle.site.proofs.Columns.{nowhere, sites-length, site-at}
 use Rattle.entry.specs.declared.Entry.{Entry}
-use Rattle.entry.specs.Entry.{rankBefore, bestK, lawfulK}
+use Rattle.entry.specs.Entry.{rankBefore, bestK}
 use Rattle.entry.specs.Results.{Results, results, entriesOf, holding, roomFor}
+use Rattle.entry.proofs.Rank.{k-limits}
 use Rattle.entry.proofs.Columns.{room-lengths, lengths-room, entries-holding, room-holding}
 use Rattle.sweep.specs.declared.Way.{Way}
 use Rattle.sweep.specs.declared.Looks.{Looks}
@@ -65,8 +65,7 @@ listing-text k a b p q =
 -- A K list of two lawful lists, into columns with room for it.
 module _ (way : Way) (a b : Columns) (k : ℕ) (r : Results) {buffer : List ℕ} (lawful : Lawful a b k buffer) (long : roomFor 4_096 r ≡ true) where
   k-most : k ≤ 4_096
-  unfolding lawfulK
-  k-most = leb-true k 4_096 (and-second (leb 1 k) (leb k 4_096) (lawful .some))
+  k-most = k-limits k (lawful .some) .1
 
   enough : (n : ℕ) → n ≤ 4_096 → roomFor n r ≡ true
   enough n h = let l = room-lengths 4_096 r long in lengths-room n r (omega arith) (omega arith) (omega arith)

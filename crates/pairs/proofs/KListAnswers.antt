@@ -4,20 +4,18 @@ use mathlib.Core.Bool.{Bool, true, false, not}
 use mathlib.Core.List.{List, []}
 use Prim.Native.Nat.{ℕ, _≤_, _<_}
 use native.Mathlib.Omega.{arith}
-use borrow.Author.Tests.{leb-true}
-use lib.Dec.{leb}
 use lib.ListN.{length}
 use Rattle.order.specs.Sorted.{Sorted}
 use Rattle.order.proofs.Best.{best-nil}
 use Rattle.site.specs.Told.{Told, refused, answered, refuseIf, orElse}
 use Rattle.site.specs.SiteList.{Columns, sites}
 use Rattle.site.specs.Refusal.{listRefusal, listsRefusal}
-use Rattle.site.proofs.Cases.{and-first, and-second}
 use Rattle.site.proofs.Told.{told, told-refused, unless-kept, unless-done}
 use Rattle.site.proofs.Told.{first-refused, next-decides, orElse-first, orElse-second, fault-none}
 use Rattle.site.proofs.Accepted.{accepted-level, accepted-length, accepted-order, accepted-coordinates, both-accepted}
 use Rattle.entry.specs.declared.Entry.{Entry}
 use Rattle.entry.specs.Entry.{rankBefore, bestK, lawfulK}
+use Rattle.entry.proofs.Rank.{k-limits}
 use Rattle.entry.specs.Results.{Results, holding, roomFor, entriesOf}
 use Rattle.sweep.specs.declared.Swept.{Swept}
 use Rattle.sweep.specs.declared.Way.{Way}
@@ -28,10 +26,6 @@ use Rattle.sweep.specs.Terms.{SweepAsked, SweptTo, SweptStrips}
 use Rattle.sweep.proofs.PlaceLaws.{strip-whole}
 use Rattle.sweep.proofs.SweepLaws.{sweep-whole-best}
 use Rattle.pairs.specs.KList.{kList, kListRefusal, kListResults, Counts, kListTold}
-
-k-limits : (k : ℕ) → lawfulK k ≡ true → (0 < k) × (k ≤ 4_096)
-unfolding lawfulK
-k-limits k h = (leb-true 1 k (and-first _ (leb k 4_096) h), leb-true k 4_096 (and-second (leb 1 k) _ h))
 
 sorted-none : (r : Results) → Sorted rankBefore (entriesOf 0 r)
 unfolding entriesOf Sorted
