@@ -5,17 +5,17 @@ use mathlib.Core.List.{List, [], _∷_, _++_, map, append-assoc, append-nil, Lis
 use Prim.Native.Nat.{ℕ, _≤_, _<_}
 use native.Mathlib.Omega.{arith}
 use lib.Dec.{ltb, eqb}
-use lib.ListN.{length, drop}
-use borrow.Author.Tests.{ltb-true, ltb-false, eqb-true, eq-eqb, lt-ltb}
-use Rattle.order.specs.Lists.{All, last}
+use lib.ListN.{length, drop, getD}
+use borrow.Author.Tests.{ltb-true, eqb-true, eq-eqb, lt-ltb}
+use Rattle.order.specs.Lists.{All}
 use Rattle.order.specs.Sorted.{Sorted}
 use Rattle.order.proofs.Order.{byTest, never-both}
 use Rattle.order.proofs.Lists.{all-weaken, all-map}
 use Rattle.order.proofs.Best.{best-append, best-snoc, best-perm}
-use Rattle.order.proofs.Sorted.{sorted-best, best-drop}
+use Rattle.order.proofs.Sorted.{sorted-best, best-drop, last-weak}
 use Rattle.entry.specs.declared.Entry.{Entry}
 use Rattle.entry.specs.Entry.{rankBefore, bestK, offer, lastDistance}
-use Rattle.entry.proofs.Rank.{rank-order, rank-nearer, rank-farther}
+use Rattle.entry.proofs.Rank.{rank-order, rank-farther, last-distance}
 use Rattle.sweep.proofs.StepLaws.{scan-nil, scan-stop, scan-on}
 use Rattle.sweep.specs.Scan.{Candidate, State, beyond, looked, offered, scan}
 
@@ -33,21 +33,13 @@ bestK-left k l m r e = rw (best-append rankBefore k l r, best-append rankBefore 
 
 -- ---- a list in order and its last distance
 
--- What does not come before is no nearer.
-weak-distance : (e f : Entry) → rankBefore f e ≡ false → e .distance ≤ f .distance
-weak-distance e f h =
-    byTest (ltb (f .distance) (e .distance))
-    (λ t. never-both (rank-nearer f e (ltb-true (f .distance) (e .distance) t)) h)
-    (ltb-false (f .distance) (e .distance))
-
--- No entry of a list in order has a larger distance than the last.
-pub last-distance-bounds : (l : List Entry) → Sorted rankBefore l → All (λ e. e .distance ≤ lastDistance l) l
-unfolding Sorted All lastDistance last
-last-distance-bounds [] s = tt
-last-distance-bounds (e ∷ []) s = (omega arith, tt)
-last-distance-bounds (e ∷ (f ∷ l)) s =
-    let r = last-distance-bounds (f ∷ l) (s .1) in
-    (omega (arith, weak-distance e f (s .0 .0), r .0), r)
+-- What is further away than the last entry comes before none.
+past-last : (l : List Entry) (e : Entry) → Sorted rankBefore l → lastDistance l < e .distance → All (λ f. rankBefore e f ≡ false) l
+unfolding All
+past-last [] e s h = tt
+past-last (a ∷ l) e s h =
+    last-weak rank-order e (a ∷ l) (length l) e refl s
+    (rank-farther e (getD (a ∷ l) (length l) e) (omega (arith, last-distance (a ∷ l) (length l) e refl)))
 
 -- ---- what is beyond a list
 
@@ -79,11 +71,7 @@ beyond-drop k m [] h = rw append-nil
 beyond-drop k m (e ∷ rest) h =
     best-drop rank-order k m (e ∷ rest) (beyond-full k (bestK k m) (e .distance) (h .0))
     (all-weaken (λ x. beyond k (bestK k m) (x .distance) ≡ true) (λ x. All (λ y. rankBefore x y ≡ false) (bestK k m))
-    (λ x b.
-    all-weaken (λ y. y .distance ≤ lastDistance (bestK k m)) (λ y. rankBefore x y ≡ false)
-    (λ y le. rank-farther x y (omega (arith, beyond-further k (bestK k m) (x .distance) b)))
-    (bestK k m)
-    (last-distance-bounds (bestK k m) (sorted-best rank-order k m)))
+    (λ x b. past-last (bestK k m) x (sorted-best rank-order k m) (beyond-further k (bestK k m) (x .distance) b))
     (e ∷ rest) h)
 
 -- Entries no nearer than a gap that is beyond may be left out.

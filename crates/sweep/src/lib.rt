@@ -179,7 +179,7 @@ fn scan_right(
         let l = look(reference, xs, ys, at, k, tally, distance, first, second);
         tally = l.tally;
         if l.stopped {
-            return tally;
+            break;
         }
         at += 1;
     }

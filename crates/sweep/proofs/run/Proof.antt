@@ -5,9 +5,6 @@ use Rattle.sweep.proofs.References.{swept-strips}
 use Rattle.sweep.proofs.run.Statement.{statement}
 use Rattle.sweep.proofs.run.Tie as tie
 
-enum-told : tie.Need-enum-told
-enum-told c = search needs
-
 returns : tie.Need-returns
 returns c =
     let d = c .before .before .before .before .before .before .before in
@@ -24,7 +21,7 @@ pub run-spec : {M : Type 1} → statement M
 run-spec =
     tie.close
     (tie.spec
-    enum-told
+    (λ c. search needs)
     (λ c κs. search needs)
     (λ c κs. search needs)
     (λ c. search needs)
