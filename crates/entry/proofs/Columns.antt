@@ -1,18 +1,18 @@
 -- Laws of the three result columns and the entries that they hold.
-use mathlib.Core.Path.{_≡_, refl, sym, ap, _∙_}
-use mathlib.Core.Bool.{Bool, true, false, _&&_, and-eq-true-iff}
+use mathlib.Core.Path.{_≡_, refl, ap, _∙_}
+use mathlib.Core.Bool.{true, false, _&&_, and-eq-true-iff}
 use mathlib.Core.List.{List, [], _∷_, _++_, map}
 use Prim.Native.Nat.{ℕ, zero, suc, _+_, _-_, _≤_, _<_}
 use native.Mathlib.Omega.{arith}
 use lib.Dec.{leb}
-use lib.ListN.{length, take, drop, getD, length-append, length-take, length-drop, length-map, take-append-drop}
-use lib.Seq.{take-append-seam, length-take-le, getD-take, drop-append-add, drop-drop}
+use lib.ListN.{length, take, drop, getD, length-map}
+use lib.Seq.{take-append-seam, getD-take}
 use borrow.Author.Tests.{leb-true, le-leb, lt-leb}
 use Rattle.column.specs.Column.{overwritten}
 use Rattle.column.proofs.Overwritten.{length-overwritten, overwritten-again, overwritten-self}
 use Rattle.entry.specs.declared.Entry.{Entry}
 use Rattle.entry.specs.Entry.{entry, lastDistance}
-use Rattle.entry.specs.Results.{Results, results, zipEntries, entriesOf, holding, roomFor}
+use Rattle.entry.specs.Results.{Results, zipEntries, entriesOf, holding, roomFor}
 use Rattle.entry.proofs.Rank.{last-distance}
 
 -- ---- room

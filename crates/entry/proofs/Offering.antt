@@ -1,13 +1,13 @@
 -- Laws of offering an entry to the columns.
-use mathlib.Core.Path.{_≡_, refl, sym, ap, _∙_}
-use mathlib.Core.List.{List, _∷_, _++_, map}
+use mathlib.Core.Path.{_≡_, sym, ap, _∙_}
+use mathlib.Core.List.{List, _∷_, _++_}
 use Prim.Native.Nat.{ℕ, suc, _+_, _-_, _≤_, _<_, min}
 use native.Mathlib.Omega.{arith}
 use lib.ListN.{length, take, drop}
-use Rattle.column.specs.Column.{overwritten, inserted}
+use Rattle.column.specs.Column.{inserted}
 use Rattle.entry.specs.declared.Entry.{Entry}
-use Rattle.entry.specs.Entry.{entry, rankBefore, offer}
-use Rattle.entry.specs.Results.{Results, results, entriesOf, holding, roomFor}
+use Rattle.entry.specs.Entry.{offer}
+use Rattle.entry.specs.Results.{Results, results, entriesOf, holding}
 use Rattle.entry.specs.Offered.{Ready, Holds, PlaceOf}
 use Rattle.column.proofs.Inserted.{inserted-key}
 use Rattle.entry.proofs.Rank.{length-offer, offer-split, offer-full}

@@ -1,5 +1,5 @@
 -- Laws of rank, and of an entry taking its place.
-use mathlib.Core.Path.{_≡_, refl, sym, ap, _∙_}
+use mathlib.Core.Path.{_≡_, sym, ap, _∙_}
 use mathlib.Core.Bool.{Bool, true, false, and-eq-true-iff}
 use mathlib.Core.List.{List, [], _∷_, _++_}
 use Prim.Native.Nat.{ℕ, zero, suc, _+_, _-_, _≤_, _<_, min}
@@ -9,7 +9,6 @@ use lib.ListN.{length, take, drop, getD, length-take, length-drop}
 use lib.Seq.{take-all, take-append-le, take-append-add, length-take-le, take-take}
 use borrow.Author.Tests.{lt-ltb, le-ltb, leb-true, leb-false}
 use Rattle.order.specs.Order.{StrictOrder, on, lex}
-use Rattle.order.specs.Lists.{All}
 use Rattle.order.specs.Best.{insert}
 use Rattle.order.specs.Sorted.{Sorted}
 use Rattle.order.proofs.Order.{byTest, strict, by-number, lex-order, lex-less, lex-more, lex-next, weak-before}

@@ -1,12 +1,11 @@
 -- The refusal of an addition, by the tests in their order.
-use mathlib.Core.Path.{_≡_, refl, sym, ap, ap₂, _∙_}
-use mathlib.Core.Bool.{Bool, true, false, not, cond, _&&_, _||_}
-use Prim.Native.Nat.{ℕ, zero, suc, _+_, _≤_, _<_}
+use mathlib.Core.Path.{_≡_, ap, _∙_}
+use mathlib.Core.Bool.{true, false, not, cond, _||_}
+use Prim.Native.Nat.{ℕ, _+_, _≤_, _<_}
 use native.Mathlib.Omega.{arith}
 use borrow.Author.Tests.{ne-eqb, eq-eqb, lt-leb, le-leb, lt-ltb, le-ltb, leb-false, not-false}
-use lib.Dec.{eqb, leb, ltb}
-use lib.ListN.{length, take, length-take}
-use lib.Seq.{length-take-le}
+use lib.Dec.{leb, ltb}
+use lib.ListN.{length, length-take}
 use Rattle.column.specs.Column.{inserted}
 use Rattle.site.specs.declared.Site.{Site}
 use Rattle.site.specs.declared.Added.the-variants.{At, Refused}
@@ -17,7 +16,7 @@ use Rattle.site.specs.Refusal.{equalLengths, contentRefusal, listRefusal
 use Rattle.site.specs.Add.{useFault, noRoom, placeOf, present, addRefusal, addedColumns, addTold, addedTold}
 use Rattle.site.proofs.Lawful.{lawful-is, level-equal, equal-level, content-left}
 use Rattle.site.proofs.Cases.{or-first, or-second}
-use Rattle.site.proofs.Told.{told, told-refused, first-refused, unless-kept, unless-done, orElse-first, orElse-second, no-fault, fault-none}
+use Rattle.site.proofs.Told.{told, told-refused, first-refused, unless-kept, orElse-first, orElse-second, no-fault, fault-none}
 
 module _ (c : Columns) (n : ℕ) (s : Site) where
   pub add-unequal-y : (length (c .x) ≡ length (c .y) → ⊥) → 1 ≡ addRefusal c n s

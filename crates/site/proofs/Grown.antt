@@ -1,10 +1,9 @@
 -- After an addition: the sites in use are those there were with the new one at its place, and they are a lawful list.
-use mathlib.Core.Path.{_≡_, refl, sym, ap, ap₂, _∙_, subst}
-use mathlib.Core.Bool.{Bool, true, false, not, _||_}
-use mathlib.Core.List.{List, [], _∷_, _++_, append-assoc, Permᴰ·symm}
+use mathlib.Core.Path.{_≡_, refl, sym, ap, ap₂, _∙_}
+use mathlib.Core.Bool.{Bool, true, false, _||_}
+use mathlib.Core.List.{List, [], _∷_, _++_, Permᴰ·symm}
 use Prim.Native.Nat.{ℕ, zero, suc, _+_, _-_, _≤_, _<_}
 use native.Mathlib.Nat.{le-of-suc-le-suc}
-use native.Mathlib.Numerals.{add-one}
 use native.Mathlib.Omega.{arith}
 use borrow.Author.Tests.{not-false}
 use lib.IntN.{ℤ}
@@ -21,7 +20,6 @@ use Rattle.order.proofs.Lists.{all-weaken, all-holds, keep-yes, keep-none, perm
 use Rattle.order.proofs.Best.{insert-nil, insert-later, insert-here}
 use Rattle.order.proofs.Sorted.{insert-is-perm, sorted-insert, ascends-sorted, ascends-distinct, distinct-ascends}
 use Rattle.site.specs.declared.Site.{Site}
-use Rattle.site.specs.Told.{unlessRefused}
 use Rattle.site.specs.Site.{lawfulSite, siteBefore}
 use Rattle.site.specs.SiteList.{Columns, Level, columns, site, zipSites, sites, inUse}
 use Rattle.site.specs.Refusal.{listRefusal, LawfulList}

@@ -1,12 +1,12 @@
 -- Integers by their two sides: z is `up z` less `down z`. What is said of sides is arithmetic of natural numbers.
-use mathlib.Core.Path.{_≡_, refl, sym, ap, _∙_}
-use mathlib.Core.Bool.{Bool, true, false, not, cond}
-use Prim.Native.Nat.{ℕ, zero, suc, _+_, _-_, _≤_, _<_, _^_}
+use mathlib.Core.Path.{_≡_, refl, ap}
+use mathlib.Core.Bool.{true, false, not}
+use Prim.Native.Nat.{ℕ, zero, suc, _+_, _-_, _≤_, _<_}
 use native.Mathlib.Omega.{arith}
-use borrow.Author.Tests.{ltb-true, ltb-false, leb-true, leb-false, lt-ltb, le-ltb, le-leb, lt-leb}
+use borrow.Author.Tests.{ltb-true, ltb-false, leb-true, leb-false, lt-ltb, le-ltb, le-leb}
 use lib.Dec.{ltb, leb}
-use lib.IntN.{ℤ, pos, negsuc, natAbs, negℤ, subℕ, _-ℤ_}
-use lib.Signed.{ltZ, leZ, mag}
+use lib.IntN.{ℤ, pos, negsuc, natAbs, subℕ, _-ℤ_}
+use lib.Signed.{ltZ, leZ}
 use Rattle.order.proofs.Order.{byTest, never-both}
 
 unfoldable pub up : ℤ → ℕ

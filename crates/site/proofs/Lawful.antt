@@ -1,11 +1,11 @@
 -- The refusal of a list, by the tests in their order.
 use mathlib.Core.Path.{_≡_, refl, sym, ap, ap₂, _∙_}
-use mathlib.Core.Bool.{Bool, true, false, not, cond, _&&_, and-true, and-false}
+use mathlib.Core.Bool.{Bool, true, false, _&&_, and-true, and-false}
 use mathlib.Core.List.{List, [], _∷_}
-use Prim.Native.Nat.{ℕ, zero, suc, _+_, _≤_, _<_}
+use Prim.Native.Nat.{ℕ, _≤_, _<_}
 use native.Mathlib.Omega.{arith}
 use borrow.Author.Tests.{ne-eqb, eq-eqb, lt-leb, le-leb, eqb-true}
-use lib.Dec.{eqb, leb}
+use lib.Dec.{eqb}
 use lib.IntN.{ℤ}
 use lib.ListN.{length}
 use Rattle.order.specs.Order.{ascending}
@@ -15,7 +15,6 @@ use Rattle.site.specs.Told.{orElse}
 use Rattle.site.specs.Site.{within, lawfulSite, siteBefore}
 use Rattle.site.specs.SiteList.{Columns, Level, zipSites, sites}
 use Rattle.site.specs.Refusal.{equalLengths, sizeFault, contentRefusal, listRefusal}
-use Rattle.order.proofs.Order.{byTest}
 use Rattle.site.proofs.Cases.{and-first, and-second}
 
 -- A site is lawful where its two coordinates are inside the limits.

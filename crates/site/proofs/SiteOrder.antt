@@ -1,5 +1,4 @@
 -- The order of sites is strict.
-use mathlib.Core.Path.{_≡_}
 use Rattle.order.specs.Order.{StrictOrder}
 use Rattle.order.proofs.Order.{strict, lex-order, by-integer, by-number}
 use Rattle.site.specs.declared.Site.{Site}

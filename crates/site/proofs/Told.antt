@@ -1,10 +1,10 @@
 -- The laws of refusal numbers: what is told under one, which of several comes first, and what it leaves as it was.
-use mathlib.Core.Path.{_≡_, refl, sym, ap, _∙_}
+use mathlib.Core.Path.{_≡_, refl, sym, _∙_}
 use mathlib.Core.Bool.{Bool, true, false, not, cond}
 use Prim.Native.Nat.{ℕ, zero, suc}
 use native.Mathlib.Omega.{arith}
 use borrow.Author.Tests.{not-false}
-use Rattle.site.specs.Told.{Told, refused, answered, tell, unlessRefused, numberOf, orElse}
+use Rattle.site.specs.Told.{refused, answered, tell, unlessRefused, numberOf, orElse}
 
 -- There is none, or there is one.
 pub byNumber : {P : Type 0} → (n : ℕ) → (n ≡ 0 → P) → ((n ≡ 0 → ⊥) → P) → P

@@ -9,7 +9,7 @@ use Rattle.order.specs.Order.{lex}
 use Rattle.site.specs.Site.{gap, square, squaredOver, squaredDistance}
 use Rattle.site.specs.SiteList.{site}
 use Rattle.entry.specs.Entry.{entry, rankBefore, offer, lastDistance}
-use Rattle.sweep.specs.Scan.{beyond, looked, offered, scan, State}
+use Rattle.sweep.specs.Scan.{beyond, looked, offered, scan}
 use Rattle.sweep.specs.Strip.{whole, placedFrom, pair}
 use Rattle.sweep.specs.Sweep.{classicOver, reverseOver, leads, look, start, sweep}
 

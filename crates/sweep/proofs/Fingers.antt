@@ -1,5 +1,5 @@
 -- Laws of the classic sweep on its way.
-use mathlib.Core.Path.{_≡_, refl, sym, ap, _∙_}
+use mathlib.Core.Path.{_≡_, refl, sym, _∙_}
 use mathlib.Core.Bool.{Bool, true, false}
 use mathlib.Core.Logic.{_⊎_, ⊎-elim}
 use mathlib.Core.List.{List, map}
@@ -11,7 +11,7 @@ use Rattle.entry.specs.Offered.{reachOf}
 use Rattle.sweep.specs.declared.Reference.{Reference}
 use Rattle.sweep.specs.declared.Tally.{Tally}
 use Rattle.sweep.specs.declared.Way.the-variants.{Classic}
-use Rattle.sweep.specs.Scan.{State, scan}
+use Rattle.sweep.specs.Scan.{scan}
 use Rattle.sweep.specs.Sweep.{classicOver, leads, look, start, sweep}
 use Rattle.sweep.specs.Runs.{spot, rightward, referenceAt, lookFrom, firstNext, stateOf}
 use Rattle.sweep.specs.Terms.{SweepAsked, TallyReady, ScanAsked, Held, Tallied}

@@ -1,16 +1,16 @@
 -- Laws of the entries that the result columns hold while a sweep goes on.
-use mathlib.Core.Path.{_≡_, refl, sym, ap, _∙_}
-use mathlib.Core.Bool.{Bool, true, false, cond}
+use mathlib.Core.Path.{_≡_, sym, ap, _∙_}
+use mathlib.Core.Bool.{true, false, cond}
 use mathlib.Core.List.{List}
-use Prim.Native.Nat.{ℕ, suc, _+_, _-_, _≤_, _<_, _^_, min}
+use Prim.Native.Nat.{ℕ, _-_, _<_, _^_}
 use native.Mathlib.Omega.{arith}
 use lib.Dec.{eqb, ltb}
 use lib.ListN.{length, getD}
-use borrow.Author.Tests.{eqb-true, eqb-false, ltb-true, lt-ltb, le-ltb}
+use borrow.Author.Tests.{eqb-true, le-ltb}
 use Rattle.order.proofs.Order.{byTest}
 use Rattle.entry.specs.declared.Entry.{Entry}
 use Rattle.entry.specs.Entry.{offer, lastDistance}
-use Rattle.entry.specs.Results.{Results, entriesOf, holding, roomFor}
+use Rattle.entry.specs.Results.{Results, entriesOf, holding}
 use Rattle.entry.specs.Offered.{Ready, Holds, reachOf}
 use Rattle.entry.proofs.Rank.{length-offer, sorted-offer, offer-past}
 use Rattle.entry.proofs.Columns.{room-lengths, lengths-room, length-entries, entries-holding, holding-self, holding-again, holding-lengths, room-holding, last-distance-column}

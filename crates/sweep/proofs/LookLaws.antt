@@ -7,7 +7,7 @@ use native.Mathlib.Omega.{arith}
 use mathlib.Core.List.{List}
 use lib.Dec.{eqb, ltb}
 use lib.IntN.{ℤ, pos}
-use lib.ListN.{length, getD}
+use lib.ListN.{getD}
 use borrow.Author.Tests.{lt-ltb, le-ltb}
 use Rattle.site.specs.Site.{gap, square, squaredDistance}
 use Rattle.site.specs.SiteList.{site}
@@ -17,11 +17,10 @@ use Rattle.entry.specs.declared.Entry.{Entry}
 use Rattle.entry.specs.Entry.{entry, offer}
 use Rattle.entry.specs.Results.{Results, entriesOf}
 use Rattle.entry.specs.Offered.{Holds, reachOf}
-use Rattle.sweep.specs.declared.Looked.{Looked}
 use Rattle.sweep.specs.declared.Reference.{Reference}
 use Rattle.sweep.specs.declared.Tally.{Tally}
 use Rattle.sweep.specs.Strip.{pair}
-use Rattle.sweep.specs.Scan.{Candidate, State, beyond, looked, offered, lookAt}
+use Rattle.sweep.specs.Scan.{Candidate, beyond, looked, offered, lookAt}
 use Rattle.sweep.specs.Sweep.{look}
 use Rattle.sweep.specs.Runs.{spotOf, spot, lookFrom, stateOf}
 use Rattle.sweep.specs.Terms.{TallyReady, LookAsked, Held, LookTold}

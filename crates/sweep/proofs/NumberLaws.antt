@@ -1,13 +1,12 @@
 -- A sweep reads no number: strips of lists with any numbers are swept as the runs of their coordinate columns.
 use mathlib.Core.Path.{_≡_, refl, sym, ap, ap₂, _∙_}
-use mathlib.Core.Bool.{Bool, true, false, cond}
+use mathlib.Core.Bool.{Bool}
 use mathlib.Core.List.{List, [], _∷_, map, map-map}
-use Prim.Native.Nat.{ℕ, zero, suc, _+_, _-_, _≤_, _<_}
+use Prim.Native.Nat.{ℕ, zero, suc, _+_, _-_, _≤_}
 use native.Mathlib.Omega.{arith}
 use lib.Dec.{leb}
 use borrow.Author.Tests.{leb-true, leb-false}
-use lib.IntN.{ℤ, pos}
-use lib.ListN.{length, take, drop, getD}
+use lib.ListN.{length, take, drop}
 use lib.Seq.{drop-cons}
 use Rattle.order.proofs.Order.{byTest}
 use Rattle.order.proofs.Lists.{map-take}
@@ -15,7 +14,7 @@ use Rattle.site.specs.declared.Site.{Site}
 use Rattle.site.specs.Site.{gap, square}
 use Rattle.site.proofs.Distance.{numberless}
 use Rattle.entry.specs.Entry.{entry}
-use Rattle.site.specs.SiteList.{Columns, Level, columns, sites}
+use Rattle.site.specs.SiteList.{Columns, Level, sites}
 use Rattle.site.proofs.Columns.{columnsAt, sites-length, sites-at}
 use Rattle.entry.specs.declared.Entry.{Entry}
 use Rattle.sweep.specs.declared.Way.{Way}
@@ -24,7 +23,6 @@ use Rattle.sweep.specs.Strip.{Placed, placedFrom, strip, pair}
 use Rattle.sweep.specs.Scan.{Candidate, State, scan}
 use Rattle.sweep.specs.Sweep.{classicOver, reverseOver, leads, look, start, sweep}
 use Rattle.sweep.specs.Runs.{spotOf, spot, rightward}
-use Rattle.sweep.proofs.StepLaws.{classic-nil, classic-nil-right, classic-first, classic-second, reverse-nil, reverse-first, reverse-first-last, reverse-second, reverse-second-last}
 use Rattle.sweep.proofs.PlaceLaws.{strip-is}
 
 -- ---- things replaced by others that lead and look the same

@@ -6,7 +6,7 @@ use Prim.Native.Nat.{ℕ, _+_, _-_, _≤_, _<_, _^_}
 use native.Mathlib.Omega.{arith}
 use lib.Dec.{ltb}
 use lib.IntN.{ℤ}
-use lib.ListN.{length, take, length-map}
+use lib.ListN.{take, length-map}
 use borrow.Author.Tests.{ltb-true, ltb-false}
 use Rattle.order.proofs.Order.{byTest, never-both}
 use Rattle.entry.specs.Results.{Results, entriesOf}

@@ -1,14 +1,11 @@
 -- `site::ascends` meets its contract. The invariant: the breaks counted, and those in what is left, are all of the list's.
 use mathlib.Core.Path.{_≡_, _∙_, sym, ap}
-use mathlib.Core.Bool.{cond}
-use mathlib.Core.List.{List}
 use Prim.Native.Nat.{ℕ, _+_, _-_, _≤_, _<_}
 use native.Mathlib.Omega.{arith}
 use borrow.Author.Needs.{needs}
 use lib.Dec.{eqb}
 use lib.IntN.{pos}
-use lib.ListN.{length, drop, getD}
-use Rattle.site.specs.declared.Site.{Site}
+use lib.ListN.{length, drop}
 use Rattle.site.specs.Site.{siteBefore}
 use Rattle.site.specs.SiteList.{Columns, columns, site, sites, siteAt}
 use Rattle.site.proofs.Columns.{sites-length}

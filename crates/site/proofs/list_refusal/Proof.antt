@@ -1,12 +1,11 @@
 -- `site::list_refusal` meets its contract.
 use mathlib.Core.Path.{_≡_, sym, _∙_}
-use mathlib.Core.Bool.{true, false}
+use mathlib.Core.Bool.{true}
 use borrow.Author.Needs.{needs}
 use borrow.Author.Tests.{not-true, not-false}
-use Rattle.order.specs.Order.{ascending}
 use Rattle.order.specs.Lists.{all}
-use Rattle.site.specs.Site.{within, siteBefore}
-use Rattle.site.specs.SiteList.{Columns, Level, columns, sites}
+use Rattle.site.specs.Site.{within}
+use Rattle.site.specs.SiteList.{Columns, Level, columns}
 use Rattle.site.proofs.Lawful.{unequal-y, unequal-number, level-by, too-many, outside-x, outside-y, unordered, accepted}
 use Rattle.site.proofs.list_refusal.Statement.{statement}
 use Rattle.site.proofs.list_refusal.Tie as tie

@@ -1,6 +1,5 @@
 -- `site::place_of` meets its contract. The invariant: those counted, and those in what is left, are all that come before.
 use mathlib.Core.Path.{_≡_, ap}
-use mathlib.Core.Bool.{cond}
 use Prim.Native.Nat.{ℕ, _+_, _-_, _≤_, _<_}
 use native.Mathlib.Omega.{arith}
 use borrow.Author.Needs.{needs}

@@ -32,25 +32,10 @@ look-requires c κs =
     let l = t .before in
     scanning-asks (l .before .before .before .before .pre) (l .loop .inv .2) _ (rightward-cons _ _ _ _ (t .loop-test .taken)) (t .loop-test .taken)
 
-same-length : tie.Need-same-length Inv-loop μ-loop
-same-length c = search needs
-
-same-length-2 : tie.Need-same-length-2 Inv-loop μ-loop
-same-length-2 c = search needs
-
-same-length-3 : tie.Need-same-length-3 Inv-loop μ-loop
-same-length-3 c = search needs
-
 returns : tie.Need-returns Inv-loop μ-loop
 returns c =
     let l = c .before in
     scanning-ends (l .before .before .before .before .pre) (l .loop .inv .2) (rightward-nil _ _ _ _ (c .loop-test .left)) .tallied
-
-add-at : tie.Need-add-at Inv-loop μ-loop
-add-at c = search needs
-
-loop-less : tie.Need-loop-less Inv-loop μ-loop
-loop-less c = search needs
 
 loop-again : tie.Need-loop-again Inv-loop μ-loop
 loop-again c =
@@ -59,15 +44,6 @@ loop-again c =
     let l = t .before in
     let p = scanning-goes (l .before .before .before .before .pre) (l .loop .inv .2) (rightward-cons _ _ _ _ (t .loop-test .taken)) (d .look .ensures) (c .if1 .left) in
     (held-lengths _ _ _ _ _ (p .held), search needs, p)
-
-same-length-4 : tie.Need-same-length-4 Inv-loop μ-loop
-same-length-4 c = search needs
-
-same-length-5 : tie.Need-same-length-5 Inv-loop μ-loop
-same-length-5 c = search needs
-
-same-length-6 : tie.Need-same-length-6 Inv-loop μ-loop
-same-length-6 c = search needs
 
 returns-2 : tie.Need-returns-2 Inv-loop μ-loop
 returns-2 c =
@@ -84,14 +60,14 @@ scan-right-spec =
     μ-loop
     loop-holds
     look-requires
-    add-at
-    loop-less
+    (λ c. search needs)
+    (λ c. search needs)
     loop-again
-    same-length
-    same-length-2
-    same-length-3
+    (λ c. search needs)
+    (λ c. search needs)
+    (λ c. search needs)
     returns
-    same-length-4
-    same-length-5
-    same-length-6
+    (λ c. search needs)
+    (λ c. search needs)
+    (λ c. search needs)
     returns-2)
