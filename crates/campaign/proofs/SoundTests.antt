@@ -11,6 +11,7 @@ use Rattle.site.specs.SiteList.{Columns, Level, sites}
 use Rattle.site.specs.Refusal.{listsRefusal}
 use Rattle.site.proofs.Columns.{sites-length}
 use Rattle.site.proofs.Told.{first-refused, next-decides}
+use Rattle.entry.specs.declared.Entry.{Entry}
 use Rattle.entry.specs.Entry.{rankBefore, lawfulK}
 use Rattle.entry.specs.Results.{Results, entriesOf, roomFor}
 use Rattle.campaign.specs.declared.Campaign.{Campaign}
@@ -50,12 +51,13 @@ module _ (c : Campaign) (a b : List Site) (r : Results) where
   unfolding entriesSound
   order-fails h = simp h
 
-  pub entries-decide : ascending rankBefore (entriesOf (c .entries) r) ≡ true → {t : Bool}
+  -- `l` is the entries, as they were read.
+  pub entries-decide : {l : List Entry} → l ≡ entriesOf (c .entries) r → ascending rankBefore (entriesOf (c .entries) r) ≡ true → {t : Bool}
       → t ≡ all (fits (c .marks) (take (c .«first_strips») (c .«first_ends»))
-      (take (c .«second_strips») (c .«second_ends»)) a b) (entriesOf (c .entries) r)
+      (take (c .«second_strips») (c .«second_ends»)) a b) l
       → t ≡ entriesSound c a b r
   unfolding entriesSound soundEntry firstEnds secondEnds
-  entries-decide h e = e ∙ simp h
+  entries-decide read h e = e ∙ rw read (simp h)
 
 module _ (c : Campaign) (a b : Columns) (r : Results) (la : Level a) (lb : Level b) where
   pub steps : sound c (sites a) (sites b) r

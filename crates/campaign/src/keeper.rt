@@ -194,13 +194,16 @@ fn sound_entries(
     let first_ends = c.first_ends;
     let second_ends = c.second_ends;
     let marks = c.marks;
-    if !in_order(distance, first, second, count) {
+    let distances = &distance[..count];
+    let firsts = &first[..count];
+    let seconds = &second[..count];
+    if !in_order(distances, firsts, seconds, count) {
         return false;
     }
     all_fit(
-        distance,
-        first,
-        second,
+        distances,
+        firsts,
+        seconds,
         count,
         ax,
         ay,

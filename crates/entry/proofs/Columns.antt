@@ -6,13 +6,13 @@ use Prim.Native.Nat.{ℕ, zero, suc, _+_, _-_, _≤_, _<_}
 use native.Mathlib.Omega.{arith}
 use lib.Dec.{leb}
 use lib.ListN.{length, take, drop, getD, length-map}
-use lib.Seq.{take-append-seam, getD-take}
+use lib.Seq.{take-append-seam, length-take-le, getD-take}
 use borrow.Author.Tests.{leb-true, le-leb, lt-leb}
 use Rattle.column.specs.Column.{overwritten}
 use Rattle.column.proofs.Overwritten.{length-overwritten, overwritten-again, overwritten-self}
 use Rattle.entry.specs.declared.Entry.{Entry}
 use Rattle.entry.specs.Entry.{entry, lastDistance}
-use Rattle.entry.specs.Results.{Results, zipEntries, entriesOf, holding, roomFor}
+use Rattle.entry.specs.Results.{Results, results, zipEntries, entriesOf, holding, roomFor}
 use Rattle.entry.proofs.Rank.{last-distance}
 
 -- ---- room
@@ -88,6 +88,30 @@ zip-at i (d ∷ ds) [] js e p q t = absurd (omega arith)
 zip-at i (d ∷ ds) (f ∷ is) [] e p q t = absurd (omega arith)
 zip-at zero (d ∷ ds) (f ∷ is) (s ∷ js) e p q t = refl
 zip-at (suc i) (d ∷ ds) (f ∷ is) (s ∷ js) e p q t = zip-at i ds is js e (omega arith) (omega arith) (omega arith)
+
+-- The first `count` entries stand in the first `count` elements of each column.
+zip-take : (n : ℕ) (ds is js : List ℕ) → take n (zipEntries (take n ds) (take n is) (take n js)) ≡ take n (zipEntries ds is js)
+unfolding zipEntries
+zip-take zero ds is js = refl
+zip-take (suc n) [] is js = refl
+zip-take (suc n) (d ∷ ds) [] js = refl
+zip-take (suc n) (d ∷ ds) (i ∷ is) [] = refl
+zip-take (suc n) (d ∷ ds) (i ∷ is) (j ∷ js) = ap (λ (r : List Entry). entry d i j ∷ r) (zip-take n ds is js)
+
+abbrev pub firstOf : ℕ → Results → Results
+firstOf n r = results (take n (r .distance)) (take n (r .first)) (take n (r .second))
+
+pub entries-first : (n : ℕ) (r : Results) → entriesOf n (firstOf n r) ≡ entriesOf n r
+unfolding entriesOf
+entries-first n r = zip-take n (r .distance) (r .first) (r .second)
+
+pub room-first : (k n : ℕ) (r : Results) → roomFor k r ≡ true → n ≤ k → roomFor n (firstOf n r) ≡ true
+room-first k n r room h =
+    let m = room-lengths k r room in
+    let a = length-take-le n (r .distance) (omega arith) in
+    let b = length-take-le n (r .first) (omega arith) in
+    let c = length-take-le n (r .second) (omega arith) in
+    lengths-room n (firstOf n r) (omega arith) (omega arith) (omega arith)
 
 -- `count` entries within the room of the columns.
 module _ (k count : ℕ) (r : Results) (room : roomFor k r ≡ true) (most : count ≤ k) where

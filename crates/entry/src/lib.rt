@@ -66,6 +66,19 @@ pub fn entry_at(distance: &[u64], first: &[u32], second: &[u32], i: usize) -> En
     }
 }
 
+// The entry at a place that all three columns have.
+fn entry_inside(distance: &[u64], first: &[u32], second: &[u32], i: usize) -> Entry
+    requires { ⌜ (i < length (now distance)) × (i < length (now first)) × (i < length (now second)) ⌝ }
+    ensures { λ r.
+        ⌜ r ≡ entry (getD (now (distance .entry)) i 0) (getD (now (first .entry)) i 0) (getD (now (second .entry)) i 0) ⌝ }
+{
+    Entry {
+        distance: distance[i],
+        first: first[i],
+        second: second[i],
+    }
+}
+
 // The place that an entry takes among the first `count`.
 fn place(distance: &[u64], first: &[u32], second: &[u32], count: usize, e: Entry) -> usize
     requires { ⌜ Ready count count (results (now distance) (now first) (now second)) ⌝ }
@@ -75,7 +88,7 @@ fn place(distance: &[u64], first: &[u32], second: &[u32], count: usize, e: Entry
     let mut high = count;
     while low < high {
         let middle = low + (high - low) / 2;
-        if before(entry_at(distance, first, second, middle), e) {
+        if before(entry_inside(distance, first, second, middle), e) {
             low = middle + 1;
         } else {
             high = middle;
