@@ -369,7 +369,7 @@ fn held_start(first: u32, second: u32, which: Which) -> u32
 }
 
 // Consults a file through held starts: the site of a list at a place, or the refusal.
-pub fn site_from(file: &[u8], first: u32, second: u32, which: Which, place: u32) -> SiteRead
+fn site_from(file: &[u8], first: u32, second: u32, which: Which, place: u32) -> SiteRead
     ensures { λ r. ⌜ siteReadTold r ≡ heldTold (now (file .entry)) first second which place ⌝ }
 {
     let refusal = contents_refusal(file);
