@@ -1,12 +1,12 @@
 -- The refusals of a file, one test after another.
-use mathlib.Core.Path.{_≡_, refl, sym, _∙_}
-use mathlib.Core.Bool.{Bool, true, false, not, _&&_, _||_, and-true}
+use mathlib.Core.Path.{_≡_, sym, _∙_}
+use mathlib.Core.Bool.{Bool, true, false, _||_}
 use mathlib.Core.List.{List}
-use Prim.Native.Nat.{ℕ, zero, suc, _+_, _*_, _-_, _≤_, _<_}
+use Prim.Native.Nat.{ℕ, _+_, _*_, _-_, _≤_, _<_}
 use native.Mathlib.Omega.{arith}
 use borrow.Author.Tests.{lt-ltb, le-ltb, lt-leb, ltb-false, eq-eqb, ne-eqb, eqb-true}
 use lib.Dec.{ltb, eqb}
-use lib.ListN.{length, take}
+use lib.ListN.{length}
 use Rattle.order.specs.Order.{ascending}
 use Rattle.order.specs.Lists.{all}
 use Rattle.site.specs.declared.Site.{Site}
@@ -19,7 +19,7 @@ use Rattle.site.proofs.Told.{told, told-refused, first-refused, next-decides, o
 use Rattle.site_file.specs.Bytes.{word}
 use Rattle.site_file.specs.declared.Which.{Which}
 use Rattle.site_file.specs.declared.Which.the-variants.{First, Second}
-use Rattle.site_file.specs.File.{secondStart, fileLength, startIn, countIn, siteIn, sitesFrom, sitesIn}
+use Rattle.site_file.specs.File.{secondStart, fileLength, startIn, countIn, sitesFrom, sitesIn}
 use Rattle.site_file.specs.Calls.{layoutFault, contentsRefusal, readRefusal, readTold, siteRefusal, siteTold}
 use Rattle.site_file.proofs.File.{from-at}
 
@@ -99,37 +99,19 @@ laid file e =
       size = eqb-true _ _ (and-second (eqb (word file 8) (16 + 12 * word file 4)) _ rest);
     }
 
--- The refusal of the sites left to test, where those before them are inside the limits, and in order or not.
-unfoldable pub contentLeft : Bool → List Site → ℕ
-contentLeft ordered l = orElse (refuseIf (not (all lawfulSite l)) 2) (refuseIf (not (ordered && ascending siteBefore l)) 3)
+-- The tests of a list's sites.
+module _ (l : List Site) {b : Bool} (p : b ≡ all lawfulSite l) where
+  pub unlawful-site : b ≡ false → 2 ≡ contentRefusal l
+  unfolding contentRefusal orElse
+  unlawful-site t = rw (← p, t)
 
-pub content-starts : (l : List Site) → contentLeft true l ≡ contentRefusal l
-unfolding contentLeft contentRefusal
-content-starts l = refl
+  pub unordered-sites : {d : Bool} → b ≡ true → d ≡ ascending siteBefore l → d ≡ false → 3 ≡ contentRefusal l
+  unfolding contentRefusal orElse
+  unordered-sites t q f = rw (← p, t, ← q, f)
 
-regroup : (o b r : Bool) → ((o && (b && true)) && r) ≡ (o && (b && r))
-regroup true true r = refl
-regroup true false r = refl
-regroup false b r = refl
-
-module _ (file : List ℕ) (at : ℕ) (o : Bool) where
-  pub content-stop : (left : ℕ) → 0 < left → lawfulSite (siteIn file at) ≡ false → 2 ≡ contentLeft o (sitesFrom file at left)
-  unfolding contentLeft orElse all sitesFrom
-  content-stop zero h t = absurd (omega arith)
-  content-stop (suc n) h t = rw t
-
-  pub content-step : (left : ℕ) {d : Bool} → 0 < left → lawfulSite (siteIn file at) ≡ true → d ≡ (o && ascending siteBefore (take 2 (sitesFrom file at left))) → contentLeft d (sitesFrom file (at + 12) (left - 1)) ≡ contentLeft o (sitesFrom file at left)
-  unfolding contentLeft ascending all sitesFrom
-  content-step zero h t p = absurd (omega arith)
-  content-step (suc zero) h t p = rw (t, p, regroup o true true)
-  content-step (suc (suc n)) h t p =
-      let e : suc (suc n) - 1 ≡ suc n = omega arith in
-      rw (t, p, e, regroup o (siteBefore (siteIn file at) (siteIn file (at + 12))) (ascending siteBefore (sitesFrom file (at + 12) (suc n))))
-
-  pub content-ends : (b : Bool) (left : ℕ) → left ≤ 0 → o ≡ b → refuseIf (not b) 3 ≡ contentLeft o (sitesFrom file at left)
-  unfolding contentLeft orElse all ascending sitesFrom
-  content-ends b zero h e = rw (e, and-true b)
-  content-ends b (suc n) h e = absurd (omega arith)
+  pub lawful-sites : {d : Bool} → b ≡ true → d ≡ ascending siteBefore l → d ≡ true → 0 ≡ contentRefusal l
+  unfolding contentRefusal orElse
+  lawful-sites t q f = rw (← p, t, ← q, f)
 
 -- What the parts of a reading answer.
 module _ (file : List ℕ) {r : ℕ} (p : r ≡ contentsRefusal file) where

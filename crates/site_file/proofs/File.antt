@@ -1,13 +1,13 @@
 -- The sites in a file's bytes, one after another.
 use mathlib.Core.Path.{_≡_, refl, sym, ap, _∙_}
-use mathlib.Core.Bool.{Bool, true, false, _&&_, and-true, and-false}
+use mathlib.Core.Bool.{Bool, true, false, and-true}
 use mathlib.Core.List.{List, _++_}
-use Prim.Native.Nat.{ℕ, zero, suc, _+_, _*_, _≤_, _<_}
+use Prim.Native.Nat.{ℕ, zero, suc, _+_, _-_, _*_, _≤_, _<_}
 use native.Mathlib.Nat.{add-zero}
 use native.Mathlib.Numerals.{add-one}
 use native.Mathlib.Omega.{arith}
 use lib.IntN.{ℤ, pos}
-use lib.ListN.{length, take, drop, getD, drop-of-length-le}
+use lib.ListN.{length, drop, getD, drop-of-length-le}
 use lib.Seq.{drop-cons}
 use mir.Syntax.{w32}
 use mir.Val.{SFits, toZ, ofZ}
@@ -54,25 +54,40 @@ module _ (file : List ℕ) (at : ℕ) where
   pub ordered-made : {s t : Site} {r : Bool} → s ≡ siteIn file at → t ≡ siteIn file (at + 12) → SFits w32 (s .x) → SFits w32 (s .y) → SFits w32 (t .x) → SFits w32 (t .y) → r ≡ siteBefore (site (toZ w32 (ofZ w32 (s .x))) (toZ w32 (ofZ w32 (s .y))) (s .number)) (site (toZ w32 (ofZ w32 (t .x))) (toZ w32 (ofZ w32 (t .y))) (t .number)) → r ≡ siteBefore (siteIn file at) (siteIn file (at + 12))
   ordered-made e f hx hy kx ky p = rw (← e, ← f) (rw (toZ-ofZ hx, toZ-ofZ hy, toZ-ofZ kx, toZ-ofZ ky) at p)
 
-  -- The order of the next two sites, if there are two.
-  pub ordered-last : (ordered : Bool) (left : ℕ) → left < 2 → ordered ≡ (ordered && ascending siteBefore (take 2 (sitesFrom file at left)))
+  -- One site of a run that is tested against the limits.
+  pub lawful-step : (left : ℕ) → 0 < left → lawfulSite (siteIn file at) ≡ true → all lawfulSite (sitesFrom file (at + 12) (left - 1)) ≡ all lawfulSite (sitesFrom file at left)
+  unfolding all sitesFrom
+  lawful-step zero h t = absurd (omega arith)
+  lawful-step (suc n) h t = let e : suc n - 1 ≡ n = omega arith in rw (t, e)
+
+  pub lawful-stop : (left : ℕ) → 0 < left → lawfulSite (siteIn file at) ≡ false → false ≡ all lawfulSite (sitesFrom file at left)
+  unfolding all sitesFrom
+  lawful-stop zero h t = absurd (omega arith)
+  lawful-stop (suc n) h t = rw t
+
+  pub lawful-end : (left : ℕ) → left ≤ 0 → true ≡ all lawfulSite (sitesFrom file at left)
+  unfolding all sitesFrom
+  lawful-end zero h = refl
+  lawful-end (suc n) h = absurd (omega arith)
+
+  -- One site of a run that is tested for its order.
+  pub ascending-step : (left : ℕ) → 1 < left → siteBefore (siteIn file at) (siteIn file (at + 12)) ≡ true → ascending siteBefore (sitesFrom file (at + 12) (left - 1)) ≡ ascending siteBefore (sitesFrom file at left)
   unfolding ascending sitesFrom
-  ordered-last ordered zero h = sym (and-true ordered)
-  ordered-last ordered (suc zero) h = sym (and-true ordered)
-  ordered-last ordered (suc (suc n)) h = absurd (omega arith)
+  ascending-step zero h t = absurd (omega arith)
+  ascending-step (suc zero) h t = absurd (omega arith)
+  ascending-step (suc (suc n)) h t = let e : suc (suc n) - 1 ≡ suc n = omega arith in rw (t, e)
 
-  ordered-two : (left : ℕ) → 2 ≤ left → ascending siteBefore (take 2 (sitesFrom file at left)) ≡ siteBefore (siteIn file at) (siteIn file (at + 12))
+  pub ascending-stop : (left : ℕ) → 1 < left → siteBefore (siteIn file at) (siteIn file (at + 12)) ≡ false → false ≡ ascending siteBefore (sitesFrom file at left)
   unfolding ascending sitesFrom
-  ordered-two zero h = absurd (omega arith)
-  ordered-two (suc zero) h = absurd (omega arith)
-  ordered-two (suc (suc n)) h = and-true _
+  ascending-stop zero h t = absurd (omega arith)
+  ascending-stop (suc zero) h t = absurd (omega arith)
+  ascending-stop (suc (suc n)) h t = rw t
 
-  module _ (ordered : Bool) (left : ℕ) (h : 2 ≤ left) {r : Bool} (p : r ≡ siteBefore (siteIn file at) (siteIn file (at + 12))) where
-    pub ordered-kept : r ≡ true → ordered ≡ (ordered && ascending siteBefore (take 2 (sitesFrom file at left)))
-    ordered-kept t = rw (ordered-two left h, ← p, t) (sym (and-true ordered))
-
-    pub ordered-lost : r ≡ false → false ≡ (ordered && ascending siteBefore (take 2 (sitesFrom file at left)))
-    ordered-lost t = rw (ordered-two left h, ← p, t) (sym (and-false ordered))
+  pub ascending-end : (left : ℕ) → left ≤ 1 → true ≡ ascending siteBefore (sitesFrom file at left)
+  unfolding ascending sitesFrom
+  ascending-end zero h = refl
+  ascending-end (suc zero) h = refl
+  ascending-end (suc (suc n)) h = absurd (omega arith)
 
 -- The sites from a position on, by place.
 pub from-length : (l : List ℕ) (at n : ℕ) → length (sitesFrom l at n) ≡ n

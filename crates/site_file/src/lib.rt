@@ -1,9 +1,9 @@
 // The site file: writing two lists, reading a file, and consulting it site by site.
 ghost use mathlib.Core.Path.{_≡_};
-ghost use mathlib.Core.Bool.{_&&_};
 ghost use Prim.Native.Nat.{_+_, _*_, _%_, _≤_};
-ghost use lib.ListN.{length, getD, take};
+ghost use lib.ListN.{length, getD};
 ghost use Rattle.order.specs.Order.{ascending};
+ghost use Rattle.order.specs.Lists.{all};
 ghost use Rattle.site.specs.Site.{lawfulSite, siteBefore};
 ghost use Rattle.site.specs.SiteList.{Level, site, columns, sites};
 ghost use Rattle.site.specs.Refusal.{contentRefusal};
@@ -257,20 +257,48 @@ fn lawful_at(file: &[u8], at: usize) -> bool
     false
 }
 
-// Whether sites in order so far stay so: the site at a position comes before the one after it, if there is one.
-fn ordered_at(file: &[u8], at: usize, left: usize, ordered: bool) -> bool
-    requires { ⌜ at + 12 * left ≤ length (now file) ⌝ }
-    ensures { λ r. ⌜ r ≡ (ordered && ascending siteBefore (take 2 (sitesFrom (now (file .entry)) at left))) ⌝ }
+// Whether the site at a position comes before the site after it.
+fn ordered_at(file: &[u8], at: usize) -> bool
+    requires { ⌜ at + 24 ≤ length (now file) ⌝ }
+    ensures { λ r. ⌜ r ≡ siteBefore (siteIn (now (file .entry)) at) (siteIn (now (file .entry)) (at + 12)) ⌝ }
 {
-    if left < 2 {
-        return ordered;
-    }
     let s = site_at(file, at);
     let t = site_at(file, at + 12);
-    if site::before(s.x, s.y, s.number, t.x, t.y, t.number) {
-        return ordered;
+    site::before(s.x, s.y, s.number, t.x, t.y, t.number)
+}
+
+// Whether all of the sites from a position on are inside the limits.
+fn all_lawful(file: &[u8], start: usize, count: usize) -> bool
+    requires { ⌜ start + 12 * count ≤ length (now file) ⌝ }
+    ensures { λ r. ⌜ r ≡ all lawfulSite (sitesFrom (now (file .entry)) start count) ⌝ }
+{
+    let mut at = start;
+    let mut left = count;
+    while 0 < left {
+        if !lawful_at(file, at) {
+            return false;
+        }
+        at += 12;
+        left -= 1;
     }
-    false
+    true
+}
+
+// Whether the sites from a position on are strictly ascending.
+fn all_ascending(file: &[u8], start: usize, count: usize) -> bool
+    requires { ⌜ start + 12 * count ≤ length (now file) ⌝ }
+    ensures { λ r. ⌜ r ≡ ascending siteBefore (sitesFrom (now (file .entry)) start count) ⌝ }
+{
+    let mut at = start;
+    let mut left = count;
+    while 1 < left {
+        if !ordered_at(file, at) {
+            return false;
+        }
+        at += 12;
+        left -= 1;
+    }
+    true
 }
 
 // The refusal of the sites from a position on: 2, 3 or none.
@@ -278,18 +306,13 @@ fn content_refusal(file: &[u8], start: usize, count: usize) -> u32
     requires { ⌜ start + 12 * count ≤ length (now file) ⌝ }
     ensures { λ r. ⌜ r ≡ contentRefusal (sitesFrom (now (file .entry)) start count) ⌝ }
 {
-    let mut ordered = true;
-    let mut at = start;
-    let mut left = count;
-    while 0 < left {
-        if !lawful_at(file, at) {
-            return 2;
-        }
-        ordered = ordered_at(file, at, left, ordered);
-        at += 12;
-        left -= 1;
+    if !all_lawful(file, start, count) {
+        return 2;
     }
-    if ordered { 0 } else { 3 }
+    if !all_ascending(file, start, count) {
+        return 3;
+    }
+    0
 }
 
 // The refusal of a file's contents and length: 10, 1 or none.
