@@ -5,7 +5,7 @@ use Prim.Native.Nat.{ℕ}
 use lib.IntN.{pos, negsuc}
 use Rattle.order.specs.Lists.{all, keep}
 use Rattle.order.specs.Order.{lex, ascending}
-use Rattle.site.specs.Add.{useFault, placeOf, present, noRoom, addRefusal}
+use Rattle.site.specs.Addition.{useFault, placeOf, present, noRoom, addRefusal}
 use Rattle.site.specs.Refusal.{equalLengths, sizeFault, contentRefusal, listRefusal, listsRefusal}
 use Rattle.site.specs.Site.{within, lawfulSite, siteBefore}
 use Rattle.site.specs.SiteList.{Columns, columns, site, sites, zipSites, inUse}

@@ -23,12 +23,12 @@ use Rattle.site.specs.declared.Site.{Site}
 use Rattle.site.specs.Site.{lawfulSite, siteBefore}
 use Rattle.site.specs.SiteList.{Columns, Level, columns, site, zipSites, sites, inUse}
 use Rattle.site.specs.Refusal.{listRefusal, LawfulList}
-use Rattle.site.specs.Add.{placeOf, present, addRefusal, addedColumns}
+use Rattle.site.specs.Addition.{placeOf, present, addRefusal, addedColumns}
 use Rattle.site.proofs.SiteOrder.{site-order}
 use Rattle.site.proofs.Columns.{sites-length}
 use Rattle.site.proofs.Kept.{place-le}
 use Rattle.site.proofs.Accepted.{content-inside, content-ascends, lawful-accepted}
-use Rattle.site.proofs.Adding.{in-use-level, added-content, added-lawful, added-new, added-room, added-few, added-level, added-columns}
+use Rattle.site.proofs.Addition.{in-use-level, added-content, added-lawful, added-new, added-room, added-few, added-level, added-columns}
 
 -- An element put in at a place.
 abbrev put : {A : Type 0} → ℕ → A → List A → List A

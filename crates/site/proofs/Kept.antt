@@ -11,7 +11,7 @@ use lib.Seq.{drop-cons}
 use Rattle.order.specs.Lists.{keep}
 use Rattle.site.specs.declared.Site.{Site}
 use Rattle.site.specs.Site.{siteBefore}
-use Rattle.site.specs.Add.{placeOf, present}
+use Rattle.site.specs.Addition.{placeOf, present}
 use Rattle.order.proofs.Order.{byTest}
 use Rattle.site.proofs.Misses.{misses, all-misses}
 

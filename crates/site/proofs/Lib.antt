@@ -12,7 +12,7 @@ pub mod Breaks
 pub mod Columns
 pub mod Lawful
 pub mod Kept
-pub mod Adding
+pub mod Addition
 pub mod SiteOrder
 pub mod Accepted
 pub mod Grown

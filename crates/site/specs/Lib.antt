@@ -3,4 +3,4 @@ pub mod Told
 pub mod Site
 pub mod SiteList
 pub mod Refusal
-pub mod Add
+pub mod Addition

@@ -2,7 +2,7 @@
 pub mod Bytes
 pub mod File
 pub mod Contents
-pub mod Writing
+pub mod WriteAnswer
 pub mod Held
 pub mod Words
 pub mod Bodies

@@ -23,7 +23,7 @@ use Rattle.site_file.specs.RoundTrip.{Bytes, output, EveryOutputAccepted
 use Rattle.site_file.proofs.Words.{digits, bytes-back}
 use Rattle.site_file.proofs.File.{from-length, list-length}
 use Rattle.site_file.proofs.Contents.{Laid, contents-right, read-laid, read-answered, site-found}
-use Rattle.site_file.proofs.Writing.{Ready, ready, body-length, contents-length, write-ready, write-answered}
+use Rattle.site_file.proofs.WriteAnswer.{Ready, ready, body-length, contents-length, write-ready, write-answered}
 use Rattle.site_file.proofs.Bodies.{Fit, sites-read, body-back, sites-fit, columns-numbers, columns-accepted}
 
 -- The four words of a file's contents.

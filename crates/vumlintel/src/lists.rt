@@ -3,7 +3,7 @@ ghost use mathlib.Core.Path.{_≡_};
 ghost use Rattle.site.specs.Told.{numberOf};
 ghost use Rattle.site.specs.SiteList.{columns, site};
 ghost use Rattle.site.specs.Refusal.{checkTold};
-ghost use Rattle.site.specs.Add.{addTold, addedColumns};
+ghost use Rattle.site.specs.Addition.{addTold, addedColumns};
 ghost use Rattle.vumlintel.specs.Crossing.{afterwards};
 use site::Added;
 use site::Checked;

@@ -2,7 +2,7 @@
 use borrow.Author.Needs.{needs}
 use mathlib.Core.Path.{refl}
 use Rattle.site.specs.Told.{numberOf}
-use Rattle.site.specs.Add.{addedTold}
+use Rattle.site.specs.Addition.{addedTold}
 use Rattle.vumlintel.specs.Crossing.{afterwards}
 use Rattle.vumlintel.proofs.Crossing.{in-case, site-of}
 use Rattle.vumlintel.proofs.lists.vumlintel_add.Statement.{statement}

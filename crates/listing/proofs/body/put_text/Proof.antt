@@ -1,0 +1,23 @@
+-- The first line, then the lines of the entries.
+use native.Mathlib.Omega.{arith}
+use Rattle.listing.proofs.Entries.{total-fits, heading-next, text-put}
+use borrow.Author.Needs.{needs}
+use Rattle.listing.proofs.body.put_text.Statement.{statement}
+use Rattle.listing.proofs.body.put_text.Tie as tie
+
+mul-total : tie.Need-mul-total
+mul-total c = total-fits (c .before .before .before .before .before .before .pre .1 .0) (c .before .before .before .before .before .before .pre .1 .1)
+
+put-heading-requires : tie.Need-put-heading-requires
+put-heading-requires c κs = omega (arith, c .before .before .before .before .before .before .before .pre .1 .2)
+
+put-entries-requires : tie.Need-put-entries-requires
+put-entries-requires c κs =
+    (c .before .before .before .before .before .before .before .before .before .before .before .pre .0, omega (arith, c .before .before .before .before .before .before .before .before .before .before .before .pre .1 .2, heading-next _ _ (c .before .before .before .put-heading .ensures), c .before .before .before .put-heading .kept))
+
+returns : tie.Need-returns
+returns c = text-put _ _ _ _ _ (c .before .before .before .before .before .before .before .before .before .before .before .before .before .before .pre .0) (omega (arith, c .before .before .before .before .before .before .before .before .before .before .before .before .before .before .pre .1 .2)) (c .before .before .before .before .before .before .put-heading .ensures) (c .before .before .put-entries .ensures)
+
+pub put-text-spec : {M : Type 1} → statement M
+put-text-spec =
+    tie.close (tie.spec mul-total put-heading-requires put-entries-requires (λ c. search needs) returns)

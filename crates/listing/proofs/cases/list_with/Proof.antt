@@ -1,0 +1,36 @@
+-- The text from the K list that the columns take.
+use Rattle.sweep.specs.declared.Way.the-variants.{ReverseRun}
+use Rattle.listing.proofs.Text.{never-refused, text-ready, text-written}
+use borrow.Author.Needs.{needs}
+use Rattle.listing.proofs.cases.list_with.Statement.{statement}
+use Rattle.listing.proofs.cases.list_with.Tie as tie
+
+put-text-requires : tie.Need-put-text-requires
+put-text-requires c κs = text-ready ReverseRun _ _ _ _ (c .before .before .before .before .before .before .before .before .before .before .before .before .before .before .before .before .before .before .before .before .before .before .before .pre .0) (c .before .before .before .before .before .before .before .before .before .before .before .before .before .before .before .before .before .before .before .before .before .before .before .pre .1) (c .before .before .before .before .before .before .before .before .before .before .before .before .before .k-list .ensures .0) (c .before .before .before .before .before .count .given .1) (c .before .before .before .before .before .before .before .before .before .before .before .before .before .k-list .ensures .1)
+
+returns : tie.Need-returns
+returns c = text-written ReverseRun _ _ _ _ (c .before .before .before .before .before .before .before .before .before .before .before .before .before .before .before .before .before .before .before .before .before .before .before .before .before .before .pre .0) (c .before .before .before .before .before .before .before .before .before .before .before .before .before .before .before .before .before .before .before .before .before .before .before .before .before .before .pre .1) (c .before .before .before .before .before .before .before .before .before .before .before .before .before .before .before .before .k-list .ensures .0) (c .before .before .before .before .before .before .before .before .count .given .1) (c .before .before .before .before .before .before .before .before .before .before .before .before .before .before .before .before .k-list .ensures .1) (c .before .before .put-text .ensures)
+
+returns-2 : tie.Need-returns-2
+returns-2 c = absurd (never-refused ReverseRun _ _ _ _ (c .before .before .before .before .before .before .before .before .before .before .before .before .before .before .before .before .before .before .before .before .before .before .before .pre .0) (c .before .before .before .before .before .before .before .before .before .before .before .before .before .before .before .before .before .before .before .before .before .before .before .pre .1) (c .before .before .before .before .before .before .before .before .before .before .before .before .before .k-list .ensures .0) (c .before .before .before .before .before .number .given .1))
+
+pub list-with-spec : {M : Type 1} → statement M
+list-with-spec =
+    tie.close
+    (tie.spec
+    (λ c κs. search needs)
+    (λ c. search needs)
+    (λ c. search needs)
+    put-text-requires
+    (λ c. search needs)
+    (λ c κs. search needs)
+    (λ c. search needs)
+    (λ c. search needs)
+    (λ c. search needs)
+    (λ c. search needs)
+    returns
+    (λ c. search needs)
+    (λ c. search needs)
+    (λ c. search needs)
+    (λ c. search needs)
+    returns-2)

@@ -1,0 +1,46 @@
+-- One site of a file into its columns: the consulted file is never refused.
+use native.Mathlib.Omega.{arith}
+use Rattle.site_file.proofs.Contents.{laid, inside}
+use Rattle.listing.proofs.Reading.{x-stored, y-stored, number-stored, found-site, found-always}
+use borrow.Author.Needs.{needs}
+use Rattle.listing.proofs.input.read_site.Statement.{statement}
+use Rattle.listing.proofs.input.read_site.Tie as tie
+
+cast-consult : tie.Need-cast-consult
+cast-consult c =
+    let start = c .before .before in let g = inside _ (start .args .which) (laid _ (start .pre .0 .0)) in omega (arith, start .pre .0 .1)
+
+enum-told : tie.Need-enum-told
+enum-told c = search needs
+
+returns : tie.Need-returns
+returns c =
+    let start = c .before .before .before .before .before .before .before .before in
+    let args = start .args in
+    let read = found-site _ _ _ _ (c .before .before .before .before .before .consult .ensures) (start .pre .0 .0) (start .pre .0 .1) (c .before .before .before .s .given .1) in
+    (x-stored (args .i) read (args .x .now) (search needs), (y-stored (args .i) read (args .y .now) (search needs), number-stored (args .i) read (args .number .now)))
+
+returns-2 : tie.Need-returns-2
+returns-2 c =
+    let start = c .before .before .before .before .before in
+    absurd (found-always _ _ _ _ (c .before .before .consult .ensures) (start .pre .0 .0) (start .pre .0 .1) (c .enum-told .given .1))
+
+pub read-site-spec : {M : Type 1} → statement M
+read-site-spec =
+    tie.close
+    (tie.spec
+    cast-consult
+    (λ c κs. search needs)
+    (λ c. search needs)
+    (λ c. search needs)
+    (λ c. search needs)
+    (λ c. search needs)
+    (λ c. search needs)
+    (λ c. search needs)
+    (λ c. search needs)
+    enum-told
+    (λ c. search needs)
+    (λ c. search needs)
+    (λ c. search needs)
+    returns
+    returns-2)

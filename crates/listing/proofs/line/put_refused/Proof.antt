@@ -1,0 +1,13 @@
+-- A refusal is a word and a number.
+use Rattle.listing.proofs.Lines.{refused-put}
+use borrow.Author.Needs.{needs}
+use Rattle.listing.proofs.line.put_refused.Statement.{statement}
+use Rattle.listing.proofs.line.put_refused.Tie as tie
+
+returns : tie.Need-returns
+returns c = refused-put _ (c .before .before .before .before .before .before .before .before .before .before .pre) (c .before .before .before .before .before .before .put-bytes .ensures) (c .before .before .put-field .ensures)
+
+pub put-refused-spec : {M : Type 1} → statement M
+put-refused-spec =
+    tie.close
+    (tie.spec (λ c. search needs) (λ c κs. search needs) (λ c κs. search needs) (λ c. search needs) returns)

@@ -1,0 +1,152 @@
+// The listing of an input.
+use super::ROOM;
+use super::body;
+use super::input;
+use super::line;
+use pairs::Listed;
+use site_file::Which;
+use sweep::Way;
+ghost use mathlib.Core.Path.{_≡_};
+ghost use mathlib.Core.Bool.{true};
+ghost use Prim.Native.Nat.{_≤_};
+ghost use lib.ListN.{length};
+ghost use Rattle.site.specs.SiteList.{columns, sites};
+ghost use Rattle.column.specs.Column.{overwritten};
+ghost use Rattle.entry.specs.Results.{results, roomFor};
+ghost use Rattle.site_file.specs.File.{countIn, sitesIn};
+ghost use Rattle.listing.specs.Listing.{listingText, listing};
+ghost use Rattle.listing.specs.Put.{Put, Lawful, Sized, FileLists};
+
+// Writes the text for two lists, whose K list the result columns take: the position past it.
+fn list_with(
+    ax: &[i32],
+    ay: &[i32],
+    an: &[u32],
+    bx: &[i32],
+    by: &[i32],
+    bn: &[u32],
+    k: u32,
+    distance: &mut [u64],
+    first: &mut [u32],
+    second: &mut [u32],
+    out: &mut [u8],
+) -> usize
+    requires { ⌜ Lawful (columns (now ax) (now ay) (now an)) (columns (now bx) (now by) (now bn)) k (now out) ⌝ }
+    requires { ⌜ roomFor 4096 (results (now distance) (now first) (now second)) ≡ true ⌝ }
+    ensures { λ r.
+        ⌜ Put 0
+        (listingText k (sites (columns (now (ax .entry)) (now (ay .entry)) (now (an .entry))))
+        (sites (columns (now (bx .entry)) (now (by .entry)) (now (bn .entry)))))
+        (now (out .entry)) (now (out .exit)) r ⌝ }
+{
+    let way = Way::ReverseRun;
+    match pairs::k_list(way, ax, ay, an, bx, by, bn, k, distance, first, second) {
+        Listed::Entries {
+            count,
+            looks: _,
+            distances: _,
+        } => body::put_text(an, bn, distance, first, second, count as usize, out),
+        Listed::Refused(number) => line::put_refused(out, 0, number),
+    }
+}
+
+// Writes the text for two lists: the position past it.
+fn list_columns(
+    ax: &[i32],
+    ay: &[i32],
+    an: &[u32],
+    bx: &[i32],
+    by: &[i32],
+    bn: &[u32],
+    k: u32,
+    out: &mut [u8],
+) -> usize
+    requires { ⌜ Lawful (columns (now ax) (now ay) (now an)) (columns (now bx) (now by) (now bn)) k (now out) ⌝ }
+    ensures { λ r.
+        ⌜ Put 0
+        (listingText k (sites (columns (now (ax .entry)) (now (ay .entry)) (now (an .entry))))
+        (sites (columns (now (bx .entry)) (now (by .entry)) (now (bn .entry)))))
+        (now (out .entry)) (now (out .exit)) r ⌝ }
+{
+    let mut distance = [0u64; 4096];
+    let mut first = [0u32; 4096];
+    let mut second = [0u32; 4096];
+    list_with(
+        ax,
+        ay,
+        an,
+        bx,
+        by,
+        bn,
+        k,
+        &mut distance,
+        &mut first,
+        &mut second,
+        out,
+    )
+}
+
+// Reads both lists of a file into columns and writes their text: the position past it.
+fn list_sites(
+    file: &[u8],
+    k: u32,
+    ax: &mut [i32],
+    ay: &mut [i32],
+    an: &mut [u32],
+    bx: &mut [i32],
+    by: &mut [i32],
+    bn: &mut [u32],
+    out: &mut [u8],
+) -> usize
+    requires { ⌜ FileLists (now file) k (now out) ⌝ }
+    requires { ⌜ Sized (countIn (now file) Which.First) (columns (now ax) (now ay) (now an)) ⌝ }
+    requires { ⌜ Sized (countIn (now file) Which.Second) (columns (now bx) (now by) (now bn)) ⌝ }
+    ensures { λ r.
+        ⌜ Put 0 (listingText k (sitesIn (now (file .entry)) Which.First) (sitesIn (now (file .entry)) Which.Second))
+        (now (out .entry)) (now (out .exit)) r ⌝ }
+{
+    input::read_sites(file, Which::First, ax, ay, an);
+    input::read_sites(file, Which::Second, bx, by, bn);
+    list_columns(ax, ay, an, bx, by, bn, k, out)
+}
+
+// Writes the text for a site file of at most 48,016 bytes: the position past it.
+fn list_file(file: &[u8], k: u32, out: &mut [u8]) -> usize
+    requires { ⌜ FileLists (now file) k (now out) × (length (now file) ≤ 48016) ⌝ }
+    ensures { λ r.
+        ⌜ Put 0 (listingText k (sitesIn (now (file .entry)) Which.First) (sitesIn (now (file .entry)) Which.Second))
+        (now (out .entry)) (now (out .exit)) r ⌝ }
+{
+    let n = site_file::count_in(file, Which::First) as usize;
+    let m = site_file::count_in(file, Which::Second) as usize;
+    let mut ax = [0i32; 4000];
+    let mut ay = [0i32; 4000];
+    let mut an = [0u32; 4000];
+    let mut bx = [0i32; 4000];
+    let mut by = [0i32; 4000];
+    let mut bn = [0u32; 4000];
+    list_sites(
+        file,
+        k,
+        &mut ax[..n],
+        &mut ay[..n],
+        &mut an[..n],
+        &mut bx[..m],
+        &mut by[..m],
+        &mut bn[..m],
+        out,
+    )
+}
+
+// The case listing of an input, K and a site file: the length of its text, which stands at the start of the buffer.
+pub fn list_cases(input: &[u8], out: &mut [u8; ROOM]) -> usize
+    ensures { λ r. ⌜ r ≡ length (listing (now (input .entry))) ⌝ }
+    ensures { λ _. ⌜ now (out .exit) ≡ overwritten (listing (now (input .entry))) (now (out .entry)) ⌝ }
+{
+    let refusal = input::input_refusal(input);
+    if refusal != 0 {
+        return line::put_refused(out, 0, refusal);
+    }
+    let k = site_file::word_at(input, 0);
+    list_file(&input[4..], k, out)
+}

@@ -1,0 +1,32 @@
+-- `pairs::next_run` meets its contract.
+use mathlib.Core.Path.{_≡_}
+use borrow.Author.Needs.{needs, sfits-of}
+use mir.Facts.{toZ-ofZ}
+use Rattle.site.proofs.Machine.{at₁}
+use Rattle.pairs.specs.Run.{offset, offsetAt}
+use Rattle.pairs.proofs.Offsets.{run-next}
+use Rattle.pairs.proofs.window.next_run.Statement.{statement}
+use Rattle.pairs.proofs.window.next_run.Tie as tie
+
+learnt : (c : tie.After-offset) → c .offset .result ≡ offsetAt (c .before .before .args .a .now) (c .before .before .args .i)
+learnt c = at₁ offset (toZ-ofZ (sfits-of (c .before .offset-arg .given))) (c .offset .ensures .0)
+
+returns : tie.Need-returns
+returns c =
+    let s = c .before .before .before .before .before in
+    run-next (s .args .a .now) (s .args .b .now) (s .args .e) (s .args .i) (s .args .last) (s .pre .1) (s .pre .2)
+    (learnt (c .before .before .before)) (c .before .before .less .ensures) (c .before .skip-below .ensures) (c .skip-below2 .ensures)
+
+pub next-run-spec : {M : Type 1} → statement M
+next-run-spec =
+    tie.close
+    (tie.spec
+    (λ c. search needs)
+    (λ c. search needs)
+    (λ c κs. search needs)
+    (λ c κs. search needs)
+    (λ c κs. search needs)
+    (λ c. search needs)
+    (λ c. search needs)
+    (λ c κs. search needs)
+    returns)

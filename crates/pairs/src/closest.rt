@@ -1,0 +1,90 @@
+// The K list: the closest pairs of two lists.
+use super::Listed;
+use sweep::Way;
+ghost use mathlib.Core.Path.{_≡_};
+ghost use Rattle.site.specs.SiteList.{columns};
+ghost use Rattle.entry.specs.Results.{results};
+ghost use Rattle.pairs.specs.KList.{kListRefusal, kListResults, kListTold, listedTold};
+
+// The refusal of a K list: 1, 2 or 3 of the first list, else of the second, then 4 for K, then 6 for columns too short; 0 for none.
+fn k_list_refusal(
+    ax: &[i32],
+    ay: &[i32],
+    an: &[u32],
+    bx: &[i32],
+    by: &[i32],
+    bn: &[u32],
+    k: u32,
+    distance: &[u64],
+    first: &[u32],
+    second: &[u32],
+) -> u32
+    ensures { λ r.
+        let a = columns (now (ax .entry)) (now (ay .entry)) (now (an .entry)) in
+        let b = columns (now (bx .entry)) (now (by .entry)) (now (bn .entry)) in
+        ⌜ r ≡ kListRefusal a b k (results (now (distance .entry)) (now (first .entry)) (now (second .entry))) ⌝ }
+{
+    let refusal = site::lists_refusal(ax, ay, an, bx, by, bn);
+    if refusal != 0 {
+        return refusal;
+    }
+    if !entry::lawful_k(k) {
+        return 4;
+    }
+    if !entry::room(k as usize, distance, first, second) {
+        return 6;
+    }
+    0
+}
+
+// The first K pairs of two lists by rank, or all where there are fewer, by the sweep named. (01: K list.)
+pub fn k_list(
+    way: Way,
+    ax: &[i32],
+    ay: &[i32],
+    an: &[u32],
+    bx: &[i32],
+    by: &[i32],
+    bn: &[u32],
+    k: u32,
+    distance: &mut [u64],
+    first: &mut [u32],
+    second: &mut [u32],
+) -> Listed
+    ensures { λ r.
+        let a = columns (now (ax .entry)) (now (ay .entry)) (now (an .entry)) in
+        let b = columns (now (bx .entry)) (now (by .entry)) (now (bn .entry)) in
+        let before = results (now (distance .entry)) (now (first .entry)) (now (second .entry)) in
+        let after = results (now (distance .exit)) (now (first .exit)) (now (second .exit)) in
+        ⌜ (listedTold r ≡ kListTold way a b k before) × (after ≡ kListResults a b k before) ⌝ }
+{
+    let refusal = k_list_refusal(ax, ay, an, bx, by, bn, k, distance, first, second);
+    if refusal != 0 {
+        return Listed::Refused(refusal);
+    }
+    let n = ax.len();
+    let m = bx.len();
+    let swept = sweep::run(
+        way,
+        ax,
+        ay,
+        bx,
+        by,
+        0,
+        n,
+        0,
+        m,
+        k as usize,
+        0,
+        distance,
+        first,
+        second,
+    );
+    let looks = swept.looks;
+    let distances = swept.distances;
+    Listed::Entries {
+        count: swept.entries,
+        looks,
+        distances,
+    }
+}

@@ -1,0 +1,191 @@
+// The distance list: all pairs of two lists within a limit, counted and then written.
+use super::Run;
+use super::Within;
+use super::window;
+ghost use mathlib.Core.Path.{_≡_};
+ghost use mathlib.Core.Bool.{true};
+ghost use Prim.Native.Nat.{_*_, _<_};
+ghost use lib.IntN.{pos};
+ghost use lib.ListN.{length, getD};
+ghost use Rattle.site.specs.Site.{within};
+ghost use Rattle.site.specs.SiteList.{columns, site};
+ghost use Rattle.sweep.specs.Runs.{spotOf};
+ghost use Rattle.pairs.specs.DistanceList.{distanceRefusal, distanceFirst, distanceSecond, distanceTold, withinTold};
+ghost use Rattle.pairs.specs.Run.{InOrder, near, nearSites, rowPairs, nearPairs, Reference, Room, Written};
+
+// Whether a site is near a position: its squared distance is at most `e` squared. A difference of y beyond `e` decides alone.
+fn is_near(x: i32, y: i32, bx: &[i32], by: &[i32], j: usize, e: u32) -> bool
+    requires { ⌜
+        (within x ≡ true) × (within y ≡ true) × (j < length (now bx)) × (j < length (now by))
+        × (within (getD (now bx) j (pos 0)) ≡ true) × (within (getD (now by) j (pos 0)) ≡ true)
+        ⌝ }
+    ensures { λ r. ⌜ r ≡ near (e * e) x y (site (getD (now (bx .entry)) j (pos 0)) (getD (now (by .entry)) j (pos 0)) 0) ⌝ }
+{
+    let reach = e as u64;
+    let above = std::num::wrapping_sub_u64(window::offset(by[j]) + reach, window::offset(y));
+    if 2 * reach < above {
+        return false;
+    }
+    site::squared_distance(x, y, bx[j], by[j]) <= reach * reach
+}
+
+// How many sites of a run are near a position.
+fn count_row(x: i32, y: i32, bx: &[i32], by: &[i32], run: Run, e: u32) -> u64
+    requires { ⌜ Reference x y (now bx) (now by) run ⌝ }
+    ensures { λ r. ⌜ r ≡ length (nearSites (e * e) x y (now (bx .entry)) (now (by .entry)) (run .left) (run .right)) ⌝ }
+{
+    let mut count: u64 = 0;
+    let mut j = run.left;
+    let end = run.right;
+    while j < end {
+        if is_near(x, y, bx, by, j, e) {
+            count += 1;
+        }
+        j += 1;
+    }
+    count
+}
+
+// How many pairs of two lawful lists are within `e`.
+fn count_all(ax: &[i32], ay: &[i32], bx: &[i32], by: &[i32], e: u32) -> u64
+    requires { ⌜ (InOrder (now ax) (now ay)) × (InOrder (now bx) (now by)) ⌝ }
+    ensures { λ r. ⌜ r ≡ length (nearPairs e (now (ax .entry)) (now (ay .entry)) (now (bx .entry)) (now (by .entry)) 0) ⌝ }
+{
+    let mut count: u64 = 0;
+    let mut run = Run { left: 0, right: 0 };
+    let mut i = 0;
+    while i < ax.len() {
+        run = window::next_run(ax, bx, i, run, e);
+        count += count_row(ax[i], ay[i], bx, by, run, e);
+        i += 1;
+    }
+    count
+}
+
+// Writes a pair for each site of a run that is near a position, from place `n` of the columns on: the place past them.
+fn write_row(
+    x: i32,
+    y: i32,
+    place: u32,
+    bx: &[i32],
+    by: &[i32],
+    run: Run,
+    e: u32,
+    n: usize,
+    first: &mut [u32],
+    second: &mut [u32],
+) -> usize
+    requires { ⌜
+        (Reference x y (now bx) (now by) run)
+        × (Room (rowPairs e (spotOf x y place) (now bx) (now by) (run .left) (run .right)) n (now first) (now second))
+        ⌝ }
+    ensures { λ r. ⌜
+        Written (rowPairs e (spotOf x y place) (now (bx .entry)) (now (by .entry)) (run .left) (run .right))
+        n (now (first .entry)) (now (second .entry)) (now (first .exit)) (now (second .exit)) r
+        ⌝ }
+{
+    let mut at = n;
+    let mut j = run.left;
+    let end = run.right;
+    while j < end {
+        if is_near(x, y, bx, by, j, e) {
+            first[at] = place;
+            second[at] = j as u32;
+            at += 1;
+        }
+        j += 1;
+    }
+    at
+}
+
+// Writes the places of all pairs within `e` of two lawful lists into the columns, which have room for them: how many.
+fn write_all(
+    ax: &[i32],
+    ay: &[i32],
+    bx: &[i32],
+    by: &[i32],
+    e: u32,
+    first: &mut [u32],
+    second: &mut [u32],
+) -> usize
+    requires { ⌜
+        (InOrder (now ax) (now ay))
+        × (InOrder (now bx) (now by))
+        × (Room (nearPairs e (now ax) (now ay) (now bx) (now by) 0) 0 (now first) (now second))
+        ⌝ }
+    ensures { λ r. ⌜
+        Written (nearPairs e (now (ax .entry)) (now (ay .entry)) (now (bx .entry)) (now (by .entry)) 0)
+        0 (now (first .entry)) (now (second .entry)) (now (first .exit)) (now (second .exit)) r
+        ⌝ }
+{
+    let mut n: usize = 0;
+    let mut run = Run { left: 0, right: 0 };
+    let mut i = 0;
+    while i < ax.len() {
+        run = window::next_run(ax, bx, i, run, e);
+        n = write_row(ax[i], ay[i], i as u32, bx, by, run, e, n, first, second);
+        i += 1;
+    }
+    n
+}
+
+// The refusal of a distance list: 1, 2 or 3 of the first list, else of the second, then 6 for columns too short; 0 for none.
+fn distance_refusal(
+    ax: &[i32],
+    ay: &[i32],
+    an: &[u32],
+    bx: &[i32],
+    by: &[i32],
+    bn: &[u32],
+    e: u32,
+    first: &[u32],
+    second: &[u32],
+) -> u32
+    ensures { λ r.
+        let a = columns (now (ax .entry)) (now (ay .entry)) (now (an .entry)) in
+        let b = columns (now (bx .entry)) (now (by .entry)) (now (bn .entry)) in
+        ⌜ r ≡ distanceRefusal a b e (now (first .entry)) (now (second .entry)) ⌝ }
+{
+    let refusal = site::lists_refusal(ax, ay, an, bx, by, bn);
+    if refusal != 0 {
+        return refusal;
+    }
+    let count = count_all(ax, ay, bx, by, e);
+    if (first.len() as u64) < count {
+        return 6;
+    }
+    if (second.len() as u64) < count {
+        return 6;
+    }
+    0
+}
+
+// All pairs of two lists with squared distance at most `e` squared, by first place and then second. (01: distance list.)
+pub fn distance_list(
+    ax: &[i32],
+    ay: &[i32],
+    an: &[u32],
+    bx: &[i32],
+    by: &[i32],
+    bn: &[u32],
+    e: u32,
+    first: &mut [u32],
+    second: &mut [u32],
+) -> Within
+    ensures { λ r.
+        let a = columns (now (ax .entry)) (now (ay .entry)) (now (an .entry)) in
+        let b = columns (now (bx .entry)) (now (by .entry)) (now (bn .entry)) in
+        let f = now (first .entry) in
+        let s = now (second .entry) in
+        ⌜
+        (withinTold r ≡ distanceTold a b e f s)
+        × ((now (first .exit) ≡ distanceFirst a b e f s) × (now (second .exit) ≡ distanceSecond a b e f s))
+        ⌝ }
+{
+    let refusal = distance_refusal(ax, ay, an, bx, by, bn, e, first, second);
+    if refusal != 0 {
+        return Within::Refused(refusal);
+    }
+    let count = write_all(ax, ay, bx, by, e, first, second);
+    Within::Pairs(count as u64)
+}

@@ -1,0 +1,82 @@
+-- `site::place_of` meets its contract. The invariant: those counted, and those in what is left, are all that come before.
+use mathlib.Core.Path.{_≡_, ap}
+use Prim.Native.Nat.{ℕ, _+_, _-_, _≤_, _<_}
+use native.Mathlib.Omega.{arith}
+use borrow.Author.Needs.{needs}
+use lib.IntN.{ℤ, pos}
+use lib.ListN.{length, drop}
+use mir.Syntax.{w32}
+use mir.Val.{toZ, ofZ}
+use mir.Facts.{toZ-ofZ}
+use Rattle.site.specs.declared.Site.{Site}
+use Rattle.site.specs.Site.{siteBefore}
+use Rattle.site.specs.SiteList.{Columns, columns, site, sites, siteAt}
+use Rattle.site.specs.Addition.{placeOf}
+use Rattle.site.proofs.Machine.{at₂}
+use Rattle.site.proofs.Columns.{sites-length}
+use Rattle.site.proofs.Kept.{kept-le, place-step, place-end}
+use Rattle.site.proofs.adding.place_of.Statement.{statement}
+use Rattle.site.proofs.adding.place_of.Tie as tie
+
+abbrev Inv-loop : tie.InvT-loop
+Inv-loop x y number sx sy sn place₀ i₀ place i =
+    (i ≤ length x) × (place ≤ i) × (place + placeOf (site (toZ w32 sx) (toZ w32 sy) sn) (drop i (sites (columns x y number))) ≡ placeOf (site (toZ w32 sx) (toZ w32 sy) sn) (sites (columns x y number)))
+
+abbrev μ-loop : tie.MeasureT-loop
+μ-loop x y number sx sy sn place₀ i₀ place i = length x - i
+
+abbrev lent : tie.Start Inv-loop μ-loop → Columns
+lent c = columns (c .args .x .now) (c .args .y .now) (c .args .number .now)
+
+-- The site as it is handed on.
+abbrev handed : tie.Start Inv-loop μ-loop → Site
+handed c = site (toZ w32 (ofZ w32 (c .args .sx))) (toZ w32 (ofZ w32 (c .args .sy))) (c .args .sn)
+
+abbrev entry : tie.After-earlier-at Inv-loop μ-loop → tie.Start Inv-loop μ-loop
+entry c = c .before .before .before .before
+
+earlier-at-requires : tie.Need-earlier-at-requires Inv-loop μ-loop
+earlier-at-requires c κs = (c .before .before .before .pre .0, c .loop-test .taken)
+
+small : (c : tie.After-earlier-at Inv-loop μ-loop) → c .earlier-at .result ≤ 1
+small c =
+    kept-le (siteBefore (siteAt (sites (lent (entry c))) (c .before .before .loop .i)) (handed (entry c))) (c .earlier-at .ensures)
+
+learnt : (c : tie.After-earlier-at Inv-loop μ-loop) → c .earlier-at .result + placeOf (handed (entry c)) (drop (c .before .before .loop .i + 1) (sites (lent (entry c)))) ≡ placeOf (handed (entry c)) (drop (c .before .before .loop .i) (sites (lent (entry c))))
+unfolding siteAt
+learnt c =
+    let l = lent (entry c) in
+    let level = entry c .pre .0 in
+    let i = c .before .before .loop .i in
+    let k : i < length (sites l) = omega (arith, c .before .loop-test .taken, sites-length l level) in
+    rw (place-step (handed (entry c)) (sites l) i (site (pos 0) (pos 0) 0) k) (ap (λ (n : ℕ). n + placeOf (handed (entry c)) (drop (i + 1) (sites l))) (c .earlier-at .ensures))
+
+add-place : tie.Need-add-place Inv-loop μ-loop
+add-place c = omega (arith, small c, c .before .before .loop .inv, c .before .loop-test .taken, entry c .pre .1)
+
+loop-again : tie.Need-loop-again Inv-loop μ-loop
+loop-again c = omega (arith, small c, learnt c, c .before .before .loop .inv, c .before .loop-test .taken)
+
+returns : tie.Need-returns Inv-loop μ-loop
+returns c =
+    let e = c .before .before .before in
+    let l = lent e in
+    let i = c .before .loop .i in
+    let h = c .loop-test .left in
+    let k : length (sites l) ≤ i = omega (arith, sites-length l (e .pre .0)) in
+    let q : c .before .loop .place ≡ placeOf (handed e) (sites l) = omega (arith, place-end (handed e) (sites l) i k) in
+    at₂ (λ (x y : ℤ). placeOf (site x y (e .args .sn)) (sites l)) (toZ-ofZ (e .fits .sx)) (toZ-ofZ (e .fits .sy)) q
+
+pub place-of-spec : {M : Type 1} → statement M
+place-of-spec =
+    tie.close
+    (tie.spec
+    Inv-loop
+    μ-loop
+    (λ c. omega arith)
+    earlier-at-requires
+    add-place
+    (λ c. search needs)
+    (λ c. search needs)
+    loop-again
+    returns)

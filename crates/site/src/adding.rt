@@ -1,0 +1,145 @@
+// Adding a site to the sites in use.
+use super::Added;
+use super::Site;
+use super::lists;
+ghost use mathlib.Core.Path.{_≡_};
+ghost use mathlib.Core.Bool.{cond, _||_};
+ghost use Prim.Native.Nat.{_≤_, _<_};
+ghost use lib.ListN.{length};
+ghost use Rattle.column.specs.Column.{inserted};
+ghost use Rattle.site.specs.Site.{siteBefore};
+ghost use Rattle.site.specs.SiteList.{site, columns, Level, sites, siteAt};
+ghost use Rattle.site.specs.Addition.{placeOf, present, addRefusal, addedColumns, addTold, addedTold};
+
+// 1 where the site at `i` comes before another, else 0.
+fn earlier_at(x: &[i32], y: &[i32], number: &[u32], i: usize, sx: i32, sy: i32, sn: u32) -> u32
+    requires { ⌜ (Level (columns (now x) (now y) (now number))) × (i < length (now x)) ⌝ }
+    ensures { λ r.
+        let l = sites (columns (now (x .entry)) (now (y .entry)) (now (number .entry))) in
+        ⌜ r ≡ cond (siteBefore (siteAt l i) (site sx sy sn)) 1 0 ⌝ }
+{
+    if lists::before(x[i], y[i], number[i], sx, sy, sn) {
+        1
+    } else {
+        0
+    }
+}
+
+// 0 where one site comes before or after another, else 1.
+fn same(ax: i32, ay: i32, an: u32, bx: i32, by: i32, bn: u32) -> u32
+    ensures { λ r. ⌜ r ≡ cond (siteBefore (site ax ay an) (site bx by bn) || siteBefore (site bx by bn) (site ax ay an)) 0 1 ⌝ }
+{
+    if lists::before(ax, ay, an, bx, by, bn) {
+        return 0;
+    }
+    if lists::before(bx, by, bn, ax, ay, an) {
+        0
+    } else {
+        1
+    }
+}
+
+// The same of the site at `i` and another.
+fn same_at(x: &[i32], y: &[i32], number: &[u32], i: usize, sx: i32, sy: i32, sn: u32) -> u32
+    requires { ⌜ (Level (columns (now x) (now y) (now number))) × (i < length (now x)) ⌝ }
+    ensures { λ r.
+        let t = siteAt (sites (columns (now (x .entry)) (now (y .entry)) (now (number .entry)))) i in
+        ⌜ r ≡ cond (siteBefore t (site sx sy sn) || siteBefore (site sx sy sn) t) 0 1 ⌝ }
+{
+    same(x[i], y[i], number[i], sx, sy, sn)
+}
+
+// The place of a site in a list: how many of its sites come before it.
+fn place_of(x: &[i32], y: &[i32], number: &[u32], sx: i32, sy: i32, sn: u32) -> u32
+    requires { ⌜ (Level (columns (now x) (now y) (now number))) × (length (now x) ≤ 65_535) ⌝ }
+    ensures { λ r. ⌜ r ≡ placeOf (site sx sy sn) (sites (columns (now (x .entry)) (now (y .entry)) (now (number .entry)))) ⌝ }
+{
+    let mut place: u32 = 0;
+    let mut i = 0;
+    while i < x.len() {
+        place += earlier_at(x, y, number, i, sx, sy, sn);
+        i += 1;
+    }
+    place
+}
+
+// Whether a site stands in a list.
+fn is_present(x: &[i32], y: &[i32], number: &[u32], sx: i32, sy: i32, sn: u32) -> bool
+    requires { ⌜ (Level (columns (now x) (now y) (now number))) × (length (now x) ≤ 65_535) ⌝ }
+    ensures { λ r. ⌜ r ≡ present (site sx sy sn) (sites (columns (now (x .entry)) (now (y .entry)) (now (number .entry)))) ⌝ }
+{
+    let mut same: u32 = 0;
+    let mut i = 0;
+    while i < x.len() {
+        same += same_at(x, y, number, i, sx, sy, sn);
+        i += 1;
+    }
+    same != 0
+}
+
+// The refusal of an addition, 1, 2, 3, 6 or 11; 0 for none.
+fn add_refusal(x: &[i32], y: &[i32], number: &[u32], count: u32, sx: i32, sy: i32, sn: u32) -> u32
+    ensures { λ r. ⌜ r ≡ addRefusal (columns (now (x .entry)) (now (y .entry)) (now (number .entry))) count (site sx sy sn) ⌝ }
+{
+    if x.len() != y.len() {
+        return 1;
+    }
+    if x.len() != number.len() {
+        return 1;
+    }
+    if 65_535 < count {
+        return 1;
+    }
+    let n = count as usize;
+    if x.len() < n {
+        return 1;
+    }
+    let refusal = lists::list_refusal(&x[..n], &y[..n], &number[..n]);
+    if refusal != 0 {
+        return refusal;
+    }
+    if !Site::within(sx) {
+        return 2;
+    }
+    if !Site::within(sy) {
+        return 2;
+    }
+    if x.len() <= n {
+        return 6;
+    }
+    if 65_535 <= count {
+        return 6;
+    }
+    if is_present(&x[..n], &y[..n], &number[..n], sx, sy, sn) {
+        return 11;
+    }
+    0
+}
+
+// A site at a place of the three columns, the rest of the first `n` moved up by one.
+fn insert_site(x: &mut [i32], y: &mut [i32], number: &mut [u32], place: usize, n: usize, s: Site)
+    requires { ⌜ (place ≤ n) × (n < length (now x)) × (n < length (now y)) × (n < length (now number)) ⌝ }
+    ensures { λ _. ⌜ columns (now (x .exit)) (now (y .exit)) (now (number .exit)) ≡ columns (inserted place n (s .x) (now (x .entry))) (inserted place n (s .y) (now (y .entry))) (inserted place n (s .number) (now (number .entry))) ⌝ }
+{
+    column::insert_i32(x, place, n, s.x);
+    column::insert_i32(y, place, n, s.y);
+    column::insert_u32(number, place, n, s.number);
+}
+
+// A site at its place, later ones moved up by one. (01: adding a site.)
+pub fn add(x: &mut [i32], y: &mut [i32], number: &mut [u32], count: u32, s: Site) -> Added
+    ensures { λ r. ⌜ addedTold r ≡ addTold (columns (now (x .entry)) (now (y .entry)) (now (number .entry))) count s ⌝ }
+    ensures { λ _. ⌜ columns (now (x .exit)) (now (y .exit)) (now (number .exit)) ≡ addedColumns (columns (now (x .entry)) (now (y .entry)) (now (number .entry))) count s ⌝ }
+{
+    let refusal = add_refusal(x, y, number, count, s.x, s.y, s.number);
+    if refusal != 0 {
+        return Added::Refused(refusal);
+    }
+    let n = count as usize;
+    let place = place_of(&x[..n], &y[..n], &number[..n], s.x, s.y, s.number);
+    insert_site(x, y, number, place as usize, n, s);
+    Added::At {
+        place,
+        count: count + 1,
+    }
+}

@@ -1,0 +1,60 @@
+-- `site_file::put_sites` meets its contract: what is left to store, stored after what was, is the whole body.
+use mathlib.Core.Path.{_≡_, refl, _∙_}
+use Prim.Native.Nat.{_+_, _-_, _*_, _≤_}
+use native.Mathlib.Omega.{arith}
+use borrow.Author.Needs.{needs}
+use lib.ListN.{length, drop}
+use Rattle.site.specs.SiteList.{columns, sites}
+use Rattle.column.specs.Column.{stored}
+use Rattle.site_file.specs.File.{bodyBytes}
+use Rattle.site_file.proofs.File.{sites-step, sites-end}
+use Rattle.site_file.proofs.writing.put_sites.Statement.{statement}
+use Rattle.site_file.proofs.writing.put_sites.Tie as tie
+
+abbrev Inv-loop : tie.InvT-loop
+Inv-loop buffer₀ start x y number at₀ i₀ buffer at i =
+    (at ≡ start + 12 * i)
+    × (i ≤ length x)
+    × (length buffer ≡ length buffer₀)
+    × (stored at (bodyBytes (drop i (sites (columns x y number)))) buffer
+    ≡ stored start (bodyBytes (sites (columns x y number))) buffer₀)
+
+abbrev μ-loop : tie.MeasureT-loop
+μ-loop buffer₀ start x y number at₀ i₀ buffer at i = length x - i
+
+loop-holds : tie.Need-loop-holds Inv-loop μ-loop
+loop-holds c =
+    (search needs, search needs, refl, refl)
+
+loop-again : tie.Need-loop-again Inv-loop μ-loop
+loop-again c = (
+  search needs,
+  search needs,
+  c .before .before .put-site .kept .0 ∙ c .before .before .before .before .before .before .before .before .loop .inv .2,
+  sites-step _ (c .before .before .before .before .before .before .before .before .before .before .before .pre .1) _ _ _ (omega arith) (c .before .before .before .before .before .before .before .loop-test .taken) (record { sfits = c .before .before .before .before .before .put-site-arg2 .given }) (record { sfits = c .before .before .before .before .put-site-arg3 .given }) (c .before .before .put-site .ensures) ∙ c .before .before .before .before .before .before .before .before .loop .inv .3,
+)
+
+returns : tie.Need-returns Inv-loop μ-loop
+returns c =
+    sites-end _ (c .before .before .before .before .pre .1) _ _ _ (c .loop-test .left) ∙ c .before .loop .inv .3
+
+pub put-sites-spec : {M : Type 1} → statement M
+put-sites-spec =
+    tie.close
+    (tie.spec
+    Inv-loop
+    μ-loop
+    loop-holds
+    (λ c. search needs)
+    (λ c. search needs)
+    (λ c. search needs)
+    (λ c. search needs)
+    (λ c. search needs)
+    (λ c. search needs)
+    (λ c κs. search needs)
+    (λ c. search needs)
+    (λ c. search needs)
+    (λ c. search needs)
+    loop-again
+    (λ c. search needs)
+    returns)

@@ -1,0 +1,47 @@
+-- The coordinates of the reference and of a place of the columns, and the squared distance that the callee gives.
+use mir.Syntax.{w32}
+use mir.Val.{SFits}
+use mir.Facts.{toZ-ofZ}
+use lib.IntN.{ℤ}
+use Rattle.site.specs.Site.{squaredDistance}
+use Rattle.site.specs.SiteList.{site}
+use Rattle.site.proofs.Machine.{at₄}
+use Rattle.site.proofs.Accepted.{coordinate-x, coordinate-y}
+use borrow.Author.Needs.{needs, sfits-of}
+use Rattle.sweep.proofs.look.squared_distance_at.Statement.{statement}
+use Rattle.sweep.proofs.look.squared_distance_at.Tie as tie
+
+fits-x : (c : tie.After-struct-told) → SFits w32 (c .before .before .before .args .reference .x)
+fits-x c = sfits-of (search needs)
+
+fits-y : (c : tie.After-struct-told2) → SFits w32 (c .before .before .before .before .args .reference .y)
+fits-y c = sfits-of (search needs)
+
+squared-distance-requires : tie.Need-squared-distance-requires
+squared-distance-requires c κs =
+    let v = c .before .before in
+    let s = v .before .before in
+    let p = s .pre in (
+      rw (toZ-ofZ (fits-x (c .before))) (p .0),
+      rw (toZ-ofZ (fits-y c)) (p .1),
+      rw (toZ-ofZ (sfits-of (v .before .squared-distance-arg .given))) (coordinate-x (p .2) _ (p .3)),
+      rw (toZ-ofZ (sfits-of (v .squared-distance-arg2 .given))) (coordinate-y (p .2) _ (p .3)),
+    )
+
+returns : tie.Need-returns
+returns c =
+    let t = c .before in
+    let v = t .before .before in
+    at₄ (λ (x y u v : ℤ). squaredDistance (site x y 0) (site u v 0)) (toZ-ofZ (fits-x (t .before))) (toZ-ofZ (fits-y t))
+    (toZ-ofZ (sfits-of (v .before .squared-distance-arg .given))) (toZ-ofZ (sfits-of (v .squared-distance-arg2 .given))) (c .squared-distance .ensures)
+
+pub squared-distance-at-spec : {M : Type 1} → statement M
+squared-distance-at-spec =
+    tie.close
+    (tie.spec
+    (λ c. search needs)
+    (λ c. search needs)
+    (λ c. search needs)
+    (λ c. search needs)
+    squared-distance-requires
+    returns)

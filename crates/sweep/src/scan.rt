@@ -1,0 +1,84 @@
+// One reference against sites of the other list, to the right or to the left.
+use super::Reference;
+use super::Tally;
+use super::look;
+ghost use mathlib.Core.Path.{_≡_};
+ghost use mathlib.Core.List.{map};
+ghost use Prim.Native.Nat.{_+_, _-_};
+ghost use Rattle.entry.specs.Entry.{entry};
+ghost use Rattle.entry.specs.Results.{results};
+ghost use Rattle.sweep.specs.Scan.{scan};
+ghost use Rattle.sweep.specs.Runs.{rightward, leftward, lookFrom, stateOf};
+ghost use Rattle.sweep.specs.Terms.{ScanAsked, Tallied};
+
+// A reference against the sites of a range of the other list, to the right, until a look stops it.
+pub(super) fn scan_right(
+    reference: Reference,
+    xs: &[i32],
+    ys: &[i32],
+    from: usize,
+    to: usize,
+    k: usize,
+    old: Tally,
+    distance: &mut [u64],
+    first: &mut [u32],
+    second: &mut [u32],
+) -> Tally
+    requires { ⌜ ScanAsked reference (now xs) (now ys) from to k old (results (now distance) (now first) (now second)) ⌝ }
+    ensures { λ r.
+        let before = results (now (distance .entry)) (now (first .entry)) (now (second .entry)) in
+        let after = results (now (distance .exit)) (now (first .exit)) (now (second .exit)) in
+        let run = rightward (now (xs .entry)) (now (ys .entry)) from (to - from) in
+        ⌜ Tallied k before (old .count) (scan k (map (lookFrom reference) run) (stateOf old before) .state) after r ⌝ }
+{
+    let mut at = from;
+    let mut tally = old;
+    while at < to {
+        let l = look::look(reference, xs, ys, at, k, tally, distance, first, second);
+        tally = l.tally;
+        if l.stopped {
+            break;
+        }
+        at += 1;
+    }
+    tally
+}
+
+// A reference against the other list's sites already taken, latest first, down to the left limit. The place where the scan ends
+// is the new left limit: it stops at the site in front of that place, which is never looked at again.
+pub(super) fn scan_left(
+    reference: Reference,
+    xs: &[i32],
+    ys: &[i32],
+    limit: usize,
+    taken: usize,
+    k: usize,
+    old: Tally,
+    distance: &mut [u64],
+    first: &mut [u32],
+    second: &mut [u32],
+) -> Tally
+    requires { ⌜ ScanAsked reference (now xs) (now ys) limit taken k old (results (now distance) (now first) (now second)) ⌝ }
+    ensures { λ r.
+        let before = results (now (distance .entry)) (now (first .entry)) (now (second .entry)) in
+        let after = results (now (distance .exit)) (now (first .exit)) (now (second .exit)) in
+        let run = leftward (now (xs .entry)) (now (ys .entry)) limit (taken - limit) in
+        let scanned = scan k (map (lookFrom reference) run) (stateOf old before) in
+        ⌜ Tallied k before (old .count) (scanned .state) after r × (r .at + scanned .passed ≡ taken) ⌝ }
+{
+    let mut at = taken;
+    let mut tally = old;
+    let stop = loop {
+        if at == limit {
+            break at;
+        }
+        let l = look::look(reference, xs, ys, at - 1, k, tally, distance, first, second);
+        tally = l.tally;
+        if l.stopped {
+            break at;
+        }
+        at -= 1;
+    };
+    tally.at = stop;
+    tally
+}
