@@ -10,7 +10,7 @@ use lib.Seq.{take-add, drop-drop, take-all}
 use borrow.Author.Tests.{ltb-true, leb-true, eqb-true, le-leb, lt-leb}
 use Rattle.order.specs.Order.{ascending}
 use Rattle.order.specs.Lists.{keep, last, All}
-use Rattle.order.specs.Sorted.{Ascends}
+use Rattle.order.specs.Terms.{Ascends}
 use Rattle.order.proofs.Order.{ltb-order}
 use Rattle.order.proofs.Lists.{all-at, all-weaken, keep-yes, keep-none}
 use Rattle.order.proofs.Sorted.{ascending-ascends}

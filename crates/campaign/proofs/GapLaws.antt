@@ -8,7 +8,7 @@ use native.Mathlib.Omega.{arith}
 use lib.IntN.{ℤ}
 use lib.Signed.{ltZ, leZ}
 use Rattle.order.specs.Lists.{All, last}
-use Rattle.order.specs.Sorted.{Sorted}
+use Rattle.order.specs.Terms.{Sorted}
 use Rattle.order.proofs.Order.{byTest}
 use Rattle.order.proofs.Lists.{all-weaken}
 use Rattle.site.specs.Site.{gap}

@@ -1,17 +1,16 @@
 -- Laws of the jobs of a grid and of their pairs.
 use mathlib.Core.Path.{_≡_, refl, sym, ap, ap₂, _∙_}
 use mathlib.Core.Bool.{Bool, true, not}
-use mathlib.Core.List.{List, [], _∷_, _++_, append-nil, List·Memᴰ, List·Memᴰ·head, List·Memᴰ·tail}
-use mathlib.Core.List.{List·Permᴰ, List·Permᴰ·trans, Permᴰ·symm}
+use mathlib.Core.List.{List, [], _∷_, _++_, append-nil, List·Memᴰ, List·Memᴰ·head, List·Memᴰ·tail, List·Permᴰ, List·Permᴰ·trans, Permᴰ·symm}
 use Prim.Native.Nat.{ℕ, zero, suc, _+_, _-_, _*_, _≤_, _<_}
 use native.Mathlib.Omega.{arith}
 use lib.Dec.{ltb}
 use lib.IntN.{pos}
 use lib.ListN.{length}
 use borrow.Author.Tests.{lt-ltb}
-use Rattle.order.specs.Order.{StrictOrder, on, lex}
+use Rattle.order.specs.Order.{on, lex}
+use Rattle.order.specs.Terms.{StrictOrder, Ascends}
 use Rattle.order.specs.Lists.{keep, All, Distinct}
-use Rattle.order.specs.Sorted.{Ascends}
 use Rattle.order.proofs.Order.{by-number, lex-order, strict, lex-less, lex-next, irrefl, ltb-order}
 use Rattle.order.proofs.Lists.{all-mem, all-weaken, keep-mem, mem-keep, perm-distinct, distinct-left, distinct-keep}
 use Rattle.order.proofs.Sorted.{ascends-distinct}
@@ -22,8 +21,7 @@ use Rattle.entry.specs.declared.Entry.{Entry}
 use Rattle.sweep.specs.Strip.{pair, product, pairs, allPairs}
 use Rattle.sweep.proofs.ProductLaws.{perm-eq, mem-product, product-mem, length-product, product-ascends}
 use Rattle.sweep.proofs.PlaceLaws.{mem-pairs, mem-strip-pairs, whole-pairs-distinct}
-use Rattle.campaign.specs.Grid.{stripFrom, stripTo, stripAt, stripHolding, Job, jobOf, countFrom, jobs, jobPairs}
-use Rattle.campaign.specs.Grid.{jobsPairs}
+use Rattle.campaign.specs.Grid.{stripFrom, stripTo, stripAt, stripHolding, Job, jobOf, countFrom, jobs, jobPairs, jobsPairs}
 use Rattle.campaign.proofs.Gathered.{gathered, gathered-append, gathered-perm, gathered-mem, product-gathered, keep-split, members-perm}
 use Rattle.campaign.proofs.CutLaws.{Cut, strips-whole, length-strip, strip-holds}
 

@@ -8,18 +8,18 @@ use lib.Dec.{ltb}
 use lib.ListN.{length, getD, take}
 use lib.Seq.{take-all}
 use borrow.Author.Tests.{lt-ltb, le-ltb, ltb-true, eq-eqb, ne-eqb}
-use Rattle.order.specs.Sorted.{Sorted}
+use Rattle.order.specs.Terms.{Sorted}
 use Rattle.order.proofs.Sorted.{best-sorted}
 use Rattle.site.specs.declared.Site.{Site}
-use Rattle.site.specs.Told.{orElse}
-use Rattle.site.specs.SiteList.{Columns, Level, Coordinates, sites}
+use Rattle.site.specs.Answer.{orElse}
+use Rattle.site.specs.SiteList.{Columns, sites}
+use Rattle.site.specs.Terms.{Level, Coordinates}
 use Rattle.site.proofs.Cases.{and-first, and-second}
-use Rattle.site.proofs.Told.{told, told-refused, unless-kept, unless-done, first-refused, next-decides, orElse-first}
-use Rattle.site.proofs.Told.{orElse-second, fault-none}
+use Rattle.site.proofs.Answer.{answer-values, answer-refused, unless-kept, unless-done, first-refused, next-decides, orElse-first, orElse-second, fault-none}
 use Rattle.entry.specs.declared.Entry.{Entry}
 use Rattle.entry.specs.Entry.{bestK}
 use Rattle.entry.specs.Results.{Results, entriesOf, holding, roomFor}
-use Rattle.entry.specs.Offered.{Ready}
+use Rattle.entry.specs.Terms.{Ready}
 use Rattle.entry.proofs.Rank.{rank-order}
 use Rattle.entry.proofs.Columns.{room-lengths, length-entries, last-distance-column, holding-self}
 use Rattle.sweep.specs.declared.Way.{Way}
@@ -37,9 +37,8 @@ use Rattle.campaign.specs.declared.JobDone.{JobDone}
 use Rattle.campaign.specs.declared.Strip.{Strip}
 use Rattle.campaign.specs.Grid.{stripAt, jobOf, settled, jobPairs, squaredStripGap}
 use Rattle.campaign.specs.Keeper.{firstEnds, secondEnds, campaignRefusal}
-use Rattle.campaign.specs.Calls.{jobRefusal, skips, jobEntries, afterJob, jobValues, jobTold, jobCampaign, jobResults, jobDoneTold}
-use Rattle.campaign.specs.Tally.{StripOf}
-use Rattle.campaign.specs.Kept.{JobAsked}
+use Rattle.campaign.specs.Calls.{jobRefusal, skips, jobEntries, afterJob, jobValues, jobAnswer, jobCampaign, jobResults, jobDoneAnswer}
+use Rattle.campaign.specs.Internal.{StripOf, JobAsked}
 use Rattle.site.proofs.Accepted.{accepted-level, accepted-order, accepted-coordinates}
 use Rattle.campaign.proofs.PlanTests.{asked-parts, first-strip, second-strip}
 use Rattle.campaign.proofs.SoundLaws.{Kept, kept, kept-sorted, kept-ready, kept-length}
@@ -157,11 +156,11 @@ module _ (way : Way) (c : Campaign) (a b : Columns) (r : Results) (s t : ℕ) wh
   -- A job as its answer and the result columns tell it.
   abbrev pub Told-job : JobDone → Results → Type 0
   Told-job d r' =
-      (jobDoneTold d ≡ jobTold way c a b r (jobOf s t)) × ((d .campaign ≡ jobCampaign c a b r (jobOf s t)) × (r' ≡ jobResults c a b r (jobOf s t)))
+      (jobDoneAnswer d ≡ jobAnswer way c a b r (jobOf s t)) × ((d .campaign ≡ jobCampaign c a b r (jobOf s t)) × (r' ≡ jobResults c a b r (jobOf s t)))
 
   pub job-refused : {q : ℕ} → q ≡ jobRefusal c a b r (jobOf s t) → (q ≡ 0 → ⊥) → Told-job (record { campaign = c; outcome = outcome.Refused q }) r
-  unfolding jobDoneTold jobTold jobCampaign jobResults
-  job-refused is h = (told-refused _ is h, (unless-kept c _ is h, unless-kept r _ is h))
+  unfolding jobDoneAnswer jobAnswer jobCampaign jobResults
+  job-refused is h = (answer-refused _ is h, (unless-kept c _ is h, unless-kept r _ is h))
 
   module _ (ok : jobRefusal c a b r (jobOf s t) ≡ 0) where
     entries : List Entry
@@ -205,7 +204,7 @@ module _ (way : Way) (c : Campaign) (a b : Columns) (r : Results) (s t : ℕ) wh
 
     pub job-skipped : skips c (sites a) (sites b) (entriesOf (c .entries) r) (jobOf s t) ≡ true → {c' : Campaign} → c' ≡ afterJob c (c .entries) (jobOf s t)
         → Told-job (record { campaign = c'; outcome = outcome.Skipped }) r
-    unfolding jobDoneTold jobTold jobCampaign jobResults jobValues entries
+    unfolding jobDoneAnswer jobAnswer jobCampaign jobResults jobValues entries
     job-skipped h {c'} e =
         let w = job-kept c a b r s t ok in
         let same : jobEntries c (sites a) (sites b) (entriesOf (c .entries) r) (jobOf s t) ≡ entriesOf (c .entries) r = skipped-entries h in
@@ -213,7 +212,7 @@ module _ (way : Way) (c : Campaign) (a b : Columns) (r : Results) (s t : ℕ) wh
         ap (λ (l : List Entry). length l) same ∙ kept-length c a b r w in
         let after : c' ≡ afterJob c (length (jobEntries c (sites a) (sites b) (entriesOf (c .entries) r) (jobOf s t))) (jobOf s t) =
         e ∙ ap (λ (n : ℕ). afterJob c n (jobOf s t)) (sym count) in (
-          rw (h, after) (told ok),
+          rw (h, after) (answer-values ok),
           (
             after ∙ unless-done c _ refl ok,
             sym (holding-self (c .k) (c .entries) r (w .room) (w .most)) ∙ ap (λ (l : List Entry). holding l r)
@@ -225,13 +224,13 @@ module _ (way : Way) (c : Campaign) (a b : Columns) (r : Results) (s t : ℕ) wh
         → SweptTo (sweep way (c .k) (stripAt (firstEnds c) (sites a) s) (stripAt (secondEnds c) (sites b) t) (entriesOf (c .entries) r)) r r' d
         → {c' : Campaign} → c' ≡ afterJob c (d .entries) (jobOf s t)
         → Told-job (record { campaign = c'; outcome = outcome.Swept (d .looks) (d .distances) }) r'
-    unfolding jobDoneTold jobTold jobCampaign jobResults jobValues entries firstStrip secondStrip
+    unfolding jobDoneAnswer jobAnswer jobCampaign jobResults jobValues entries firstStrip secondStrip
     job-swept h {r'} {d} w {c'} e =
         let count : d .entries ≡ length (jobEntries c (sites a) (sites b) (entriesOf (c .entries) r) (jobOf s t)) =
         w .entries ∙ ap (λ (l : List Entry). length l) swept-entries in
         let after : c' ≡ afterJob c (length (jobEntries c (sites a) (sites b) (entriesOf (c .entries) r) (jobOf s t))) (jobOf s t) =
         e ∙ ap (λ (n : ℕ). afterJob c n (jobOf s t)) count in (
-          rw (h, after, w .looks, w .distances) (told ok),
+          rw (h, after, w .looks, w .distances) (answer-values ok),
           (
             after ∙ unless-done c _ refl ok,
             w .columns ∙ ap (λ (l : List Entry). holding l r) swept-entries

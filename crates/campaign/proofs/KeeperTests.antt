@@ -10,7 +10,8 @@ use lib.ListN.{length, getD}
 use borrow.Author.Tests.{lt-ltb, le-ltb, eq-eqb, ne-eqb}
 use Rattle.order.proofs.Lists.{length-keep}
 use Rattle.site.specs.Site.{squaredDistance}
-use Rattle.site.specs.SiteList.{Columns, Level, site, sites, siteAt}
+use Rattle.site.specs.SiteList.{Columns, site, sites, siteAt}
+use Rattle.site.specs.Terms.{Level}
 use Rattle.site.proofs.Columns.{sites-length, site-at}
 use Rattle.entry.specs.declared.Entry.{Entry}
 use Rattle.entry.specs.Entry.{entry}

@@ -15,8 +15,7 @@ use Rattle.campaign.specs.declared.Campaign.{Campaign}
 use Rattle.campaign.specs.declared.Settled.{Settled}
 use Rattle.campaign.specs.Grid.{lawfulEnds, stripFrom, stripTo, jobOf, lawfulMarks, settledJobs}
 use Rattle.campaign.specs.Keeper.{firstEnds, secondEnds, soundEnds, settledTotal, rightCount}
-use Rattle.campaign.specs.Tally.{Cutting, Tally}
-use Rattle.campaign.specs.Kept.{SoundPlan, JobAsked, soundPlan}
+use Rattle.campaign.specs.Internal.{Cutting, Tally, SoundPlan, JobAsked, soundPlan}
 use Rattle.campaign.proofs.CutLaws.{lawful-cut, strip-inside}
 use Rattle.campaign.proofs.EndLaws.{lawful-cuts, sampled}
 

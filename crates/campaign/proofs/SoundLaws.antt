@@ -8,21 +8,21 @@ use lib.ListN.{length}
 use borrow.Author.Tests.{eqb-true}
 use Rattle.order.specs.Order.{ascending}
 use Rattle.order.specs.Lists.{all}
-use Rattle.order.specs.Sorted.{Sorted}
+use Rattle.order.specs.Terms.{Sorted}
 use Rattle.order.proofs.Sorted.{ascending-ascends, ascends-sorted}
-use Rattle.site.specs.Told.{orElse}
+use Rattle.site.specs.Answer.{orElse}
 use Rattle.site.specs.SiteList.{Columns, sites}
 use Rattle.site.specs.Refusal.{listRefusal, listsRefusal}
 use Rattle.site.proofs.Cases.{and-first, and-second}
-use Rattle.site.proofs.Told.{orElse-first, orElse-second, fault-none}
+use Rattle.site.proofs.Answer.{orElse-first, orElse-second, fault-none}
 use Rattle.entry.specs.Entry.{rankBefore}
 use Rattle.entry.specs.Results.{Results, entriesOf, roomFor}
-use Rattle.entry.specs.Offered.{Ready}
+use Rattle.entry.specs.Terms.{Ready}
 use Rattle.entry.proofs.Rank.{rank-order}
 use Rattle.entry.proofs.Columns.{length-entries}
 use Rattle.campaign.specs.declared.Campaign.{Campaign}
 use Rattle.campaign.specs.Keeper.{soundEntry, settledTotal, rightCount, sound, campaignRefusal}
-use Rattle.campaign.specs.Kept.{SoundPlan, soundPlan, entriesSound}
+use Rattle.campaign.specs.Internal.{SoundPlan, soundPlan, entriesSound}
 use Rattle.site.proofs.Accepted.{accepted-level, accepted-few, both-accepted}
 use Rattle.campaign.proofs.PlanTests.{sound-plan}
 use Rattle.campaign.proofs.SoundTests.{steps}

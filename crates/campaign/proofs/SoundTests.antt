@@ -7,19 +7,18 @@ use lib.ListN.{length, take}
 use Rattle.order.specs.Order.{ascending}
 use Rattle.order.specs.Lists.{all}
 use Rattle.site.specs.declared.Site.{Site}
-use Rattle.site.specs.SiteList.{Columns, Level, sites}
+use Rattle.site.specs.SiteList.{Columns, sites}
+use Rattle.site.specs.Terms.{Level}
 use Rattle.site.specs.Refusal.{listsRefusal}
 use Rattle.site.proofs.Columns.{sites-length}
-use Rattle.site.proofs.Told.{first-refused, next-decides}
+use Rattle.site.proofs.Answer.{first-refused, next-decides}
 use Rattle.entry.specs.declared.Entry.{Entry}
 use Rattle.entry.specs.Entry.{rankBefore, lawfulK}
 use Rattle.entry.specs.Results.{Results, entriesOf, roomFor}
 use Rattle.campaign.specs.declared.Campaign.{Campaign}
 use Rattle.campaign.specs.Grid.{lawfulMarks}
-use Rattle.campaign.specs.Tally.{Cutting}
-use Rattle.campaign.specs.Keeper.{firstEnds, secondEnds, soundEnds, fits, soundEntry, rightCount, sound}
-use Rattle.campaign.specs.Keeper.{campaignRefusal}
-use Rattle.campaign.specs.Kept.{soundPlan, entriesSound}
+use Rattle.campaign.specs.Internal.{Cutting, soundPlan, entriesSound}
+use Rattle.campaign.specs.Keeper.{firstEnds, secondEnds, soundEnds, fits, soundEntry, rightCount, sound, campaignRefusal}
 use Rattle.campaign.proofs.PlanTests.{plan-parts}
 
 -- ---- the tests

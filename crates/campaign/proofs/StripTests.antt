@@ -10,7 +10,8 @@ use lib.ListN.{length, getD, length-map, List·getD-map}
 use Rattle.order.proofs.Lists.{last-at}
 use Rattle.site.specs.declared.Site.{Site}
 use Rattle.site.specs.Site.{gap, square}
-use Rattle.site.specs.SiteList.{Columns, Level, sites}
+use Rattle.site.specs.SiteList.{Columns, sites}
+use Rattle.site.specs.Terms.{Level}
 use Rattle.site.proofs.Columns.{nowhere, sites-length, sites-at}
 use Rattle.sweep.specs.Strip.{Placed, strip}
 use Rattle.sweep.proofs.PlaceLaws.{placed, strip-at, length-strip-within}

@@ -14,9 +14,8 @@ use Rattle.sweep.specs.Strip.{whole, strip, pair, product, pairs}
 use Rattle.sweep.proofs.ProductLaws.{product-nil, product-cons, length-product}
 use Rattle.sweep.proofs.PlaceLaws.{length-whole}
 use Rattle.campaign.specs.declared.Settled.{Settled}
-use Rattle.campaign.specs.Grid.{lastEnd, stripFrom, stripTo, stripAt, Job, jobOf, countFrom, jobs, settled}
-use Rattle.campaign.specs.Grid.{settledJobs, jobPairs, jobsPairs}
-use Rattle.campaign.specs.Tally.{Cuts, Cutting, Tally}
+use Rattle.campaign.specs.Grid.{lastEnd, stripFrom, stripTo, stripAt, Job, jobOf, countFrom, jobs, settled, settledJobs, jobPairs, jobsPairs}
+use Rattle.campaign.specs.Internal.{Cuts, Cutting, Tally}
 use Rattle.campaign.proofs.CutLaws.{lawful-cut}
 use Rattle.campaign.proofs.EndLaws.{cut-low, sampled}
 use Rattle.campaign.proofs.GridLaws.{InGrid, jobs-pairs-append, pairs-one, length-job}

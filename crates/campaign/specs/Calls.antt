@@ -5,7 +5,7 @@ use Prim.Native.Nat.{ℕ, _*_, _-_}
 use lib.Dec.{ltb}
 use lib.ListN.{length, replicate}
 use Rattle.site.specs.declared.Site.{Site}
-use Rattle.site.specs.Told.{Told, refused, answered, tell, unlessRefused, refuseIf, orElse}
+use Rattle.site.specs.Answer.{Answer, refused, answered, answerUnless, unlessRefused, refuseIf, orElse}
 use Rattle.site.specs.SiteList.{Columns, sites}
 use Rattle.site.specs.Refusal.{listsRefusal}
 use Rattle.entry.specs.declared.Entry.{Entry}
@@ -54,8 +54,8 @@ unfoldable pub noCampaign : Campaign
 noCampaign = newCampaign 0 [] []
 
 -- "opening, the campaign with entry count 0, no column touched", or the refusal.
-unfoldable pub openTold : Columns → Columns → ℕ → List ℕ → List ℕ → Results → Told Campaign
-openTold a b k ends ends' r = tell (openRefusal a b k ends ends' r) (newCampaign k ends ends')
+unfoldable pub openAnswer : Columns → Columns → ℕ → List ℕ → List ℕ → Results → Answer Campaign
+openAnswer a b k ends ends' r = answerUnless (openRefusal a b k ends ends' r) (newCampaign k ends ends')
 
 -- A job tests for 1, 2, 3 and 7, then "8: a strip number not below the strip count", then "9: the job is settled".
 unfoldable pub jobRefusal : Campaign → Columns → Columns → Results → Job → ℕ
@@ -104,9 +104,9 @@ jobValues way c a b l j =
       distances = cond skip 0 (s .distances);
     }
 
-unfoldable pub jobTold : Way → Campaign → Columns → Columns → Results → Job → Told JobValues
-jobTold way c a b r j =
-    tell (jobRefusal c a b r j) (jobValues way c (sites a) (sites b) (entriesOf (c .entries) r) j)
+unfoldable pub jobAnswer : Way → Campaign → Columns → Columns → Results → Job → Answer JobValues
+jobAnswer way c a b r j =
+    answerUnless (jobRefusal c a b r j) (jobValues way c (sites a) (sites b) (entriesOf (c .entries) r) j)
 
 -- What the campaign and the result columns are after a job.
 unfoldable pub jobCampaign : Campaign → Columns → Columns → Results → Job → Campaign
@@ -126,9 +126,9 @@ pub record StatusValues : Type 0 where
   pub entries : ℕ
   pub k : ℕ
 
-unfoldable pub statusTold : Campaign → Columns → Columns → Results → Told StatusValues
-statusTold c a b r =
-    tell (campaignRefusal c a b r)
+unfoldable pub statusAnswer : Campaign → Columns → Columns → Results → Answer StatusValues
+statusAnswer c a b r =
+    answerUnless (campaignRefusal c a b r)
     (record {
       settled = length (settledJobs (c .marks) (c .«first_strips») (c .«second_strips»));
       jobs = c .«first_strips» * c .«second_strips»;
@@ -137,19 +137,19 @@ statusTold c a b r =
     })
 
 -- The paper's number and values for each case of each answer.
-unfoldable pub openedTold : Opened → Told Campaign
-openedTold o = tell (o .refusal) (o .campaign)
+unfoldable pub openedAnswer : Opened → Answer Campaign
+openedAnswer o = answerUnless (o .refusal) (o .campaign)
 
-unfoldable pub jobDoneTold : JobDone → Told JobValues
-jobDoneTold d = case (d .outcome)
+unfoldable pub jobDoneAnswer : JobDone → Answer JobValues
+jobDoneAnswer d = case (d .outcome)
   where
-    case : Outcome → Told JobValues
+    case : Outcome → Answer JobValues
     case (outcome.Swept looks distances) =
         answered (record { campaign = d .campaign; swept = true; looks = looks .0; distances = distances .0 })
     case outcome.Skipped = answered (record { campaign = d .campaign; swept = false; looks = 0; distances = 0 })
     case (outcome.Refused number) = refused number
 
-unfoldable pub statusOf : Status → Told StatusValues
+unfoldable pub statusOf : Status → Answer StatusValues
 statusOf (status.Counts settled jobs entries k) =
     answered (record { settled = settled; jobs = jobs; entries = entries; k = k })
 statusOf (status.Refused number) = refused number

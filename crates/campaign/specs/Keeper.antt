@@ -7,7 +7,7 @@ use lib.ListN.{length, take}
 use Rattle.order.specs.Order.{ascending}
 use Rattle.order.specs.Lists.{all}
 use Rattle.site.specs.declared.Site.{Site}
-use Rattle.site.specs.Told.{refuseIf, orElse}
+use Rattle.site.specs.Answer.{refuseIf, orElse}
 use Rattle.site.specs.Site.{squaredDistance}
 use Rattle.site.specs.SiteList.{Columns, sites, siteAt}
 use Rattle.site.specs.Refusal.{listsRefusal}

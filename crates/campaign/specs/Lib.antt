@@ -1,6 +1,6 @@
--- What a reader must believe of campaigns; the laws are in `proofs/`.
+-- What a reader must believe of campaigns. The laws are in `proofs/`.
 pub mod Grid
 pub mod Keeper
 pub mod Calls
-pub mod Tally
-pub mod Kept
+-- Nothing to believe: terms that only this crate's functions cite.
+pub mod Internal

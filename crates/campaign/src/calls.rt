@@ -9,11 +9,11 @@ use super::keeper;
 use super::opening;
 use sweep::Way;
 ghost use mathlib.Core.Path.{_≡_};
-ghost use Rattle.site.specs.Told.{unlessRefused};
+ghost use Rattle.site.specs.Answer.{unlessRefused};
 ghost use Rattle.site.specs.SiteList.{columns};
 ghost use Rattle.entry.specs.Results.{results};
 ghost use Rattle.campaign.specs.Grid.{jobOf};
-ghost use Rattle.campaign.specs.Calls.{openRefusal, newCampaign, noCampaign, openTold, openedTold, statusTold, statusOf, jobTold, jobDoneTold, jobCampaign, jobResults};
+ghost use Rattle.campaign.specs.Calls.{openRefusal, newCampaign, noCampaign, openAnswer, openedAnswer, statusAnswer, statusOf, jobAnswer, jobDoneAnswer, jobCampaign, jobResults};
 
 // Opens a campaign: K, the cut ends of each list, no job settled. No column is touched. (01: opening.)
 pub fn open(
@@ -31,7 +31,7 @@ pub fn open(
     second: &[u32],
 ) -> Opened
     ensures { λ r. ⌜
-        openedTold r ≡ openTold (columns (now (ax .entry)) (now (ay .entry)) (now (an .entry)))
+        openedAnswer r ≡ openAnswer (columns (now (ax .entry)) (now (ay .entry)) (now (an .entry)))
         (columns (now (bx .entry)) (now (by .entry)) (now (bn .entry))) k (now («first_ends» .entry))
         (now («second_ends» .entry)) (results (now (distance .entry)) (now (first .entry)) (now (second .entry)))
         ⌝ }
@@ -82,7 +82,7 @@ pub fn status(
     second: &[u32],
 ) -> Status
     ensures { λ r. ⌜
-        statusOf r ≡ statusTold c (columns (now (ax .entry)) (now (ay .entry)) (now (an .entry)))
+        statusOf r ≡ statusAnswer c (columns (now (ax .entry)) (now (ay .entry)) (now (an .entry)))
         (columns (now (bx .entry)) (now (by .entry)) (now (bn .entry)))
         (results (now (distance .entry)) (now (first .entry)) (now (second .entry)))
         ⌝ }
@@ -116,7 +116,7 @@ pub fn job(
     way: Way,
 ) -> JobDone
     ensures { λ r. ⌜
-        jobDoneTold r ≡ jobTold way c (columns (now (ax .entry)) (now (ay .entry)) (now (an .entry)))
+        jobDoneAnswer r ≡ jobAnswer way c (columns (now (ax .entry)) (now (ay .entry)) (now (an .entry)))
         (columns (now (bx .entry)) (now (by .entry)) (now (bn .entry)))
         (results (now (distance .entry)) (now (first .entry)) (now (second .entry)))
         (jobOf «first_strip» «second_strip»)

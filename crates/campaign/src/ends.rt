@@ -7,7 +7,7 @@ ghost use lib.Dec.{leb};
 ghost use lib.ListN.{length, take};
 ghost use Rattle.campaign.specs.Grid.{lawfulEnds, stripFrom, stripTo, stripHolding};
 ghost use Rattle.campaign.specs.Calls.{slots};
-ghost use Rattle.campaign.specs.Tally.{Cuts, StripOf};
+ghost use Rattle.campaign.specs.Internal.{Cuts, StripOf};
 
 // Whether cut ends are lawful for a list of `n` sites.
 pub fn lawful(n: usize, ends: &[u32]) -> bool

@@ -11,14 +11,15 @@ ghost use mathlib.Core.Bool.{true};
 ghost use mathlib.Core.List.{List};
 ghost use Prim.Native.Nat.{ℕ, _≤_, _<_};
 ghost use lib.ListN.{length};
-ghost use Rattle.site.specs.SiteList.{Coordinates, columns, Numbered};
-ghost use Rattle.entry.specs.Offered.{Ready};
+ghost use Rattle.site.specs.SiteList.{columns};
+ghost use Rattle.site.specs.Terms.{Coordinates, Numbered};
+ghost use Rattle.entry.specs.Terms.{Ready};
 ghost use Rattle.entry.specs.Results.{results, entriesOf, roomFor};
 ghost use Rattle.sweep.specs.Sweep.{sweep};
 ghost use Rattle.sweep.specs.Terms.{SweptTo};
 ghost use Rattle.campaign.specs.Grid.{stripAt, jobOf};
 ghost use Rattle.campaign.specs.Keeper.{firstEnds, secondEnds};
-ghost use Rattle.campaign.specs.Kept.{Across, JobAsked};
+ghost use Rattle.campaign.specs.Internal.{Across, JobAsked};
 ghost use Rattle.campaign.specs.Calls.{jobRefusal, skips, afterJob};
 
 // The refusal of a job; 0 for none.

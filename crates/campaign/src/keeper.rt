@@ -11,13 +11,13 @@ ghost use lib.ListN.{length};
 ghost use Rattle.order.specs.Order.{ascending};
 ghost use Rattle.order.specs.Lists.{all};
 ghost use Rattle.site.specs.Site.{squaredDistance};
-ghost use Rattle.site.specs.SiteList.{Coordinates, columns, siteAt, Numbered};
+ghost use Rattle.site.specs.SiteList.{columns, siteAt};
+ghost use Rattle.site.specs.Terms.{Coordinates, Numbered};
 ghost use Rattle.entry.specs.Entry.{rankBefore};
 ghost use Rattle.entry.specs.Results.{results, entriesOf, roomFor};
 ghost use Rattle.campaign.specs.Grid.{settledJobs};
-ghost use Rattle.campaign.specs.Tally.{Cutting, Tally};
+ghost use Rattle.campaign.specs.Internal.{Cutting, Tally, Room, SoundPlan, soundPlan, entriesSound};
 ghost use Rattle.campaign.specs.Keeper.{firstEnds, secondEnds, fits, rightCount, sound, campaignRefusal};
-ghost use Rattle.campaign.specs.Kept.{Room, SoundPlan, soundPlan, entriesSound};
 
 // The squared distance of the sites at two places.
 fn distance_at(ax: &[i32], ay: &[i32], bx: &[i32], by: &[i32], i: usize, j: usize) -> u64

@@ -7,7 +7,7 @@ ghost use Prim.Native.Nat.{_≤_, _<_};
 ghost use lib.ListN.{length};
 ghost use Rattle.order.specs.Lists.{keep};
 ghost use Rattle.campaign.specs.Grid.{jobOf, countFrom, lawfulMark, lawfulMarks, settled, settle, settledJobs};
-ghost use Rattle.campaign.specs.Tally.{Cuts, Tally};
+ghost use Rattle.campaign.specs.Internal.{Cuts, Tally};
 
 // Whether mark `i` is 0, or 1 at a job.
 fn lawful_at(mark: u8, i: usize, rows: usize, cols: usize) -> bool

@@ -6,7 +6,7 @@ ghost use lib.ListN.{length};
 ghost use Rattle.site.specs.Site.{square};
 ghost use Rattle.sweep.specs.Strip.{strip};
 ghost use Rattle.campaign.specs.Grid.{rangeGap, squaredStripGap};
-ghost use Rattle.campaign.specs.Kept.{Across};
+ghost use Rattle.campaign.specs.Internal.{Across};
 
 // The square of the difference of two ranges, 0 where they touch or overlap.
 fn range_gap(from: i32, to: i32, other_from: i32, other_to: i32) -> u64

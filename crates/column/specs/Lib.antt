@@ -1,2 +1,3 @@
--- What a reader must believe of lent columns; the laws are in `proofs/`.
+-- What a reader must believe of lent columns and places. The laws are in `proofs/`.
 pub mod Column
+pub mod Lent

@@ -13,7 +13,7 @@ use Rattle.column.specs.Column.{overwritten}
 use Rattle.site.specs.declared.Site.{Site}
 use Rattle.site.specs.Site.{square}
 use Rattle.site.specs.SiteList.{sites}
-use Rattle.site.proofs.Told.{told, unless-done}
+use Rattle.site.proofs.Answer.{answer-values, unless-done}
 use Rattle.site.proofs.Accepted.{accepted-order}
 use Rattle.entry.specs.declared.Entry.{Entry}
 use Rattle.entry.specs.Entry.{rankBefore, bestK}
@@ -23,7 +23,7 @@ use Rattle.sweep.specs.Strip.{whole, allPairs}
 use Rattle.sweep.proofs.SweepLaws.{sweep-whole-best}
 use Rattle.sweep.proofs.PlaceLaws.{byPlaces, whole-ascends, pairs-ascend, whole-pairs-distinct}
 use Rattle.pairs.specs.KList.{kList, kListResults}
-use Rattle.pairs.specs.DistanceList.{distanceList, distanceTold, distanceFirst, distanceSecond}
+use Rattle.pairs.specs.DistanceList.{distanceList, distanceAnswer, distanceFirst, distanceSecond}
 use Rattle.campaign.proofs.Gathered.{ascends-keep, ascends-neighbours}
 use Rattle.site_file.proofs.RoundTrip.{every-output-accepted, every-accepted-is-output}
 use Rattle.demands.specs.Demand2.{KClosest, KListClause, SweepClause, placeBefore, WithinLimit, DistanceClause, FileClause, Demand2}
@@ -60,12 +60,12 @@ distances-within e a b =
     }
 
 pub distance-clause : DistanceClause
-unfolding DistanceClause distanceTold distanceFirst distanceSecond
+unfolding DistanceClause distanceAnswer distanceFirst distanceSecond
 distance-clause a b e first second ok =
     let l = distanceList e (sites a) (sites b) in (
       length l,
       l,
-      sym (told ok),
+      sym (answer-values ok),
       record {
         size = refl;
         firsts = rw (← unless-done first (overwritten (map (λ p. p .first) l) first) refl ok) (written l (λ p. p .first) first);

@@ -7,7 +7,7 @@ use native.Mathlib.Omega.{arith}
 use lib.ListN.{length}
 use Rattle.order.proofs.Best.{length-best}
 use Rattle.site.specs.SiteList.{Columns, sites}
-use Rattle.site.proofs.Told.{number-tell, answer-told}
+use Rattle.site.proofs.Answer.{answer-number, answered-values}
 use Rattle.entry.specs.declared.Entry.{Entry}
 use Rattle.entry.specs.Entry.{rankBefore, bestK}
 use Rattle.entry.specs.Results.{Results, entriesOf, holding}
@@ -15,7 +15,7 @@ use Rattle.entry.proofs.Columns.{entries-columns}
 use Rattle.sweep.specs.declared.Way.the-variants.{Classic}
 use Rattle.pairs.specs.KList.{kList}
 use Rattle.campaign.specs.Grid.{jobsPairs}
-use Rattle.campaign.specs.Calls.{newCampaign, openRefusal, openTold, jobRefusal, jobTold}
+use Rattle.campaign.specs.Calls.{newCampaign, openRefusal, openAnswer, jobRefusal, jobAnswer}
 use Rattle.demands.specs.Book.{Book, openBook, bookEntries, noneOpen}
 use Rattle.demands.specs.History.{own, otherLists, otherColumns, Call, job, status, opening, Bench, benchAfter, AllAllowed, bookAfterCall}
 use Rattle.demands.specs.Demand3.{SameEntries, LikeBenchA, Agrees, AnswersByBook, Throughout, opened, Demand3}
@@ -63,8 +63,8 @@ module _ (a b : Columns) (bench : Bench) (book : Book) (i : Kept a b bench book)
   agrees = record { count = i .count; entries = i .entries; finished = like-bench-a }
 
   answers : (c : Call) → AnswersByBook a b bench book c
-  unfolding AnswersByBook jobTold
-  answers (job own j way) = number-tell (jobRefusal (bench .campaign) a b (bench .results) j) _ ∙ kept-refusal a b bench book i j
+  unfolding AnswersByBook jobAnswer
+  answers (job own j way) = answer-number (jobRefusal (bench .campaign) a b (bench .results) j) _ ∙ kept-refusal a b bench book i j
   answers (job (otherLists a' b') j way) = tt
   answers (job (otherColumns a' b' r) j way) = tt
   answers (status own) = kept-status a b bench book i
@@ -84,8 +84,8 @@ throughout a b bench book i (c ∷ l) h = (
 )
 
 pub demand3 : Demand3
-unfolding Demand3 openTold
+unfolding Demand3 openAnswer
 demand3 a b k ends ends' r c told calls =
-    let w = answer-told (openRefusal a b k ends ends' r) (newCampaign k ends ends') c told in
+    let w = answered-values (openRefusal a b k ends ends' r) (newCampaign k ends ends') c told in
     let start : Kept a b (opened c r) (openBook k ends ends') = rw (w .1) at (kept-opened a b k ends ends' r (w .0)) in
     throughout a b (opened c r) (openBook k ends ends') start calls

@@ -13,18 +13,17 @@ use Rattle.order.proofs.Order.{byTest}
 use Rattle.order.proofs.Lists.{mem-all, all-mem, holds-all, perm-length}
 use Rattle.order.proofs.Best.{length-best}
 use Rattle.order.proofs.Sorted.{mem-best, ascends-best, ascends-ascending}
-use Rattle.site.specs.Told.{answered, orElse}
+use Rattle.site.specs.Answer.{answered, orElse}
 use Rattle.site.specs.SiteList.{Columns, sites}
 use Rattle.site.specs.Refusal.{listsRefusal}
-use Rattle.site.proofs.Told.{told, or-none}
+use Rattle.site.proofs.Answer.{answer-values, or-none}
 use Rattle.entry.specs.declared.Entry.{Entry}
-use Rattle.entry.specs.Entry.{rankBefore, bestK}
+use Rattle.entry.specs.Entry.{rankBefore, bestK, lawfulK}
 use Rattle.entry.specs.Results.{entriesOf, roomFor}
 use Rattle.entry.proofs.Rank.{rank-order}
-use Rattle.entry.specs.Entry.{lawfulK}
 use Rattle.campaign.specs.Grid.{lawfulEnds, Job, jobs, settled, settledJobs, lawfulMarks, jobsPairs}
 use Rattle.campaign.specs.Keeper.{firstEnds, secondEnds, soundEnds, fits, soundEntry, settledTotal, rightCount, sound, campaignRefusal}
-use Rattle.campaign.specs.Calls.{jobRefusal, statusTold}
+use Rattle.campaign.specs.Calls.{jobRefusal, statusAnswer}
 use Rattle.campaign.proofs.Gathered.{keep-same}
 use Rattle.campaign.proofs.CutLaws.{lawful-cut}
 use Rattle.campaign.proofs.GridLaws.{InGrid, jobs-in-grid, jobs-entry, jobs-pairs-perm}
@@ -160,6 +159,6 @@ module _ (a b : Columns) (bench : Bench) (book : Book) (i : Kept a b bench book)
       (λ f. rw f))
 
   -- "and status answers".
-  pub kept-status : statusTold (bench .campaign) a b (bench .results) ≡ answered (bookStatus (sites a) (sites b) book)
-  unfolding statusTold bookStatus
-  kept-status = sym (told kept-passes) ∙ rw (i .rows, i .columns, ← perm-length settled-done, i .count, i .k)
+  pub kept-status : statusAnswer (bench .campaign) a b (bench .results) ≡ answered (bookStatus (sites a) (sites b) book)
+  unfolding statusAnswer bookStatus
+  kept-status = sym (answer-values kept-passes) ∙ rw (i .rows, i .columns, ← perm-length settled-done, i .count, i .k)

@@ -5,15 +5,15 @@ use Prim.Native.Nat.{ℕ}
 use lib.ListN.{length, take, length-map}
 use Rattle.column.specs.Column.{overwritten}
 use Rattle.column.proofs.Overwritten.{take-overwritten}
-use Rattle.site.specs.Told.{answered}
+use Rattle.site.specs.Answer.{answered}
 use Rattle.site.specs.SiteList.{Columns, sites}
-use Rattle.site.proofs.Told.{told, unless-done}
+use Rattle.site.proofs.Answer.{answer-values, unless-done}
 use Rattle.entry.specs.declared.Entry.{Entry}
 use Rattle.entry.specs.Results.{Results, holding}
 use Rattle.sweep.specs.declared.Way.{Way}
 use Rattle.sweep.specs.Strip.{whole}
 use Rattle.sweep.specs.Sweep.{sweep}
-use Rattle.pairs.specs.KList.{Counts, kList, kListRefusal, kListResults, kListTold}
+use Rattle.pairs.specs.KList.{Counts, kList, kListRefusal, kListResults, kListAnswer}
 
 -- The written columns begin with the entries' numbers.
 pub written : (l : List Entry) (f : Entry → ℕ) (column : List ℕ) → take (length l) (overwritten (map f l) column) ≡ map f l
@@ -26,9 +26,9 @@ module _ (way : Way) (a b : Columns) (k : ℕ) (r : Results) (ok : kListRefusal 
       let swept = sweep way k (whole (sites a)) (whole (sites b)) [] in
       record { count = length (kList k (sites a) (sites b)); looks = swept .looks; distances = swept .distances }
 
-  pub list-told : kListTold way a b k r ≡ answered counted
-  unfolding kListTold
-  list-told = sym (told ok)
+  pub list-told : kListAnswer way a b k r ≡ answered counted
+  unfolding kListAnswer
+  list-told = sym (answer-values ok)
 
   pub list-left : kListResults a b k r ≡ holding (kList k (sites a) (sites b)) r
   unfolding kListResults

@@ -13,17 +13,16 @@ use Rattle.order.proofs.Order.{byTest, never-both}
 use Rattle.order.proofs.Lists.{all-nil}
 use Rattle.order.proofs.Best.{length-best, best-nil}
 use Rattle.order.proofs.Sorted.{best-of-best}
-use Rattle.site.specs.Told.{unlessRefused}
+use Rattle.site.specs.Answer.{unlessRefused}
 use Rattle.site.specs.SiteList.{Columns, sites}
 use Rattle.site.specs.Refusal.{listsRefusal}
-use Rattle.site.proofs.Told.{unless-kept, orElse-first, orElse-second, no-fault, fault-none}
+use Rattle.site.proofs.Answer.{unless-kept, orElse-first, orElse-second, no-fault, fault-none}
 use Rattle.site.proofs.Accepted.{both-accepted, accepted-length}
 use Rattle.entry.specs.declared.Entry.{Entry}
-use Rattle.entry.specs.Entry.{rankBefore, bestK}
+use Rattle.entry.specs.Entry.{rankBefore, bestK, lawfulK}
 use Rattle.entry.specs.Results.{Results, entriesOf, holding, roomFor}
 use Rattle.entry.proofs.Rank.{rank-order}
 use Rattle.entry.proofs.Columns.{entries-holding, room-holding}
-use Rattle.entry.specs.Entry.{lawfulK}
 use Rattle.campaign.specs.Grid.{lawfulEnds, Job, markOf, settled, settle, jobPairs, jobsPairs}
 use Rattle.campaign.specs.Keeper.{firstEnds, secondEnds}
 use Rattle.campaign.specs.Calls.{slots, newCampaign, openRefusal, jobRefusal, jobEntries, afterJob, jobCampaign, jobResults}

@@ -6,7 +6,7 @@ use lib.Dec.{ltb, eqb}
 use lib.ListN.{length}
 use Rattle.order.specs.Lists.{all}
 use Rattle.site.specs.declared.Site.{Site}
-use Rattle.site.specs.Told.{unlessRefused, refuseIf, orElse}
+use Rattle.site.specs.Answer.{unlessRefused, refuseIf, orElse}
 use Rattle.entry.specs.declared.Entry.{Entry}
 use Rattle.entry.specs.Entry.{bestK}
 use Rattle.campaign.specs.Grid.{Job, jobs, jobsPairs}

@@ -9,7 +9,7 @@ use lib.ListN.{length, take}
 use Rattle.order.specs.Order.{on, lex, ascending}
 use Rattle.order.specs.Lists.{Distinct}
 use Rattle.site.specs.declared.Site.{Site}
-use Rattle.site.specs.Told.{answered}
+use Rattle.site.specs.Answer.{answered}
 use Rattle.site.specs.Site.{square}
 use Rattle.site.specs.SiteList.{Columns, sites}
 use Rattle.site.specs.Refusal.{listRefusal}
@@ -19,8 +19,8 @@ use Rattle.entry.specs.Results.{Results, entriesOf}
 use Rattle.sweep.specs.declared.Way.{Way}
 use Rattle.sweep.specs.Strip.{whole, allPairs}
 use Rattle.sweep.specs.Sweep.{sweep}
-use Rattle.pairs.specs.KList.{Counts, kList, kListRefusal, kListResults, kListTold}
-use Rattle.pairs.specs.DistanceList.{distanceRefusal, distanceTold, distanceFirst, distanceSecond}
+use Rattle.pairs.specs.KList.{Counts, kList, kListRefusal, kListResults, kListAnswer}
+use Rattle.pairs.specs.DistanceList.{distanceRefusal, distanceAnswer, distanceFirst, distanceSecond}
 use Rattle.site_file.specs.RoundTrip.{EveryOutputAccepted, EveryAcceptedIsOutput}
 use Rattle.demands.specs.Demand3.{NoChoiceBetter}
 
@@ -46,7 +46,7 @@ KListClause =
     (way : Way) (a b : Columns) (k : ℕ) (r : Results)
     → kListRefusal a b k r ≡ 0
     → (c : Counts)
-    × (kListTold way a b k r ≡ answered c)
+    × (kListAnswer way a b k r ≡ answered c)
     × (length (entriesOf (c .count) (kListResults a b k r)) ≡ c .count)
     × KClosest (sites a) (sites b) k (entriesOf (c .count) (kListResults a b k r))
 
@@ -81,7 +81,7 @@ DistanceClause =
     → distanceRefusal a b e first second ≡ 0
     → (count : ℕ)
     × (l : List Entry)
-    × (distanceTold a b e first second ≡ answered count)
+    × (distanceAnswer a b e first second ≡ answered count)
     × InColumns l count (distanceFirst a b e first second) (distanceSecond a b e first second)
     × WithinLimit (sites a) (sites b) e l
 

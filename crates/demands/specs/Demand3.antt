@@ -7,15 +7,15 @@ use lib.ListN.{length, getD, take}
 use Rattle.order.specs.Best.{sortNumbers}
 use Rattle.order.specs.Lists.{Distinct}
 use Rattle.site.specs.declared.Site.{Site}
-use Rattle.site.specs.Told.{answered, numberOf}
+use Rattle.site.specs.Answer.{answered, numberOf}
 use Rattle.site.specs.SiteList.{Columns, sites}
 use Rattle.entry.specs.declared.Entry.{Entry}
 use Rattle.entry.specs.Results.{Results, entriesOf}
 use Rattle.sweep.specs.declared.Way.the-variants.{Classic}
 use Rattle.sweep.specs.Strip.{allPairs}
-use Rattle.pairs.specs.KList.{Counts, kListRefusal, kListResults, kListTold}
+use Rattle.pairs.specs.KList.{Counts, kListRefusal, kListResults, kListAnswer}
 use Rattle.campaign.specs.declared.Campaign.{Campaign}
-use Rattle.campaign.specs.Calls.{openTold, jobTold, statusTold}
+use Rattle.campaign.specs.Calls.{openAnswer, jobAnswer, statusAnswer}
 use Rattle.demands.specs.Book.{Book, openBook, bookRefusal, bookEntries, bookStatus, noneOpen}
 use Rattle.demands.specs.History.{own, otherLists, otherColumns, Call, job, status, opening, Bench, benchAfter, AllAllowed, bookAfterCall}
 
@@ -43,7 +43,7 @@ pub record LikeBenchA (a b : Columns) (bench : Bench) (k : ℕ) : Type 0 where
   pub same :
       (r : Results)
       → kListRefusal a b k r ≡ 0
-      → (c : Counts) × (kListTold Classic a b k r ≡ answered c)
+      → (c : Counts) × (kListAnswer Classic a b k r ≡ answered c)
       × SameEntries (bench .campaign .entries) (bench .results) (c .count) (kListResults a b k r)
   pub noneBetter : NoChoiceBetter (sites a) (sites b) (entriesOf (bench .campaign .entries) (bench .results))
 
@@ -59,11 +59,11 @@ pub record Agrees (a b : Columns) (bench : Bench) (book : Book) : Type 0 where
 -- Any other call "gets demand 1's number": what the call's own definition gives.
 unfoldable pub AnswersByBook : Columns → Columns → Bench → Book → Call → Type 0
 AnswersByBook a b bench book (job own j way) =
-    numberOf (jobTold way (bench .campaign) a b (bench .results) j) ≡ bookRefusal book j
+    numberOf (jobAnswer way (bench .campaign) a b (bench .results) j) ≡ bookRefusal book j
 AnswersByBook a b bench book (job (otherLists a' b') j way) = Unit {0}
 AnswersByBook a b bench book (job (otherColumns a' b' r) j way) = Unit {0}
 AnswersByBook a b bench book (status own) =
-    statusTold (bench .campaign) a b (bench .results) ≡ answered (bookStatus (sites a) (sites b) book)
+    statusAnswer (bench .campaign) a b (bench .results) ≡ answered (bookStatus (sites a) (sites b) book)
 AnswersByBook a b bench book (status (otherLists a' b')) = Unit {0}
 AnswersByBook a b bench book (status (otherColumns a' b' r)) = Unit {0}
 AnswersByBook a b bench book (opening a' b' k ends ends' r) = Unit {0}
@@ -84,7 +84,7 @@ opened c r = record { campaign = c; results = r }
 unfoldable pub Demand3 : Type 0
 Demand3 =
     (a b : Columns) (k : ℕ) (ends ends' : List ℕ) (r : Results) (c : Campaign)
-    → openTold a b k ends ends' r ≡ answered c
+    → openAnswer a b k ends ends' r ≡ answered c
     → (calls : List Call)
     → AllAllowed a b (opened c r) calls
     → Throughout a b (opened c r) (openBook k ends ends') calls

@@ -6,7 +6,7 @@ use lib.Dec.{eqb}
 use lib.IntN.{pos, negsuc}
 use lib.ListN.{length, replicate}
 use Rattle.site.specs.declared.Site.{Site}
-use Rattle.site.specs.Told.{Told, refused, answered}
+use Rattle.site.specs.Answer.{Answer, refused, answered}
 use Rattle.site.specs.Site.{squaredDistance}
 use Rattle.site.specs.SiteList.{Columns, columnsOf, site}
 use Rattle.entry.specs.declared.Entry.{Entry}
@@ -19,7 +19,7 @@ use Rattle.pairs.specs.KList.{kList}
 use Rattle.pairs.specs.DistanceList.{distanceList}
 use Rattle.campaign.specs.declared.Campaign.{Campaign}
 use Rattle.campaign.specs.Grid.{jobOf}
-use Rattle.campaign.specs.Calls.{JobValues, StatusValues, openTold, jobTold, jobCampaign, jobResults, statusTold}
+use Rattle.campaign.specs.Calls.{JobValues, StatusValues, openAnswer, jobAnswer, jobCampaign, jobResults, statusAnswer}
 
 -- A job of an example's campaign, and whether it is swept.
 pub record Step : Type 0 where
@@ -63,29 +63,29 @@ sameBool true b = b
 sameBool false true = false
 sameBool false false = true
 
-unfoldable pub countsAre : Told StatusValues → ℕ → ℕ → Bool
+unfoldable pub countsAre : Answer StatusValues → ℕ → ℕ → Bool
 countsAre (refused n) jobs entries = false
 countsAre (answered v) jobs entries = eqb (v .jobs) jobs && eqb (v .entries) entries
 
 -- An accepted job was swept, or was skipped.
-unfoldable pub sweptAs : Bool → Told JobValues → Bool
+unfoldable pub sweptAs : Bool → Answer JobValues → Bool
 sweptAs swept (refused n) = false
 sweptAs swept (answered v) = sameBool (v .swept) swept
 
 module _ (a b : Columns) where
-  unfoldable pub statusIs : Told Campaign → Results → ℕ → ℕ → Bool
+  unfoldable pub statusIs : Answer Campaign → Results → ℕ → ℕ → Bool
   statusIs (refused n) r jobs entries = false
-  statusIs (answered c) r jobs entries = countsAre (statusTold c a b r) jobs entries
+  statusIs (answered c) r jobs entries = countsAre (statusAnswer c a b r) jobs entries
 
   -- Jobs by the classic sweep, one after another; a refused one fails the example.
   unfoldable pub stepsAre : List Step → Campaign → Results → List (ℕ × ℕ) → Bool
   stepsAre [] c r places = samePlaces (entriesOf (c .entries) r) places
   stepsAre (s ∷ l) c r places =
       let j = jobOf (s .first) (s .second) in
-      sweptAs (s .swept) (jobTold Classic c a b r j)
+      sweptAs (s .swept) (jobAnswer Classic c a b r j)
       && stepsAre l (jobCampaign c a b r j) (jobResults c a b r j) places
 
-  unfoldable pub campaignEnds : Told Campaign → List Step → Results → List (ℕ × ℕ) → Bool
+  unfoldable pub campaignEnds : Answer Campaign → List Step → Results → List (ℕ × ℕ) → Bool
   campaignEnds (refused n) steps r places = false
   campaignEnds (answered c) steps r places = stepsAre steps c r places
 
@@ -98,9 +98,9 @@ holds (sweepIs way k a b looks distances places) =
 holds (sweepLeaves way k a b places) = samePlaces (sweep way k (whole a) (whole b) [] .entries) places
 holds (distanceListIs e a b places) = samePlaces (distanceList e a b) places
 holds (campaignIs k a b ends ends' steps places) =
-    campaignEnds (columnsOf a) (columnsOf b) (openTold (columnsOf a) (columnsOf b) k ends ends' (blank k)) steps (blank k) places
+    campaignEnds (columnsOf a) (columnsOf b) (openAnswer (columnsOf a) (columnsOf b) k ends ends' (blank k)) steps (blank k) places
 holds (openedIs k a b ends ends' jobs entries) =
-    statusIs (columnsOf a) (columnsOf b) (openTold (columnsOf a) (columnsOf b) k ends ends' (blank k)) (blank k) jobs entries
+    statusIs (columnsOf a) (columnsOf b) (openAnswer (columnsOf a) (columnsOf b) k ends ends' (blank k)) (blank k) jobs entries
 holds (entriesAre k a b n) = eqb (length (kList k a b)) n
 holds (distanceIs s t d) = eqb (squaredDistance s t) d
 

@@ -8,7 +8,8 @@ use Rattle.column.specs.Column.{inserted}
 use Rattle.entry.specs.declared.Entry.{Entry}
 use Rattle.entry.specs.Entry.{offer}
 use Rattle.entry.specs.Results.{Results, results, entriesOf, holding}
-use Rattle.entry.specs.Offered.{Ready, Holds, PlaceOf}
+use Rattle.entry.specs.Internal.{PlaceOf}
+use Rattle.entry.specs.Terms.{Ready, Holds}
 use Rattle.column.proofs.Inserted.{inserted-key}
 use Rattle.entry.proofs.Rank.{length-offer, offer-split, offer-full}
 use Rattle.entry.proofs.Columns.{room-lengths, lengths-room, length-entries, entries-columns, holding-self}

@@ -7,7 +7,8 @@ use lib.ListN.{getD}
 use Rattle.entry.specs.declared.Entry.{Entry}
 use Rattle.entry.specs.Entry.{entry, rankBefore}
 use Rattle.entry.specs.Results.{Results, entriesOf}
-use Rattle.entry.specs.Offered.{Ready, PlaceOf}
+use Rattle.entry.specs.Internal.{PlaceOf}
+use Rattle.entry.specs.Terms.{Ready}
 use Rattle.entry.proofs.Columns.{entry-at, length-entries}
 use Rattle.entry.proofs.Rank.{rank-order, insert-split, sorted-front}
 

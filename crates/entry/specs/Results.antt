@@ -5,6 +5,7 @@ use Prim.Native.Nat.{ℕ}
 use lib.Dec.{leb}
 use lib.ListN.{length, take}
 use Rattle.column.specs.Column.{overwritten}
+use Rattle.column.specs.Lent.{Lent, Held, the, _of_}
 use Rattle.entry.specs.declared.Entry.{Entry}
 use Rattle.entry.specs.Entry.{entry}
 
@@ -16,6 +17,10 @@ pub record Results : Type 0 where
 
 abbrev pub results : List ℕ → List ℕ → List ℕ → Results
 results distance first second = record { distance = distance; first = first; second = second }
+
+-- The result columns as they are lent.
+abbrev pub lentResults : Lent (List ℕ) → Lent (List ℕ) → Lent (List ℕ) → Held Results
+lentResults distance first second = the results of distance of first of second
 
 unfoldable pub zipEntries : List ℕ → List ℕ → List ℕ → List Entry
 zipEntries [] is js = []

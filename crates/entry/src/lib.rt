@@ -6,7 +6,8 @@ ghost use Prim.Native.Nat.{suc, min, _≤_, _<_, _-_, _^_};
 ghost use lib.ListN.{length, getD};
 ghost use Rattle.entry.specs.Entry.{entry, rankBefore, lawfulK, offer};
 ghost use Rattle.entry.specs.Results.{results, entriesOf, roomFor};
-ghost use Rattle.entry.specs.Offered.{Ready, Holds, PlaceOf};
+ghost use Rattle.entry.specs.Internal.{PlaceOf};
+ghost use Rattle.entry.specs.Terms.{Ready, Holds};
 
 // A pair with its squared distance.
 pub struct Entry {

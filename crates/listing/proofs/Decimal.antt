@@ -9,7 +9,7 @@ use lib.Dec.{eqb, leb}
 use lib.ListN.{length, getD, length-map}
 use Rattle.order.proofs.Order.{byTest}
 use Rattle.listing.specs.Decimal.{powersBelow, digitAt, trimmed, decimal}
-use Rattle.listing.specs.Put.{Digits}
+use Rattle.listing.specs.Internal.{Digits}
 use Rattle.listing.proofs.Table.{every-at}
 
 -- The table, as the code has it.

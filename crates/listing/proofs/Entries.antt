@@ -15,7 +15,7 @@ use Rattle.entry.specs.Entry.{entry}
 use Rattle.entry.specs.Results.{Results, entriesOf, roomFor}
 use Rattle.entry.proofs.Columns.{room-lengths, length-entries, entry-at}
 use Rattle.listing.specs.Listing.{entryLine, entryLines, heading, entriesText}
-use Rattle.listing.specs.Put.{Put}
+use Rattle.listing.specs.Internal.{Put}
 use Rattle.listing.proofs.Lines.{entry-length, heading-length}
 use Rattle.listing.proofs.Writing.{Writing, put-length, put-then, writing-starts, writing-more, writing-ends}
 

@@ -8,16 +8,15 @@ use Rattle.listing.specs.Listing.{line, numberAt, entryLine, entryLines,
 use Rattle.site_file.specs.Bytes.{word, signed}
 use Rattle.site_file.specs.File.{secondStart, fileLength, startIn, countIn, siteIn, sitesFrom, sitesIn}
 use Rattle.site_file.specs.Calls.{layoutFault, contentsRefusal, readRefusal}
-use Rattle.site.specs.Told.{orElse}
+use Rattle.site.specs.Answer.{orElse}
 use Rattle.site.specs.SiteList.{siteAt}
 use Rattle.site.specs.Refusal.{contentRefusal}
 use Rattle.site.specs.Site.{within, lawfulSite, gap, square, squaredOver, squaredDistance, siteBefore}
 use Rattle.order.specs.Lists.{all, sum}
 use Rattle.order.specs.Order.{lex, ascending}
 use Rattle.order.specs.Best.{insert, inserts, sort, best}
-use Rattle.entry.specs.Entry.{rankBefore, bestK}
+use Rattle.entry.specs.Entry.{rankBefore, bestK, lawfulK}
 use Rattle.sweep.specs.Strip.{placedFrom, whole, pair, product, pairs}
-use Rattle.entry.specs.Entry.{lawfulK}
 
 -- 0, a number with a zero inside, and the greatest of 64 bits.
 decimals : (decimal 0 ≡ 48 ∷ []) × (decimal 1_024 ≡ 49 ∷ 48 ∷ 50 ∷ 52 ∷ []) × (decimal 18_446_744_073_709_551_615 ≡ 49 ∷ 56 ∷ 52 ∷ 52 ∷ 54 ∷ 55 ∷ 52 ∷ 52 ∷ 48 ∷ 55 ∷ 51 ∷ 55 ∷ 48 ∷ 57 ∷ 53 ∷ 53 ∷ 49 ∷ 54 ∷ 49 ∷ 53 ∷ [])

@@ -8,7 +8,7 @@ use lib.ListN.{length, drop, getD, set, length-append, length-drop, drop-of-leng
 use lib.Seq.{drop-cons}
 use Rattle.listing.specs.Decimal.{decimal}
 use Rattle.listing.specs.Listing.{line, pairsWord, ofWord, refusedWord, entryLine, heading, refusedText}
-use Rattle.listing.specs.Put.{Put}
+use Rattle.listing.specs.Internal.{Put}
 use Rattle.listing.proofs.Decimal.{decimal-length}
 use Rattle.listing.proofs.Writing.{Writing, put-byte, put-length, put-then, writing-starts, writing-room, writing-more, writing-ends}
 

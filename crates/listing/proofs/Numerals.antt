@@ -5,7 +5,7 @@ use Prim.Native.Nat.{ℕ, zero, suc, _+_, _-_, _^_, _≤_, _<_}
 use native.Mathlib.Omega.{arith}
 use lib.ListN.{length, set, length-map}
 use Rattle.listing.specs.Decimal.{powersBelow, digitAt, decimal}
-use Rattle.listing.specs.Put.{Put, Digits}
+use Rattle.listing.specs.Internal.{Put, Digits}
 use Rattle.listing.proofs.Decimal.{length-powers, decimal-length}
 use Rattle.listing.proofs.Writing.{Writing, put-byte, writing-starts, writing-room, writing-more, writing-ends}
 

@@ -12,7 +12,7 @@ use mir.Val.{SFits, toZ, ofZ}
 use mir.Facts.{toZ-ofZ}
 use Rattle.site.specs.declared.Site.{Site}
 use Rattle.site.specs.SiteList.{Columns, columns, sites, siteAt, columnsOf}
-use Rattle.site.specs.Told.{refused, answered, orElse}
+use Rattle.site.specs.Answer.{refused, answered, orElse}
 use Rattle.site.specs.Refusal.{listsRefusal}
 use Rattle.site.proofs.Columns.{nowhere, columns-sites}
 use Rattle.site_file.specs.declared.Which.{Which}
@@ -20,12 +20,12 @@ use Rattle.site_file.specs.declared.Which.the-variants.{First, Second}
 use Rattle.site_file.specs.declared.SiteRead.{SiteRead}
 use Rattle.site_file.specs.declared.SiteRead.the-variants.{Found, Refused}
 use Rattle.site_file.specs.File.{countIn, sitesIn}
-use Rattle.site_file.specs.Calls.{contentsRefusal, siteTold, siteReadTold}
+use Rattle.site_file.specs.Calls.{contentsRefusal, siteAnswer, siteReadAnswer}
 use Rattle.site_file.proofs.File.{list-length}
 use Rattle.site_file.proofs.Contents.{inside, read-laid, site-found}
 use Rattle.site_file.proofs.Bodies.{columns-accepted}
 use Rattle.listing.specs.Listing.{listingText}
-use Rattle.listing.specs.Put.{Put, Lawful, Sized, FileLists}
+use Rattle.listing.specs.Internal.{Put, Lawful, Sized, FileLists}
 
 -- ---- one column, any element
 
@@ -63,18 +63,18 @@ module _ (i : ℕ) {s t : Site} (e : s ≡ t) where
   number-stored ns = ap (set ns i) (ap (λ r. r .number) e)
 
 -- A place of an accepted file is never refused: the site there is read.
-module _ (file : List ℕ) (w : Which) (i : ℕ) (r : SiteRead) (told : siteReadTold r ≡ siteTold file w i) (none : contentsRefusal file ≡ 0) (h : i < countIn file w) where
-  found : siteReadTold r ≡ answered (siteAt (sitesIn file w) i)
+module _ (file : List ℕ) (w : Which) (i : ℕ) (r : SiteRead) (told : siteReadAnswer r ≡ siteAnswer file w i) (none : contentsRefusal file ≡ 0) (h : i < countIn file w) where
+  found : siteReadAnswer r ≡ answered (siteAt (sitesIn file w) i)
   found = told ∙ site-found file w i none h
 
   pub found-site : {s : Site} → r ≡ Found s → s ≡ siteAt (sitesIn file w) i
-  unfolding siteReadTold
-  found-site {s} e = let same : answered s ≡ answered (siteAt (sitesIn file w) i) = sym (ap siteReadTold e) ∙ found in cc
+  unfolding siteReadAnswer
+  found-site {s} e = let same : answered s ≡ answered (siteAt (sitesIn file w) i) = sym (ap siteReadAnswer e) ∙ found in cc
 
   pub found-always : {n : ℕ} → r ≡ Refused n → ⊥
-  unfolding siteReadTold
+  unfolding siteReadAnswer
   found-always {n} e =
-      let never : refused n ≡ answered (siteAt (sitesIn file w) i) = sym (ap siteReadTold e) ∙ found in
+      let never : refused n ≡ answered (siteAt (sitesIn file w) i) = sym (ap siteReadAnswer e) ∙ found in
       let z : _≡_ {A = ℕ} 0 1 = cc in
       omega arith
 

@@ -9,10 +9,11 @@ use borrow.Author.Tests.{ltb-true, ltb-false}
 use lib.Dec.{ltb}
 use Rattle.order.proofs.Order.{byTest}
 use Rattle.order.proofs.Best.{length-best}
-use Rattle.site.specs.SiteList.{Columns, Level, sites, siteAt}
-use Rattle.site.specs.Told.{orElse, unlessRefused}
+use Rattle.site.specs.SiteList.{Columns, sites, siteAt}
+use Rattle.site.specs.Terms.{Level}
+use Rattle.site.specs.Answer.{orElse, unlessRefused}
 use Rattle.site.specs.Refusal.{listRefusal}
-use Rattle.site.proofs.Told.{answer-told, refusal-told}
+use Rattle.site.proofs.Answer.{answered-values, refused-number}
 use Rattle.site.proofs.Accepted.{accepted-level, accepted-few, both-accepted}
 use Rattle.site.proofs.Columns.{nowhere, sites-length, site-at}
 use Rattle.entry.specs.declared.Entry.{Entry}
@@ -27,8 +28,8 @@ use Rattle.sweep.specs.Strip.{allPairs}
 use Rattle.sweep.proofs.PlaceLaws.{length-whole-pairs}
 use Rattle.pairs.specs.declared.Listed.{Listed}
 use Rattle.pairs.specs.declared.Listed.the-variants.{Entries, Refused}
-use Rattle.pairs.specs.KList.{kList, kListRefusal, kListResults, kListTold, listedTold}
-use Rattle.listing.specs.Put.{Put, Lawful}
+use Rattle.pairs.specs.KList.{kList, kListRefusal, kListResults, kListAnswer, listedAnswer}
+use Rattle.listing.specs.Internal.{Put, Lawful}
 use Rattle.listing.specs.Listing.{numberAt, entryLines, entriesText, listingText}
 
 -- A site's number stands in the column of numbers.
@@ -90,15 +91,15 @@ module _ (way : Way) (a b : Columns) (k : ℕ) (r : Results) {buffer : List ℕ}
   second : (length (b .number) ≤ 65_535) × Level b
   second = level b (both-accepted a b (lawful .lists) .1)
 
-  module _ {l : Listed} (told : listedTold l ≡ kListTold way a b k r) where
+  module _ {l : Listed} (told : listedAnswer l ≡ kListAnswer way a b k r) where
     pub never-refused : {n : ℕ} → l ≡ Refused n → ⊥
-    unfolding listedTold kListTold
-    never-refused {n} e = refusal-told (kListRefusal a b k r) n _ (sym (ap listedTold e) ∙ told) .1 none
+    unfolding listedAnswer kListAnswer
+    never-refused {n} e = refused-number (kListRefusal a b k r) n _ (sym (ap listedAnswer e) ∙ told) .1 none
 
     entries-count : {count : ℕ} {looks : Looks} {distances : Distances} → l ≡ Entries count looks distances → count ≡ length found
-    unfolding listedTold kListTold found
+    unfolding listedAnswer kListAnswer found
     entries-count e =
-        ap (λ v. v .count) (sym (answer-told (kListRefusal a b k r) _ _ (sym told ∙ ap listedTold e) .1))
+        ap (λ v. v .count) (sym (answered-values (kListRefusal a b k r) _ _ (sym told ∙ ap listedAnswer e) .1))
 
     module _ {count : ℕ} {looks : Looks} {distances : Distances} (e : l ≡ Entries count looks distances) {s : Results} (held : s ≡ kListResults a b k r) where
       columns-held : s ≡ holding found r

@@ -7,8 +7,8 @@ use native.Mathlib.Omega.{arith}
 use borrow.Author.Tests.{lt-ltb, le-ltb, ltb-false}
 use lib.Dec.{ltb}
 use lib.ListN.{length, take, drop, length-drop}
-use Rattle.site.specs.Told.{refuseIf, orElse}
-use Rattle.site.proofs.Told.{answer-told, refusal-told, first-refused, next-decides, orElse-first, orElse-second, no-fault, fault-none}
+use Rattle.site.specs.Answer.{refuseIf, orElse}
+use Rattle.site.proofs.Answer.{answered-values, refused-number, first-refused, next-decides, orElse-first, orElse-second, no-fault, fault-none}
 use Rattle.column.specs.Column.{overwritten}
 use Rattle.column.proofs.Stored.{stored-start}
 use Rattle.entry.specs.Entry.{lawfulK}
@@ -17,20 +17,20 @@ use Rattle.site_file.specs.declared.Which.the-variants.{First, Second}
 use Rattle.site_file.specs.File.{sitesIn}
 use Rattle.site_file.specs.declared.FileRead.{FileRead}
 use Rattle.site_file.specs.declared.FileRead.the-variants.{Counts, Refused}
-use Rattle.site_file.specs.Calls.{readRefusal, readTold, fileReadTold}
+use Rattle.site_file.specs.Calls.{readRefusal, readAnswer, fileReadAnswer}
 use Rattle.site_file.proofs.Words.{rest-of}
 use Rattle.listing.specs.Listing.{listingRefusal, listingText, refusedText, listing}
-use Rattle.listing.specs.Put.{Put, FileLists}
+use Rattle.listing.specs.Internal.{Put, FileLists}
 
 -- What reading a file says of its refusal.
-module _ (file : List ℕ) {r : FileRead} (e : fileReadTold r ≡ readTold file) where
+module _ (file : List ℕ) {r : FileRead} (e : fileReadAnswer r ≡ readAnswer file) where
   pub read-none : {a b : ℕ} → r ≡ Counts a b → 0 ≡ readRefusal file
-  unfolding fileReadTold readTold
-  read-none q = sym (answer-told (readRefusal file) _ _ (sym e ∙ ap fileReadTold q) .0)
+  unfolding fileReadAnswer readAnswer
+  read-none q = sym (answered-values (readRefusal file) _ _ (sym e ∙ ap fileReadAnswer q) .0)
 
   pub read-number : {n : ℕ} → r ≡ Refused n → n ≡ readRefusal file
-  unfolding fileReadTold readTold
-  read-number {n} q = refusal-told (readRefusal file) n _ (sym (ap fileReadTold q) ∙ e) .0
+  unfolding fileReadAnswer readAnswer
+  read-number {n} q = refused-number (readRefusal file) n _ (sym (ap fileReadAnswer q) ∙ e) .0
 
 -- ---- the tests in their order
 

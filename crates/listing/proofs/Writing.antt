@@ -6,7 +6,7 @@ use native.Mathlib.Omega.{arith}
 use lib.ListN.{length, set, length-append}
 use Rattle.column.specs.Column.{stored}
 use Rattle.column.proofs.Stored.{stored-length, stored-none, stored-after, sets-stored}
-use Rattle.listing.specs.Put.{Put}
+use Rattle.listing.specs.Internal.{Put}
 
 -- Of a text that fits from `at` on, all but `left` is written, up to `next`.
 pub record Writing (at : ℕ) (text before left now : List ℕ) (next : ℕ) : Type 0 where

@@ -1,4 +1,5 @@
--- What a reader must believe of the case listing; the laws are in `proofs/`.
+-- What a reader must believe of the case listing. The laws are in `proofs/`.
 pub mod Decimal
 pub mod Listing
-pub mod Put
+-- Nothing to believe: terms that only this crate's functions cite.
+pub mod Internal

@@ -5,12 +5,11 @@ use Prim.Native.Nat.{ℕ, zero, suc}
 use lib.Dec.{ltb}
 use lib.ListN.{length, drop}
 use Rattle.site.specs.declared.Site.{Site}
-use Rattle.site.specs.Told.{refuseIf, orElse}
+use Rattle.site.specs.Answer.{refuseIf, orElse}
 use Rattle.site.specs.SiteList.{siteAt}
 use Rattle.entry.specs.declared.Entry.{Entry}
-use Rattle.entry.specs.Entry.{bestK}
+use Rattle.entry.specs.Entry.{bestK, lawfulK}
 use Rattle.sweep.specs.Strip.{allPairs}
-use Rattle.entry.specs.Entry.{lawfulK}
 use Rattle.site_file.specs.declared.Which.the-variants.{First, Second}
 use Rattle.site_file.specs.Bytes.{word}
 use Rattle.site_file.specs.File.{sitesIn}

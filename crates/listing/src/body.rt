@@ -6,7 +6,7 @@ ghost use Prim.Native.Nat.{suc, _+_, _*_, _≤_, _<_};
 ghost use lib.ListN.{length, getD};
 ghost use Rattle.entry.specs.Results.{results, entriesOf, roomFor};
 ghost use Rattle.listing.specs.Listing.{entryLine, entryLines, entriesText};
-ghost use Rattle.listing.specs.Put.{Put};
+ghost use Rattle.listing.specs.Internal.{Put};
 
 // The number at a place of a column, 0 past its end.
 fn number_at(numbers: &[u32], place: u32) -> u32

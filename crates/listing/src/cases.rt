@@ -15,7 +15,7 @@ ghost use Rattle.column.specs.Column.{overwritten};
 ghost use Rattle.entry.specs.Results.{results, roomFor};
 ghost use Rattle.site_file.specs.File.{countIn, sitesIn};
 ghost use Rattle.listing.specs.Listing.{listingText, listing};
-ghost use Rattle.listing.specs.Put.{Put, Lawful, Sized, FileLists};
+ghost use Rattle.listing.specs.Internal.{Put, Lawful, Sized, FileLists};
 
 // Writes the text for two lists, whose K list the result columns take: the position past it.
 fn list_with(

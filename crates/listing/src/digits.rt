@@ -3,7 +3,7 @@ ghost use mathlib.Core.Path.{_≡_};
 ghost use Prim.Native.Nat.{_+_, _^_, _≤_, _<_};
 ghost use lib.ListN.{length};
 ghost use Rattle.listing.specs.Decimal.{decimal, digitAt};
-ghost use Rattle.listing.specs.Put.{Put, Digits};
+ghost use Rattle.listing.specs.Internal.{Put, Digits};
 
 // The twenty powers of ten from 1 to 10,000,000,000,000,000,000.
 const POWERS: [u64; 20] = [

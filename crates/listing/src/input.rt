@@ -9,7 +9,7 @@ ghost use Rattle.site.specs.SiteList.{columns, siteAt, columnsOf};
 ghost use Rattle.site_file.specs.File.{countIn, sitesIn};
 ghost use Rattle.site_file.specs.Calls.{contentsRefusal, readRefusal};
 ghost use Rattle.listing.specs.Listing.{listingRefusal};
-ghost use Rattle.listing.specs.Put.{Sized};
+ghost use Rattle.listing.specs.Internal.{Sized};
 
 // Reads the site at place `i` of a list of a file into that place of three columns.
 fn read_site(file: &[u8], which: Which, x: &mut [i32], y: &mut [i32], number: &mut [u32], i: usize)

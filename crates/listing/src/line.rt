@@ -5,7 +5,7 @@ ghost use Prim.Native.Nat.{_+_, _≤_};
 ghost use lib.ListN.{length};
 ghost use Rattle.listing.specs.Decimal.{decimal};
 ghost use Rattle.listing.specs.Listing.{entryLine, heading, refusedText};
-ghost use Rattle.listing.specs.Put.{Put};
+ghost use Rattle.listing.specs.Internal.{Put};
 
 // Writes some bytes: the position past them.
 fn put_bytes(out: &mut [u8], at: usize, text: &[u8]) -> usize

@@ -6,7 +6,7 @@ use Prim.Native.Nat.{ℕ, zero, suc, _+_, min}
 use native.Mathlib.Omega.{arith}
 use lib.ListN.{length, take, length-take}
 use lib.Seq.{take-take}
-use Rattle.order.specs.Order.{StrictOrder}
+use Rattle.order.specs.Terms.{StrictOrder}
 use Rattle.order.specs.Best.{insert, inserts, sort, best}
 use Rattle.order.proofs.Order.{byTest}
 

@@ -8,10 +8,9 @@ use native.Mathlib.Omega.{arith}
 use lib.Dec.{ltb}
 use lib.ListN.{length, take, drop, getD, take-append-drop, length-take, length-drop}
 use borrow.Author.Tests.{le-ltb}
-use Rattle.order.specs.Order.{StrictOrder}
+use Rattle.order.specs.Terms.{StrictOrder, Sorted, Ascends}
 use Rattle.order.specs.Lists.{All, Distinct}
 use Rattle.order.specs.Best.{sort, best, sortNumbers}
-use Rattle.order.specs.Sorted.{Sorted, Ascends}
 use Rattle.order.proofs.Order.{byTest, irrefl, weak-trans, ltb-order}
 use Rattle.order.proofs.Lists.{all-mem, mem-all, mem-length, all-map, all-weaken, perm-map, mem-parts}
 use Rattle.order.proofs.Best.{length-sort, length-best, sort-perm}

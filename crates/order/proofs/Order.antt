@@ -7,7 +7,8 @@ use lib.Dec.{ltb}
 use lib.IntN.{ℤ, pos, negsuc}
 use lib.Signed.{ltZ}
 use borrow.Author.Tests.{ltb-true, ltb-false, lt-ltb, le-ltb}
-use Rattle.order.specs.Order.{StrictOrder, on, lex}
+use Rattle.order.specs.Order.{on, lex}
+use Rattle.order.specs.Terms.{StrictOrder}
 
 -- A proof by the two values of a test.
 pub byTest : {P : Type 0} → (b : Bool) → (b ≡ true → P) → (b ≡ false → P) → P

@@ -1,5 +1,6 @@
--- What a reader must believe of orders and lists; the laws are in `proofs/`.
+-- What a reader must believe of orders and lists. The laws are in `proofs/`.
 pub mod Order
 pub mod Best
 pub mod Lists
-pub mod Sorted
+-- Nothing to believe: terms of contracts that other crates cite.
+pub mod Terms

@@ -1,13 +1,6 @@
 -- Orders as tests: `before a b` says whether `a` comes before `b`.
-use mathlib.Core.Path.{_≡_}
 use mathlib.Core.Bool.{Bool, true, false, cond, _&&_}
 use mathlib.Core.List.{List, [], _∷_}
-
--- A strict total order: never both ways, transitive, and two elements of which neither comes first are the same.
-pub record StrictOrder {A : Type 0} (before : A → A → Bool) : Type 0 where
-  pub asym : (a b : A) → before a b ≡ true → before b a ≡ false
-  pub trans : (a b c : A) → before a b ≡ true → before b c ≡ true → before a c ≡ true
-  pub total : (a b : A) → before a b ≡ false → before b a ≡ false → a ≡ b
 
 -- A test of two things by a test of their keys.
 abbrev pub on : {A K : Type 0} → (K → K → Bool) → (A → K) → A → A → Bool

@@ -7,15 +7,14 @@ use native.Mathlib.Omega.{arith}
 use borrow.Author.Tests.{lt-ltb, le-ltb, ltb-false}
 use lib.ListN.{length}
 use Rattle.column.proofs.Stored.{stored-start}
-use Rattle.site.specs.Told.{refused, answered}
+use Rattle.site.specs.Answer.{refused, answered}
 use Rattle.site.specs.SiteList.{Columns, sites}
 use Rattle.site.specs.Refusal.{listsRefusal}
-use Rattle.site.proofs.Told.{told, told-refused, unless-kept, unless-done}
-use Rattle.site.proofs.Told.{first-refused, next-decides, orElse-first, orElse-second, no-fault}
+use Rattle.site.proofs.Answer.{answer-values, answer-refused, unless-kept, unless-done, first-refused, next-decides, orElse-first, orElse-second, no-fault}
 use Rattle.site.proofs.Accepted.{accepted-level, both-accepted}
 use Rattle.entry.specs.declared.Entry.{Entry}
-use Rattle.pairs.specs.DistanceList.{distanceList, distanceRefusal, distanceFirst, distanceSecond, distanceTold}
-use Rattle.pairs.specs.Run.{InOrder, nearPairs, Room, Written}
+use Rattle.pairs.specs.DistanceList.{distanceList, distanceRefusal, distanceFirst, distanceSecond, distanceAnswer}
+use Rattle.pairs.specs.Internal.{InOrder, nearPairs, Room, Written}
 use Rattle.pairs.proofs.Offsets.{in-order}
 use Rattle.pairs.proofs.DistanceRows.{list-is}
 
@@ -71,19 +70,19 @@ module _ (a b : Columns) (e : ℕ) (first second : List ℕ) where
 
   -- The answer and the columns.
   pub refused-is : {r : ℕ} → r ≡ distanceRefusal a b e first second → (r ≡ 0 → ⊥)
-      → (refused r ≡ distanceTold a b e first second)
+      → (refused r ≡ distanceAnswer a b e first second)
       × ((first ≡ distanceFirst a b e first second) × (second ≡ distanceSecond a b e first second))
-  unfolding distanceTold distanceFirst distanceSecond
-  refused-is p h = (told-refused _ p h, (unless-kept first _ p h, unless-kept second _ p h))
+  unfolding distanceAnswer distanceFirst distanceSecond
+  refused-is p h = (answer-refused _ p h, (unless-kept first _ p h, unless-kept second _ p h))
 
   pub answered-is : {n : ℕ} {first′ second′ : List ℕ} → distanceRefusal a b e first second ≡ 0
       → Written near 0 first second first′ second′ n
-      → (answered n ≡ distanceTold a b e first second)
+      → (answered n ≡ distanceAnswer a b e first second)
       × ((first′ ≡ distanceFirst a b e first second) × (second′ ≡ distanceSecond a b e first second))
-  unfolding distanceTold distanceFirst distanceSecond
+  unfolding distanceAnswer distanceFirst distanceSecond
   answered-is {n} {first′} {second′} ok w =
       let v : Written listed 0 first second first′ second′ n = rw (both-listed e a b (accepted-lists ok)) w in (
-        ap answered (v .count ∙ zero-add (length listed)) ∙ told ok,
+        ap answered (v .count ∙ zero-add (length listed)) ∙ answer-values ok,
         (
           v .in-first ∙ stored-start (map (λ p. p .first) listed) first ∙ unless-done first _ refl ok,
           v .in-second ∙ stored-start (map (λ p. p .second) listed) second ∙ unless-done second _ refl ok,

@@ -5,13 +5,12 @@ use mathlib.Core.List.{List, []}
 use Prim.Native.Nat.{ℕ}
 use native.Mathlib.Omega.{arith}
 use lib.ListN.{length}
-use Rattle.order.specs.Sorted.{Sorted}
+use Rattle.order.specs.Terms.{Sorted}
 use Rattle.order.proofs.Best.{best-nil}
-use Rattle.site.specs.Told.{Told, refused, answered, refuseIf, orElse}
+use Rattle.site.specs.Answer.{Answer, refused, answered, refuseIf, orElse}
 use Rattle.site.specs.SiteList.{Columns, sites}
 use Rattle.site.specs.Refusal.{listRefusal, listsRefusal}
-use Rattle.site.proofs.Told.{told, told-refused, unless-kept, unless-done}
-use Rattle.site.proofs.Told.{first-refused, next-decides, orElse-first, orElse-second, fault-none}
+use Rattle.site.proofs.Answer.{answer-values, answer-refused, unless-kept, unless-done, first-refused, next-decides, orElse-first, orElse-second, fault-none}
 use Rattle.site.proofs.Accepted.{accepted-level, accepted-length, accepted-order, accepted-coordinates, both-accepted}
 use Rattle.entry.specs.declared.Entry.{Entry}
 use Rattle.entry.specs.Entry.{rankBefore, bestK, lawfulK}
@@ -25,7 +24,7 @@ use Rattle.sweep.specs.Sweep.{sweep}
 use Rattle.sweep.specs.Terms.{SweepAsked, SweptTo, SweptStrips}
 use Rattle.sweep.proofs.PlaceLaws.{strip-whole}
 use Rattle.sweep.proofs.SweepLaws.{sweep-whole-best}
-use Rattle.pairs.specs.KList.{kList, kListRefusal, kListResults, Counts, kListTold}
+use Rattle.pairs.specs.KList.{kList, kListRefusal, kListResults, Counts, kListAnswer}
 
 sorted-none : (r : Results) → Sorted rankBefore (entriesOf 0 r)
 unfolding entriesOf Sorted
@@ -69,9 +68,9 @@ module _ (a b : Columns) (k : ℕ) (r : Results) where
       k-accepted g = next-decides p none (next-decides {q = 0} (rw (← l, h)) refl (rw (← m, g)))
 
   pub k-refused : (way : Way) {n : ℕ} → n ≡ kListRefusal a b k r → (n ≡ 0 → ⊥)
-      → (refused n ≡ kListTold way a b k r) × (r ≡ kListResults a b k r)
-  unfolding kListTold kListResults
-  k-refused way p h = (told-refused _ p h, unless-kept r _ p h)
+      → (refused n ≡ kListAnswer way a b k r) × (r ≡ kListResults a b k r)
+  unfolding kListAnswer kListResults
+  k-refused way p h = (answer-refused _ p h, unless-kept r _ p h)
 
   -- What no refusal tells.
   module _ (ok : kListRefusal a b k r ≡ 0) where
@@ -112,14 +111,14 @@ module _ (a b : Columns) (k : ℕ) (r : Results) where
     pub swept-is : (way : Way) {after : Results} {answer : Swept}
         → SweptStrips way (a .x) (a .y) (b .x) (b .y) 0 (length (a .x)) 0 (length (b .x)) k 0 r after answer
         → (answered (record { count = answer .entries; looks = answer .looks .0; distances = answer .distances .0 })
-        ≡ kListTold way a b k r) × (after ≡ kListResults a b k r)
-    unfolding kListTold kListResults
+        ≡ kListAnswer way a b k r) × (after ≡ kListResults a b k r)
+    unfolding kListAnswer kListResults
     swept-is way {after} {answer} w =
         let s = sweep way k (whole (sites a)) (whole (sites b)) [] in
         let l = lists-accepted in
         let u = w .numbered (a .number) (b .number) (accepted-level a (l .0)) (accepted-level b (l .1)) in
         let v : SweptTo s r after answer = subst (λ (t : State). SweptTo t r after answer) (over-whole way) u in
         let e = sweep-k-list way k a b (l .0) (l .1) in (
-          ap {B = Told Counts} answered (counts-are s (kList k (sites a) (sites b)) e v) ∙ told ok,
+          ap {B = Answer Counts} answered (counts-are s (kList k (sites a) (sites b)) e v) ∙ answer-values ok,
           v .columns ∙ ap (λ (t : List Entry). holding t r) e ∙ unless-done r _ refl ok,
         )

@@ -14,7 +14,7 @@ use mir.Syntax.{w32, w64}
 use mir.Val.{Fits}
 use Rattle.site.specs.declared.Site.{Site}
 use Rattle.site.specs.Site.{within, gap, square, squaredDistance}
-use Rattle.order.specs.Sorted.{Sorted}
+use Rattle.order.specs.Terms.{Sorted}
 use Rattle.order.proofs.Lists.{all-at}
 use Rattle.site.specs.SiteList.{Columns, site, sites}
 use Rattle.site.specs.Refusal.{listRefusal}
@@ -27,7 +27,7 @@ use Rattle.sweep.specs.Strip.{Placed, whole}
 use Rattle.sweep.proofs.PlaceLaws.{length-whole, whole-at}
 use Rattle.sweep.proofs.StripLaws.{leftOf, whole-sorted}
 use Rattle.pairs.specs.declared.Run.{Run}
-use Rattle.pairs.specs.Run.{offset, offsetAt, Rising, InOrder, Skipped, Behind, RunOf, near}
+use Rattle.pairs.specs.Internal.{offset, offsetAt, Rising, InOrder, Skipped, Behind, RunOf, near}
 
 within-tests : (x : ℤ) → within x ≡ true → (leZ (negsuc 999_999_999) x && leZ x (pos 1_000_000_000)) ≡ true
 unfolding within

@@ -11,14 +11,15 @@ use lib.IntN.{ℤ, pos}
 use lib.ListN.{length, getD}
 use Rattle.order.proofs.Lists.{keep-append, keep-yes, keep-no, keep-nil}
 use Rattle.site.specs.Site.{within, square}
-use Rattle.site.specs.SiteList.{Coordinates, site}
+use Rattle.site.specs.SiteList.{site}
+use Rattle.site.specs.Terms.{Coordinates}
 use Rattle.site.proofs.Cases.{byTest}
 use Rattle.site.proofs.Accepted.{coordinate-x, coordinate-y}
 use Rattle.sweep.specs.Strip.{Placed}
-use Rattle.sweep.specs.Runs.{spot, rightward}
+use Rattle.sweep.specs.Terms.{spot, rightward}
 use Rattle.sweep.proofs.RunLaws.{rightward-nil, rightward-cons}
 use Rattle.pairs.specs.declared.Run.{Run}
-use Rattle.pairs.specs.Run.{RunOf, near, nearSites, Reference}
+use Rattle.pairs.specs.Internal.{RunOf, near, nearSites, Reference}
 use Rattle.pairs.proofs.Offsets.{far-left, far-right, far}
 
 module _ (limit : ℕ) (x y : ℤ) (xs ys : List ℤ) where

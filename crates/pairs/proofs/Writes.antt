@@ -7,7 +7,7 @@ use lib.ListN.{length, set, length-append, length-map}
 use Rattle.column.specs.Column.{stored}
 use Rattle.column.proofs.Stored.{stored-length, stored-none, stored-after, sets-stored}
 use Rattle.entry.specs.declared.Entry.{Entry}
-use Rattle.pairs.specs.Run.{Room, Written}
+use Rattle.pairs.specs.Internal.{Room, Written}
 
 module _ {n r : ℕ} {f s f′ s′ : List ℕ} where
   -- No pair.

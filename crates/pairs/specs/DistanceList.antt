@@ -6,7 +6,7 @@ use lib.ListN.{length}
 use Rattle.order.specs.Lists.{keep}
 use Rattle.column.specs.Column.{overwritten}
 use Rattle.site.specs.declared.Site.{Site}
-use Rattle.site.specs.Told.{Told, refused, answered, tell, unlessRefused, refuseIf, orElse}
+use Rattle.site.specs.Answer.{Answer, refused, answered, answerUnless, unlessRefused, refuseIf, orElse}
 use Rattle.site.specs.Site.{square}
 use Rattle.site.specs.SiteList.{Columns, sites}
 use Rattle.site.specs.Refusal.{listsRefusal}
@@ -37,11 +37,11 @@ distanceSecond a b e first second =
     (overwritten (map (λ p. p .second) (distanceList e (sites a) (sites b))) second)
 
 -- "Its count is the exact number of pairs", or the refusal.
-unfoldable pub distanceTold : Columns → Columns → ℕ → List ℕ → List ℕ → Told ℕ
-distanceTold a b e first second =
-    tell (distanceRefusal a b e first second) (length (distanceList e (sites a) (sites b)))
+unfoldable pub distanceAnswer : Columns → Columns → ℕ → List ℕ → List ℕ → Answer ℕ
+distanceAnswer a b e first second =
+    answerUnless (distanceRefusal a b e first second) (length (distanceList e (sites a) (sites b)))
 
 -- The paper's number and value for each case of the answer.
-unfoldable pub withinTold : Within → Told ℕ
-withinTold (Pairs count) = answered count
-withinTold (Refused number) = refused number
+unfoldable pub withinAnswer : Within → Answer ℕ
+withinAnswer (Pairs count) = answered count
+withinAnswer (Refused number) = refused number

@@ -4,7 +4,7 @@ use mathlib.Core.List.{List, []}
 use Prim.Native.Nat.{ℕ}
 use lib.ListN.{length}
 use Rattle.site.specs.declared.Site.{Site}
-use Rattle.site.specs.Told.{Told, refused, answered, tell, unlessRefused, refuseIf, orElse}
+use Rattle.site.specs.Answer.{Answer, refused, answered, answerUnless, unlessRefused, refuseIf, orElse}
 use Rattle.site.specs.SiteList.{Columns, sites}
 use Rattle.site.specs.Refusal.{listsRefusal}
 use Rattle.entry.specs.declared.Entry.{Entry}
@@ -35,10 +35,10 @@ pub record Counts : Type 0 where
   pub looks : ℕ
   pub distances : ℕ
 
-unfoldable pub kListTold : Way → Columns → Columns → ℕ → Results → Told Counts
-kListTold way a b k r =
+unfoldable pub kListAnswer : Way → Columns → Columns → ℕ → Results → Answer Counts
+kListAnswer way a b k r =
     let swept = sweep way k (whole (sites a)) (whole (sites b)) [] in
-    tell (kListRefusal a b k r)
+    answerUnless (kListRefusal a b k r)
     (record {
       count = length (kList k (sites a) (sites b));
       looks = swept .looks;
@@ -46,7 +46,7 @@ kListTold way a b k r =
     })
 
 -- The paper's number and values for each case of the answer.
-unfoldable pub listedTold : Listed → Told Counts
-listedTold (Entries count looks distances) =
+unfoldable pub listedAnswer : Listed → Answer Counts
+listedAnswer (Entries count looks distances) =
     answered (record { count = count; looks = looks .0; distances = distances .0 })
-listedTold (Refused number) = refused number
+listedAnswer (Refused number) = refused number

@@ -1,4 +1,5 @@
--- What a reader must believe of the two lists of pairs; the laws are in `proofs/`.
+-- What a reader must believe of the K list and the distance list. The laws are in `proofs/`.
 pub mod KList
 pub mod DistanceList
-pub mod Run
+-- Nothing to believe: terms that only this crate's functions cite.
+pub mod Internal

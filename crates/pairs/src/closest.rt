@@ -4,7 +4,7 @@ use sweep::Way;
 ghost use mathlib.Core.Path.{_≡_};
 ghost use Rattle.site.specs.SiteList.{columns};
 ghost use Rattle.entry.specs.Results.{results};
-ghost use Rattle.pairs.specs.KList.{kListRefusal, kListResults, kListTold, listedTold};
+ghost use Rattle.pairs.specs.KList.{kListRefusal, kListResults, kListAnswer, listedAnswer};
 
 // The refusal of a K list: 1, 2 or 3 of the first list, else of the second, then 4 for K, then 6 for columns too short; 0 for none.
 fn k_list_refusal(
@@ -56,7 +56,7 @@ pub fn k_list(
         let b = columns (now (bx .entry)) (now (by .entry)) (now (bn .entry)) in
         let before = results (now (distance .entry)) (now (first .entry)) (now (second .entry)) in
         let after = results (now (distance .exit)) (now (first .exit)) (now (second .exit)) in
-        ⌜ (listedTold r ≡ kListTold way a b k before) × (after ≡ kListResults a b k before) ⌝ }
+        ⌜ (listedAnswer r ≡ kListAnswer way a b k before) × (after ≡ kListResults a b k before) ⌝ }
 {
     let refusal = k_list_refusal(ax, ay, an, bx, by, bn, k, distance, first, second);
     if refusal != 0 {

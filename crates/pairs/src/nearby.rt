@@ -9,9 +9,9 @@ ghost use lib.IntN.{pos};
 ghost use lib.ListN.{length, getD};
 ghost use Rattle.site.specs.Site.{within};
 ghost use Rattle.site.specs.SiteList.{columns, site};
-ghost use Rattle.sweep.specs.Runs.{spotOf};
-ghost use Rattle.pairs.specs.DistanceList.{distanceRefusal, distanceFirst, distanceSecond, distanceTold, withinTold};
-ghost use Rattle.pairs.specs.Run.{InOrder, near, nearSites, rowPairs, nearPairs, Reference, Room, Written};
+ghost use Rattle.sweep.specs.Terms.{spotOf};
+ghost use Rattle.pairs.specs.DistanceList.{distanceRefusal, distanceFirst, distanceSecond, distanceAnswer, withinAnswer};
+ghost use Rattle.pairs.specs.Internal.{InOrder, near, nearSites, rowPairs, nearPairs, Reference, Room, Written};
 
 // Whether a site is near a position: its squared distance is at most `e` squared. A difference of y beyond `e` decides alone.
 fn is_near(x: i32, y: i32, bx: &[i32], by: &[i32], j: usize, e: u32) -> bool
@@ -178,7 +178,7 @@ pub fn distance_list(
         let f = now (first .entry) in
         let s = now (second .entry) in
         ⌜
-        (withinTold r ≡ distanceTold a b e f s)
+        (withinAnswer r ≡ distanceAnswer a b e f s)
         × ((now (first .exit) ≡ distanceFirst a b e f s) × (now (second .exit) ≡ distanceSecond a b e f s))
         ⌝ }
 {

@@ -3,7 +3,7 @@ use super::Run;
 ghost use mathlib.Core.Path.{_≡_};
 ghost use Prim.Native.Nat.{_-_, _≤_, _<_, _^_};
 ghost use lib.ListN.{length};
-ghost use Rattle.pairs.specs.Run.{offset, Rising, Skipped, Behind, RunOf};
+ghost use Rattle.pairs.specs.Internal.{offset, Rising, Skipped, Behind, RunOf};
 
 // How far a coordinate is right of the least `i32`.
 pub(super) fn offset(x: i32) -> u64

@@ -11,16 +11,17 @@ use lib.IntN.{ℤ, pos}
 use lib.ListN.{length, getD}
 use Rattle.order.specs.Order.{ascending}
 use Rattle.order.specs.Lists.{all, All}
-use Rattle.order.specs.Sorted.{Ascends}
+use Rattle.order.specs.Terms.{Ascends}
 use Rattle.order.proofs.Lists.{all-holds, holds-all, all-at}
 use Rattle.order.proofs.Sorted.{ascending-ascends, ascends-ascending}
 use Rattle.site.specs.declared.Site.{Site}
-use Rattle.site.specs.Told.{orElse}
+use Rattle.site.specs.Answer.{orElse}
 use Rattle.site.specs.Site.{within, lawfulSite, siteBefore}
-use Rattle.site.specs.SiteList.{Columns, Level, Coordinates, sites, siteAt}
+use Rattle.site.specs.SiteList.{Columns, sites, siteAt}
+use Rattle.site.specs.Terms.{Level, Coordinates}
 use Rattle.site.specs.Refusal.{equalLengths, sizeFault, contentRefusal, listRefusal, listsRefusal, LawfulList}
 use Rattle.site.proofs.Cases.{and-first, and-second}
-use Rattle.site.proofs.Told.{orElse-first, orElse-second, fault-none}
+use Rattle.site.proofs.Answer.{orElse-first, orElse-second, fault-none}
 use Rattle.site.proofs.SiteOrder.{site-order}
 use Rattle.site.proofs.Columns.{columnsAt, sites-length, site-at}
 use Rattle.site.proofs.Lawful.{lawful-columns, equal-level, content-left}

@@ -9,14 +9,15 @@ use lib.ListN.{length, length-take}
 use Rattle.column.specs.Column.{inserted}
 use Rattle.site.specs.declared.Site.{Site}
 use Rattle.site.specs.declared.Added.the-variants.{At, Refused}
-use Rattle.site.specs.Told.{orElse, unlessRefused}
+use Rattle.site.specs.Answer.{orElse, unlessRefused}
 use Rattle.site.specs.Site.{within, lawfulSite}
-use Rattle.site.specs.SiteList.{Columns, Level, columns, sites, inUse}
+use Rattle.site.specs.SiteList.{Columns, columns, sites, inUse}
+use Rattle.site.specs.Terms.{Level}
 use Rattle.site.specs.Refusal.{equalLengths, contentRefusal, listRefusal}
-use Rattle.site.specs.Addition.{useFault, noRoom, placeOf, present, addRefusal, addedColumns, addTold, addedTold}
+use Rattle.site.specs.Addition.{useFault, noRoom, placeOf, present, addRefusal, addedColumns, addAnswer, addedAnswer}
 use Rattle.site.proofs.Lawful.{lawful-is, level-equal, equal-level, content-left}
 use Rattle.site.proofs.Cases.{or-first, or-second}
-use Rattle.site.proofs.Told.{told, told-refused, first-refused, unless-kept, orElse-first, orElse-second, no-fault, fault-none}
+use Rattle.site.proofs.Answer.{answer-values, answer-refused, first-refused, unless-kept, orElse-first, orElse-second, no-fault, fault-none}
 
 module _ (c : Columns) (n : ℕ) (s : Site) where
   pub add-unequal-y : (length (c .x) ≡ length (c .y) → ⊥) → 1 ≡ addRefusal c n s
@@ -141,19 +142,19 @@ module _ (c : Columns) (n : ℕ) (s : Site) (ok : addRefusal c n s ≡ 0) where
   added-level = equal-level c (not-false (equalLengths c) (or-first (not (equalLengths c)) (ltb 65_535 n || ltb (length (c .x)) n) use-ok))
 
   -- What is told, and what the columns hold.
-  pub added-told : {p : ℕ} → p ≡ placeOf s (sites (inUse n c)) → addedTold (At p (n + 1)) ≡ addTold c n s
-  unfolding addedTold addTold
+  pub added-told : {p : ℕ} → p ≡ placeOf s (sites (inUse n c)) → addedAnswer (At p (n + 1)) ≡ addAnswer c n s
+  unfolding addedAnswer addAnswer
   added-told {p} e =
-      ap (λ (q : ℕ). addedTold (At q (n + 1))) e ∙ told ok
+      ap (λ (q : ℕ). addedAnswer (At q (n + 1))) e ∙ answer-values ok
 
   pub added-columns : {p : ℕ} {d : Columns} → p ≡ placeOf s (sites (inUse n c)) → d ≡ columns (inserted p n (s .x) (c .x)) (inserted p n (s .y) (c .y)) (inserted p n (s .number) (c .number)) → d ≡ addedColumns c n s
   unfolding addedColumns unlessRefused
   added-columns {p} {d} e f = rw ok (f ∙ ap (λ (q : ℕ). columns (inserted q n (s .x) (c .x)) (inserted q n (s .y) (c .y)) (inserted q n (s .number) (c .number))) e)
 
 -- A refused addition changes nothing.
-pub refused-told : (c : Columns) (n : ℕ) (s : Site) {r : ℕ} → r ≡ addRefusal c n s → (r ≡ 0 → ⊥) → addedTold (Refused r) ≡ addTold c n s
-unfolding addedTold addTold
-refused-told c n s e h = told-refused (record { place = placeOf s (sites (inUse n c)); count = n + 1 }) e h
+pub refused-told : (c : Columns) (n : ℕ) (s : Site) {r : ℕ} → r ≡ addRefusal c n s → (r ≡ 0 → ⊥) → addedAnswer (Refused r) ≡ addAnswer c n s
+unfolding addedAnswer addAnswer
+refused-told c n s e h = answer-refused (record { place = placeOf s (sites (inUse n c)); count = n + 1 }) e h
 
 pub refused-columns : (c : Columns) (n : ℕ) (s : Site) {r : ℕ} → r ≡ addRefusal c n s → (r ≡ 0 → ⊥) → c ≡ addedColumns c n s
 unfolding addedColumns

@@ -8,7 +8,8 @@ use lib.IntN.{ℤ, pos}
 use lib.ListN.{length, getD, length-map}
 use Rattle.order.specs.Lists.{All}
 use Rattle.site.specs.declared.Site.{Site}
-use Rattle.site.specs.SiteList.{Columns, Level, site, zipSites, sites, siteAt, columnsOf}
+use Rattle.site.specs.SiteList.{Columns, site, zipSites, sites, siteAt, columnsOf}
+use Rattle.site.specs.Terms.{Level}
 
 zip-length : (xs ys : List ℤ) (ns : List ℕ) → length ys ≡ length xs → length ns ≡ length xs → length (zipSites xs ys ns) ≡ length xs
 unfolding zipSites

@@ -9,7 +9,7 @@ use Rattle.site.specs.Addition.{useFault, placeOf, present, noRoom, addR
 use Rattle.site.specs.Refusal.{equalLengths, sizeFault, contentRefusal, listRefusal, listsRefusal}
 use Rattle.site.specs.Site.{within, lawfulSite, siteBefore}
 use Rattle.site.specs.SiteList.{Columns, columns, site, sites, zipSites, inUse}
-use Rattle.site.specs.Told.{orElse}
+use Rattle.site.specs.Answer.{orElse}
 
 -- Columns of one site each place, by x alone.
 byX : List ℕ → Columns

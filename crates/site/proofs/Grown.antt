@@ -9,19 +9,19 @@ use borrow.Author.Tests.{not-false}
 use lib.IntN.{ℤ}
 use lib.ListN.{length, take, drop, length-append, length-take, length-drop}
 use lib.Seq.{take-at, drop-at, take-add, length-take-le}
-use Rattle.order.specs.Order.{StrictOrder}
+use Rattle.order.specs.Terms.{StrictOrder, Ascends}
 use Rattle.column.specs.Column.{inserted}
 use Rattle.column.proofs.Inserted.{length-inserted}
 use Rattle.order.specs.Lists.{all, keep, All, Distinct}
 use Rattle.order.specs.Best.{insert}
-use Rattle.order.specs.Sorted.{Ascends}
 use Rattle.order.proofs.Order.{byTest, never-both, irrefl}
 use Rattle.order.proofs.Lists.{all-weaken, all-holds, keep-yes, keep-none, perm-all, perm-distinct}
 use Rattle.order.proofs.Best.{insert-nil, insert-later, insert-here}
 use Rattle.order.proofs.Sorted.{insert-is-perm, sorted-insert, ascends-sorted, ascends-distinct, distinct-ascends}
 use Rattle.site.specs.declared.Site.{Site}
 use Rattle.site.specs.Site.{lawfulSite, siteBefore}
-use Rattle.site.specs.SiteList.{Columns, Level, columns, site, zipSites, sites, inUse}
+use Rattle.site.specs.SiteList.{Columns, columns, site, zipSites, sites, inUse}
+use Rattle.site.specs.Terms.{Level}
 use Rattle.site.specs.Refusal.{listRefusal, LawfulList}
 use Rattle.site.specs.Addition.{placeOf, present, addRefusal, addedColumns}
 use Rattle.site.proofs.SiteOrder.{site-order}

@@ -11,9 +11,10 @@ use lib.ListN.{length}
 use Rattle.order.specs.Order.{ascending}
 use Rattle.order.specs.Lists.{all}
 use Rattle.site.specs.declared.Site.{Site}
-use Rattle.site.specs.Told.{orElse}
+use Rattle.site.specs.Answer.{orElse}
 use Rattle.site.specs.Site.{within, lawfulSite, siteBefore}
-use Rattle.site.specs.SiteList.{Columns, Level, zipSites, sites}
+use Rattle.site.specs.SiteList.{Columns, zipSites, sites}
+use Rattle.site.specs.Terms.{Level}
 use Rattle.site.specs.Refusal.{equalLengths, sizeFault, contentRefusal, listRefusal}
 use Rattle.site.proofs.Cases.{and-first, and-second}
 

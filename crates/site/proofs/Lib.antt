@@ -1,6 +1,6 @@
 -- The laws of sites and site lists.
 pub mod Cases
-pub mod Told
+pub mod Answer
 pub mod Integers
 pub mod Distance
 pub mod Machine

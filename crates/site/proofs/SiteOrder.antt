@@ -1,5 +1,5 @@
 -- The order of sites is strict.
-use Rattle.order.specs.Order.{StrictOrder}
+use Rattle.order.specs.Terms.{StrictOrder}
 use Rattle.order.proofs.Order.{strict, lex-order, by-integer, by-number}
 use Rattle.site.specs.declared.Site.{Site}
 use Rattle.site.specs.Site.{siteBefore}

@@ -9,7 +9,7 @@ use Rattle.column.specs.Column.{inserted}
 use Rattle.site.specs.declared.Site.{Site}
 use Rattle.site.specs.declared.Added.{Added}
 use Rattle.site.specs.declared.Added.the-variants.{At, Refused}
-use Rattle.site.specs.Told.{Told, refused, answered, tell, unlessRefused, refuseIf, orElse}
+use Rattle.site.specs.Answer.{Answer, refused, answered, answerUnless, unlessRefused, refuseIf, orElse}
 use Rattle.site.specs.Site.{lawfulSite, siteBefore}
 use Rattle.site.specs.SiteList.{Columns, columns, sites, inUse}
 use Rattle.site.specs.Refusal.{equalLengths, contentRefusal}
@@ -46,11 +46,11 @@ addedColumns c count s =
     (columns (inserted p count (s .x) (c .x)) (inserted p count (s .y) (c .y)) (inserted p count (s .number) (c .number)))
 
 -- "adding, the site's place and the new count in use", or the refusal.
-unfoldable pub addTold : Columns → ℕ → Site → Told (record { place : ℕ; count : ℕ })
-addTold c count s =
-    tell (addRefusal c count s) (record { place = placeOf s (sites (inUse count c)); count = count + 1 })
+unfoldable pub addAnswer : Columns → ℕ → Site → Answer (record { place : ℕ; count : ℕ })
+addAnswer c count s =
+    answerUnless (addRefusal c count s) (record { place = placeOf s (sites (inUse count c)); count = count + 1 })
 
 -- The paper's number and values for each case of the answer.
-unfoldable pub addedTold : Added → Told (record { place : ℕ; count : ℕ })
-addedTold (At place count) = answered (record { place = place; count = count })
-addedTold (Refused number) = refused number
+unfoldable pub addedAnswer : Added → Answer (record { place : ℕ; count : ℕ })
+addedAnswer (At place count) = answered (record { place = place; count = count })
+addedAnswer (Refused number) = refused number

@@ -1,6 +1,8 @@
--- What a reader must believe of sites and site lists; the laws are in `proofs/`.
-pub mod Told
+-- What a reader must believe of sites and site lists. The laws are in `proofs/`.
+pub mod Answer
 pub mod Site
 pub mod SiteList
 pub mod Refusal
 pub mod Addition
+-- Nothing to believe: terms of contracts that other crates cite.
+pub mod Terms

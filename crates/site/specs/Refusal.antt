@@ -7,13 +7,14 @@ use lib.Dec.{leb, eqb}
 use lib.ListN.{length}
 use Rattle.order.specs.Order.{ascending}
 use Rattle.order.specs.Lists.{all, All}
-use Rattle.order.specs.Sorted.{Ascends}
+use Rattle.order.specs.Terms.{Ascends}
 use Rattle.site.specs.declared.Site.{Site}
 use Rattle.site.specs.declared.Checked.{Checked}
 use Rattle.site.specs.declared.Checked.the-variants.{Sites, Refused}
-use Rattle.site.specs.Told.{Told, refused, answered, tell, refuseIf, orElse}
+use Rattle.site.specs.Answer.{Answer, refused, answered, answerUnless, refuseIf, orElse}
 use Rattle.site.specs.Site.{lawfulSite, siteBefore}
-use Rattle.site.specs.SiteList.{Columns, Level, sites}
+use Rattle.site.specs.SiteList.{Columns, sites}
+use Rattle.site.specs.Terms.{Level}
 
 unfoldable pub equalLengths : Columns → Bool
 equalLengths c = eqb (length (c .x)) (length (c .y)) && eqb (length (c .x)) (length (c .number))
@@ -42,10 +43,10 @@ unfoldable pub listsRefusal : Columns → Columns → ℕ
 listsRefusal a b = orElse (listRefusal a) (listRefusal b)
 
 -- "a list check, the site count", or the refusal.
-unfoldable pub checkTold : Columns → Told ℕ
-checkTold c = tell (listRefusal c) (length (c .x))
+unfoldable pub checkAnswer : Columns → Answer ℕ
+checkAnswer c = answerUnless (listRefusal c) (length (c .x))
 
 -- The paper's number and value for each case of the answer.
-unfoldable pub checkedTold : Checked → Told ℕ
-checkedTold (Sites count) = answered count
-checkedTold (Refused number) = refused number
+unfoldable pub checkedAnswer : Checked → Answer ℕ
+checkedAnswer (Sites count) = answered count
+checkedAnswer (Refused number) = refused number

@@ -1,13 +1,10 @@
 -- A list of sites in three lent columns.
-use mathlib.Core.Path.{_≡_}
-use mathlib.Core.Bool.{true}
 use mathlib.Core.List.{List, [], _∷_, map}
-use Prim.Native.Nat.{ℕ, _≤_}
+use Prim.Native.Nat.{ℕ}
 use lib.IntN.{ℤ, pos}
-use lib.ListN.{length, take, getD}
-use Rattle.order.specs.Lists.{all}
+use lib.ListN.{take, getD}
+use Rattle.column.specs.Lent.{Lent, Held, the, _of_}
 use Rattle.site.specs.declared.Site.{Site}
-use Rattle.site.specs.Site.{within}
 
 -- The three columns of a list, as they are lent. (01: list.)
 pub record Columns : Type 0 where
@@ -18,10 +15,9 @@ pub record Columns : Type 0 where
 abbrev pub columns : List ℤ → List ℤ → List ℕ → Columns
 columns x y number = record { x = x; y = y; number = number }
 
--- The columns are of one length.
-pub record Level (c : Columns) : Type 0 where
-  pub y : length (c .y) ≡ length (c .x)
-  pub number : length (c .number) ≡ length (c .x)
+-- A list as it is lent.
+abbrev pub lentList : Lent (List ℤ) → Lent (List ℤ) → Lent (List ℕ) → Held Columns
+lentList x y number = the columns of x of y of number
 
 abbrev pub site : ℤ → ℤ → ℕ → Site
 site x y number = record { x = x; y = y; number = number }
@@ -47,15 +43,3 @@ columnsOf l = columns (map (λ s. s .x) l) (map (λ s. s .y) l) (map (λ s. s .n
 -- The first `n` elements of each column: "the sites are those in use".
 unfoldable pub inUse : ℕ → Columns → Columns
 inUse n c = columns (take n (c .x)) (take n (c .y)) (take n (c .number))
-
--- The coordinate columns of a lawful list, whatever the numbers of its sites.
-pub record Coordinates (xs ys : List ℤ) : Type 0 where
-  pub equal : length xs ≡ length ys
-  pub few : length xs ≤ 65_535
-  pub xs-within : all within xs ≡ true
-  pub ys-within : all within ys ≡ true
-
--- What holds of two lists with these coordinates, whatever the numbers of their sites.
-pub record Numbered (ax ay bx by : List ℤ) (holds : List Site → List Site → Type 0) : Type 0 where
-  pub numbered : (an bn : List ℕ) → Level (columns ax ay an) → Level (columns bx by bn)
-      → holds (sites (columns ax ay an)) (sites (columns bx by bn))

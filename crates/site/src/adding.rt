@@ -8,8 +8,9 @@ ghost use Prim.Native.Nat.{_≤_, _<_};
 ghost use lib.ListN.{length};
 ghost use Rattle.column.specs.Column.{inserted};
 ghost use Rattle.site.specs.Site.{siteBefore};
-ghost use Rattle.site.specs.SiteList.{site, columns, Level, sites, siteAt};
-ghost use Rattle.site.specs.Addition.{placeOf, present, addRefusal, addedColumns, addTold, addedTold};
+ghost use Rattle.site.specs.SiteList.{site, columns, sites, siteAt};
+ghost use Rattle.site.specs.Terms.{Level};
+ghost use Rattle.site.specs.Addition.{placeOf, present, addRefusal, addedColumns, addAnswer, addedAnswer};
 
 // 1 where the site at `i` comes before another, else 0.
 fn earlier_at(x: &[i32], y: &[i32], number: &[u32], i: usize, sx: i32, sy: i32, sn: u32) -> u32
@@ -128,7 +129,7 @@ fn insert_site(x: &mut [i32], y: &mut [i32], number: &mut [u32], place: usize, n
 
 // A site at its place, later ones moved up by one. (01: adding a site.)
 pub fn add(x: &mut [i32], y: &mut [i32], number: &mut [u32], count: u32, s: Site) -> Added
-    ensures { λ r. ⌜ addedTold r ≡ addTold (columns (now (x .entry)) (now (y .entry)) (now (number .entry))) count s ⌝ }
+    ensures { λ r. ⌜ addedAnswer r ≡ addAnswer (columns (now (x .entry)) (now (y .entry)) (now (number .entry))) count s ⌝ }
     ensures { λ _. ⌜ columns (now (x .exit)) (now (y .exit)) (now (number .exit)) ≡ addedColumns (columns (now (x .entry)) (now (y .entry)) (now (number .entry))) count s ⌝ }
 {
     let refusal = add_refusal(x, y, number, count, s.x, s.y, s.number);

@@ -8,8 +8,9 @@ ghost use lib.ListN.{length};
 ghost use Rattle.order.specs.Order.{ascending};
 ghost use Rattle.order.specs.Lists.{all};
 ghost use Rattle.site.specs.Site.{within, siteBefore};
-ghost use Rattle.site.specs.SiteList.{site, columns, Level, sites, siteAt};
-ghost use Rattle.site.specs.Refusal.{listRefusal, listsRefusal, checkTold, checkedTold};
+ghost use Rattle.site.specs.SiteList.{site, columns, sites, siteAt};
+ghost use Rattle.site.specs.Terms.{Level};
+ghost use Rattle.site.specs.Refusal.{listRefusal, listsRefusal, checkAnswer, checkedAnswer};
 
 // Whether one site comes before another: by x, then y, then number.
 pub fn before(ax: i32, ay: i32, an: u32, bx: i32, by: i32, bn: u32) -> bool
@@ -120,7 +121,7 @@ pub fn lists_refusal(ax: &[i32], ay: &[i32], an: &[u32], bx: &[i32], by: &[i32],
 
 // Whether the columns are a lawful list. (01: checking a site list.)
 pub fn check(x: &[i32], y: &[i32], number: &[u32]) -> Checked
-    ensures { λ r. ⌜ checkedTold r ≡ checkTold (columns (now (x .entry)) (now (y .entry)) (now (number .entry))) ⌝ }
+    ensures { λ r. ⌜ checkedAnswer r ≡ checkAnswer (columns (now (x .entry)) (now (y .entry)) (now (number .entry))) ⌝ }
 {
     let refusal = list_refusal(x, y, number);
     if refusal == 0 {

@@ -11,16 +11,16 @@ use Rattle.order.specs.Order.{ascending}
 use Rattle.order.specs.Lists.{all}
 use Rattle.site.specs.declared.Site.{Site}
 use Rattle.site.specs.Site.{lawfulSite, siteBefore}
-use Rattle.site.specs.Told.{refused, answered, tell, refuseIf, orElse}
+use Rattle.site.specs.Answer.{refused, answered, answerUnless, refuseIf, orElse}
 use Rattle.site.specs.SiteList.{siteAt}
 use Rattle.site.specs.Refusal.{contentRefusal}
 use Rattle.site.proofs.Cases.{byTest, and-first, and-second, or-first, or-second}
-use Rattle.site.proofs.Told.{told, told-refused, first-refused, next-decides, orElse-first, orElse-second, no-fault, fault-none}
+use Rattle.site.proofs.Answer.{answer-values, answer-refused, first-refused, next-decides, orElse-first, orElse-second, no-fault, fault-none}
 use Rattle.site_file.specs.Bytes.{word}
 use Rattle.site_file.specs.declared.Which.{Which}
 use Rattle.site_file.specs.declared.Which.the-variants.{First, Second}
 use Rattle.site_file.specs.File.{secondStart, fileLength, startIn, countIn, sitesFrom, sitesIn}
-use Rattle.site_file.specs.Calls.{layoutFault, contentsRefusal, readRefusal, readTold, siteRefusal, siteTold}
+use Rattle.site_file.specs.Calls.{layoutFault, contentsRefusal, readRefusal, readAnswer, siteRefusal, siteAnswer}
 use Rattle.site_file.proofs.File.{from-at}
 
 -- The tests of a file's contents, in their order.
@@ -148,13 +148,13 @@ module _ (file : List ℕ) (h : readRefusal file ≡ 0) where
 
 -- The answers of a reading.
 module _ (file : List ℕ) {r : ℕ} (p : r ≡ readRefusal file) where
-  pub read-refused : (r ≡ 0 → ⊥) → refused r ≡ readTold file
-  unfolding readTold
-  read-refused h = told-refused _ p h
+  pub read-refused : (r ≡ 0 → ⊥) → refused r ≡ readAnswer file
+  unfolding readAnswer
+  read-refused h = answer-refused _ p h
 
-  pub read-answered : r ≡ 0 → {a b : ℕ} → a ≡ word file 4 → b ≡ word file 12 → answered (record { first = a; second = b }) ≡ readTold file
-  unfolding readTold countIn
-  read-answered z pa pb = rw (← pa, ← pb) (told (sym p ∙ z))
+  pub read-answered : r ≡ 0 → {a b : ℕ} → a ≡ word file 4 → b ≡ word file 12 → answered (record { first = a; second = b }) ≡ readAnswer file
+  unfolding readAnswer countIn
+  read-answered z pa pb = rw (← pa, ← pb) (answer-values (sym p ∙ z))
 
 -- Where a list of a lawful file lies.
 pub record Inside (file : List ℕ) (w : Which) : Type 0 where
@@ -169,7 +169,7 @@ inside file First g = record { start = omega arith; count = omega arith; body = 
 inside file Second g = record { start = omega arith; count = omega arith; body = omega arith; small = omega arith }
 
 -- Consulting an accepted file finds the site of its list.
-pub site-found : (file : List ℕ) (w : Which) (place : ℕ) → contentsRefusal file ≡ 0 → place < countIn file w → siteTold file w place ≡ answered (siteAt (sitesIn file w) place)
-unfolding siteTold siteRefusal tell orElse sitesIn siteAt
+pub site-found : (file : List ℕ) (w : Which) (place : ℕ) → contentsRefusal file ≡ 0 → place < countIn file w → siteAnswer file w place ≡ answered (siteAt (sitesIn file w) place)
+unfolding siteAnswer siteRefusal answerUnless orElse sitesIn siteAt
 site-found file w place none h =
     rw (none, lt-leb (countIn file w) place h, from-at file (startIn file w) (countIn file w) place _ h)

@@ -16,7 +16,8 @@ use Rattle.order.specs.Order.{ascending}
 use Rattle.order.specs.Lists.{all}
 use Rattle.site.specs.declared.Site.{Site}
 use Rattle.site.specs.Site.{within, lawfulSite, siteBefore}
-use Rattle.site.specs.SiteList.{Columns, Level, site, sites}
+use Rattle.site.specs.SiteList.{Columns, site, sites}
+use Rattle.site.specs.Terms.{Level}
 use Rattle.site.proofs.Columns.{nowhere, sites-length, sites-at}
 use Rattle.site_file.specs.declared.Which.{Which}
 use Rattle.site_file.specs.declared.Which.the-variants.{First, Second}

@@ -8,17 +8,17 @@ use lib.Seq.{take-add, take-all, take-at, drop-drop}
 use Rattle.order.specs.Lists.{All}
 use Rattle.column.specs.Column.{overwritten}
 use Rattle.site.specs.declared.Site.{Site}
-use Rattle.site.specs.Told.{answered, unlessRefused, orElse}
+use Rattle.site.specs.Answer.{answered, unlessRefused, orElse}
 use Rattle.site.specs.SiteList.{Columns, sites, siteAt, columnsOf}
 use Rattle.site.specs.Refusal.{contentRefusal, listRefusal, listsRefusal}
-use Rattle.site.proofs.Told.{or-none}
+use Rattle.site.proofs.Answer.{or-none}
 use Rattle.site.proofs.Columns.{columns-sites, columns-length}
 use Rattle.site.proofs.Accepted.{accepted-length, accepted-content}
 use Rattle.site_file.specs.declared.Which.{Which}
 use Rattle.site_file.specs.declared.Which.the-variants.{First, Second}
 use Rattle.site_file.specs.Bytes.{bytes4, word}
 use Rattle.site_file.specs.File.{secondStart, fileLength, bodyBytes, contentsBytes, fileBytes, startIn, countIn, sitesFrom, sitesIn}
-use Rattle.site_file.specs.Calls.{writeRefusal, writeBuffer, contentsRefusal, readRefusal, siteTold}
+use Rattle.site_file.specs.Calls.{writeRefusal, writeBuffer, contentsRefusal, readRefusal, siteAnswer}
 use Rattle.site_file.specs.RoundTrip.{Bytes, output, EveryOutputAccepted, EveryAcceptedIsOutput}
 use Rattle.site_file.proofs.Words.{digits, bytes-back}
 use Rattle.site_file.proofs.File.{from-length, list-length}
@@ -87,7 +87,7 @@ output-bytes a b buffer k h =
     rw h (take-at (fileBytes (sites a) (sites b)) (drop (length (fileBytes (sites a) (sites b))) buffer) _ size)
 
 -- A site of the file, by place.
-yields-site : (file : List ℕ) (w : Which) (c : Columns) (place : ℕ) → 0 ≡ contentsRefusal file → sitesIn file w ≡ sites c → countIn file w ≡ length (c .x) → place < length (c .x) → siteTold file w place ≡ answered (siteAt (sites c) place)
+yields-site : (file : List ℕ) (w : Which) (c : Columns) (place : ℕ) → 0 ≡ contentsRefusal file → sitesIn file w ≡ sites c → countIn file w ≡ length (c .x) → place < length (c .x) → siteAnswer file w place ≡ answered (siteAt (sites c) place)
 yields-site file w c place ok same count h =
     site-found file w place (sym ok) (omega arith) ∙ ap (λ (l : List Site). answered (siteAt l place)) same
 

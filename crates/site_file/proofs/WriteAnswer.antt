@@ -9,14 +9,14 @@ use lib.ListN.{length, length-append}
 use Rattle.column.specs.Column.{overwritten, stored}
 use Rattle.column.proofs.Stored.{stored-start, stored-after}
 use Rattle.site.specs.declared.Site.{Site}
-use Rattle.site.specs.Told.{refused, answered, unlessRefused}
+use Rattle.site.specs.Answer.{refused, answered, unlessRefused}
 use Rattle.site.specs.SiteList.{Columns, sites}
 use Rattle.site.specs.Refusal.{listRefusal, listsRefusal}
-use Rattle.site.proofs.Told.{told, told-refused, unless-kept, first-refused, next-decides, orElse-first, orElse-second, no-fault}
+use Rattle.site.proofs.Answer.{answer-values, answer-refused, unless-kept, first-refused, next-decides, orElse-first, orElse-second, no-fault}
 use Rattle.site.proofs.Accepted.{accepted-few, accepted-length, both-accepted}
 use Rattle.site_file.specs.Bytes.{bytes4}
 use Rattle.site_file.specs.File.{secondStart, fileLength, siteBytes, bodyBytes, contentsBytes, fileBytes}
-use Rattle.site_file.specs.Calls.{writeRefusal, writeTold, writeBuffer}
+use Rattle.site_file.specs.Calls.{writeRefusal, writeAnswer, writeBuffer}
 
 -- A body has 12 bytes for each site.
 pub body-length : (l : List Site) → length (bodyBytes l) ≡ 12 * length l
@@ -95,13 +95,13 @@ file-stored a b l h =
 
 -- The answers of writing, and what the buffer then holds.
 module _ (a b : Columns) (buffer : List ℕ) {r : ℕ} (p : r ≡ writeRefusal a b (length buffer)) where
-  pub write-refused : (r ≡ 0 → ⊥) → refused r ≡ writeTold a b (length buffer)
-  unfolding writeTold
-  write-refused h = told-refused _ p h
+  pub write-refused : (r ≡ 0 → ⊥) → refused r ≡ writeAnswer a b (length buffer)
+  unfolding writeAnswer
+  write-refused h = answer-refused _ p h
 
-  pub write-answered : r ≡ 0 → answered (16 + 12 * length (a .x) + 12 * length (b .x)) ≡ writeTold a b (length buffer)
-  unfolding writeTold fileLength
-  write-answered z = told (sym p ∙ z)
+  pub write-answered : r ≡ 0 → answered (16 + 12 * length (a .x) + 12 * length (b .x)) ≡ writeAnswer a b (length buffer)
+  unfolding writeAnswer fileLength
+  write-answered z = answer-values (sym p ∙ z)
 
   pub write-untouched : (r ≡ 0 → ⊥) → buffer ≡ writeBuffer a b buffer
   unfolding writeBuffer

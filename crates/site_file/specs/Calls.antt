@@ -6,7 +6,7 @@ use lib.Dec.{leb, ltb, eqb}
 use lib.ListN.{length}
 use Rattle.column.specs.Column.{overwritten}
 use Rattle.site.specs.declared.Site.{Site}
-use Rattle.site.specs.Told.{Told, refused, answered, tell, unlessRefused, refuseIf, orElse}
+use Rattle.site.specs.Answer.{Answer, refused, answered, answerUnless, unlessRefused, refuseIf, orElse}
 use Rattle.site.specs.SiteList.{Columns, sites}
 use Rattle.site.specs.Refusal.{contentRefusal, listsRefusal}
 use Rattle.site_file.specs.declared.Which.{Which}
@@ -24,8 +24,8 @@ unfoldable pub writeRefusal : Columns → Columns → ℕ → ℕ
 writeRefusal a b room = orElse (listsRefusal a b) (refuseIf (ltb room (fileLength (length (a .x)) (length (b .x)))) 6)
 
 -- "the file writer, the file's length", or the refusal.
-unfoldable pub writeTold : Columns → Columns → ℕ → Told ℕ
-writeTold a b room = tell (writeRefusal a b room) (fileLength (length (a .x)) (length (b .x)))
+unfoldable pub writeAnswer : Columns → Columns → ℕ → Answer ℕ
+writeAnswer a b room = answerUnless (writeRefusal a b room) (fileLength (length (a .x)) (length (b .x)))
 
 -- What the lent buffer then holds: the file, and past it what it held before.
 unfoldable pub writeBuffer : Columns → Columns → List ℕ → List ℕ
@@ -55,27 +55,27 @@ readRefusal file =
     (orElse (contentRefusal (sitesIn file First)) (contentRefusal (sitesIn file Second)))
 
 -- "the file reader, both site counts", or the refusal.
-unfoldable pub readTold : List ℕ → Told (record { first : ℕ; second : ℕ })
-readTold file = tell (readRefusal file) (record { first = countIn file First; second = countIn file Second })
+unfoldable pub readAnswer : List ℕ → Answer (record { first : ℕ; second : ℕ })
+readAnswer file = answerUnless (readRefusal file) (record { first = countIn file First; second = countIn file Second })
 
 -- "Reading a site of a file makes the tests for 1 and 10 again, then 8, but not those for 2 and 3."
 unfoldable pub siteRefusal : List ℕ → Which → ℕ → ℕ
 siteRefusal file which place = orElse (contentsRefusal file) (refuseIf (leb (countIn file which) place) 8)
 
 -- "a site of a file, its x, y and number", or the refusal.
-unfoldable pub siteTold : List ℕ → Which → ℕ → Told Site
-siteTold file which place =
-    tell (siteRefusal file which place) (siteIn file (startIn file which + 12 * place))
+unfoldable pub siteAnswer : List ℕ → Which → ℕ → Answer Site
+siteAnswer file which place =
+    answerUnless (siteRefusal file which place) (siteIn file (startIn file which + 12 * place))
 
 -- The paper's number and values for each case of each answer.
-unfoldable pub writtenTold : Written → Told ℕ
-writtenTold (written.Bytes length) = answered length
-writtenTold (written.Refused number) = refused number
+unfoldable pub writtenAnswer : Written → Answer ℕ
+writtenAnswer (written.Bytes length) = answered length
+writtenAnswer (written.Refused number) = refused number
 
-unfoldable pub fileReadTold : FileRead → Told (record { first : ℕ; second : ℕ })
-fileReadTold (read.Counts first second) = answered (record { first = first; second = second })
-fileReadTold (read.Refused number) = refused number
+unfoldable pub fileReadAnswer : FileRead → Answer (record { first : ℕ; second : ℕ })
+fileReadAnswer (read.Counts first second) = answered (record { first = first; second = second })
+fileReadAnswer (read.Refused number) = refused number
 
-unfoldable pub siteReadTold : SiteRead → Told Site
-siteReadTold (found.Found s) = answered s
-siteReadTold (found.Refused number) = refused number
+unfoldable pub siteReadAnswer : SiteRead → Answer Site
+siteReadAnswer (found.Found s) = answered s
+siteReadAnswer (found.Refused number) = refused number

@@ -4,7 +4,7 @@ use mathlib.Core.List.{List}
 use Prim.Native.Nat.{ℕ, _+_, _*_}
 use lib.Dec.{leb, eqb}
 use Rattle.site.specs.declared.Site.{Site}
-use Rattle.site.specs.Told.{Told, tell, refuseIf, orElse}
+use Rattle.site.specs.Answer.{Answer, answerUnless, refuseIf, orElse}
 use Rattle.site_file.specs.declared.Which.{Which}
 use Rattle.site_file.specs.declared.Which.the-variants.{First, Second}
 use Rattle.site_file.specs.File.{startIn, countIn, siteIn}
@@ -25,6 +25,6 @@ heldRefusal file first second which place =
     orElse (contentsRefusal file)
     (orElse (refuseIf (not (ownStarts file first second)) 10) (refuseIf (leb (countIn file which) place) 8))
 
-unfoldable pub heldTold : List ℕ → ℕ → ℕ → Which → ℕ → Told Site
-heldTold file first second which place =
-    tell (heldRefusal file first second which place) (siteIn file (heldStart first second which + 12 * place))
+unfoldable pub heldAnswer : List ℕ → ℕ → ℕ → Which → ℕ → Answer Site
+heldAnswer file first second which place =
+    answerUnless (heldRefusal file first second which place) (siteIn file (heldStart first second which + 12 * place))

@@ -1,4 +1,4 @@
--- What a reader must believe of site files; the laws are in `proofs/`.
+-- What a reader must believe of site files. The laws are in `proofs/`.
 pub mod Bytes
 pub mod File
 pub mod Calls

@@ -4,11 +4,11 @@ use mathlib.Core.List.{List}
 use Prim.Native.Nat.{ℕ, _≤_, _<_}
 use lib.ListN.{length, take}
 use Rattle.order.specs.Lists.{All}
-use Rattle.site.specs.Told.{answered}
+use Rattle.site.specs.Answer.{answered}
 use Rattle.site.specs.SiteList.{Columns, sites, siteAt}
 use Rattle.site_file.specs.declared.Which.the-variants.{First, Second}
 use Rattle.site_file.specs.File.{fileLength, sitesIn}
-use Rattle.site_file.specs.Calls.{writeRefusal, writeTold, writeBuffer, readRefusal, readTold, siteTold}
+use Rattle.site_file.specs.Calls.{writeRefusal, writeAnswer, writeBuffer, readRefusal, readAnswer, siteAnswer}
 
 -- What a slice of bytes and a column of numbers can hold.
 abbrev pub Bytes : List ℕ → Type 0
@@ -23,11 +23,11 @@ output a b buffer = take (fileLength (length (a .x)) (length (b .x))) (writeBuff
 
 -- A file is accepted with two lists, and consulting it site by site yields them.
 pub record Yields (file : List ℕ) (a b : Columns) : Type 0 where
-  pub accepted : readTold file ≡ answered (record { first = length (a .x); second = length (b .x) })
+  pub accepted : readAnswer file ≡ answered (record { first = length (a .x); second = length (b .x) })
   pub first : sitesIn file First ≡ sites a
   pub second : sitesIn file Second ≡ sites b
-  pub first-site : (place : ℕ) → place < length (a .x) → siteTold file First place ≡ answered (siteAt (sites a) place)
-  pub second-site : (place : ℕ) → place < length (b .x) → siteTold file Second place ≡ answered (siteAt (sites b) place)
+  pub first-site : (place : ℕ) → place < length (a .x) → siteAnswer file First place ≡ answered (siteAt (sites a) place)
+  pub second-site : (place : ℕ) → place < length (b .x) → siteAnswer file Second place ≡ answered (siteAt (sites b) place)
 
 -- Every output is accepted, and yields the two lists that were written.
 abbrev pub EveryOutputAccepted : Type 0
@@ -42,7 +42,7 @@ EveryOutputAccepted =
 pub record OutputFor (file : List ℕ) (a b : Columns) : Type 0 where
   pub first-numbers : Numbers a
   pub second-numbers : Numbers b
-  pub told : (buffer : List ℕ) → length file ≤ length buffer → writeTold a b (length buffer) ≡ answered (length file)
+  pub told : (buffer : List ℕ) → length file ≤ length buffer → writeAnswer a b (length buffer) ≡ answered (length file)
   pub same : (buffer : List ℕ) → length file ≤ length buffer → output a b buffer ≡ file
 
 -- Every accepted file is the writer's output for some two lawful lists.

@@ -11,7 +11,7 @@ ghost use Rattle.order.specs.Lists.{all};
 ghost use Rattle.site.specs.Site.{lawfulSite, siteBefore};
 ghost use Rattle.site.specs.Refusal.{contentRefusal};
 ghost use Rattle.site_file.specs.File.{countIn, siteIn, sitesFrom};
-ghost use Rattle.site_file.specs.Calls.{contentsRefusal, readRefusal, readTold, fileReadTold};
+ghost use Rattle.site_file.specs.Calls.{contentsRefusal, readRefusal, readAnswer, fileReadAnswer};
 
 // The site whose bytes begin at a position.
 pub(super) fn site_at(file: &[u8], at: usize) -> Site
@@ -153,7 +153,7 @@ pub fn count_in(file: &[u8], which: Which) -> u32
 
 // Reads a file: both site counts, or the refusal.
 pub fn read(file: &[u8]) -> FileRead
-    ensures { λ r. ⌜ fileReadTold r ≡ readTold (now (file .entry)) ⌝ }
+    ensures { λ r. ⌜ fileReadAnswer r ≡ readAnswer (now (file .entry)) ⌝ }
 {
     let refusal = read_refusal(file);
     if refusal != 0 {

@@ -4,10 +4,11 @@ use super::numbers;
 ghost use mathlib.Core.Path.{_≡_};
 ghost use Prim.Native.Nat.{_+_, _*_, _≤_};
 ghost use lib.ListN.{length};
-ghost use Rattle.site.specs.SiteList.{Level, site, columns, sites};
+ghost use Rattle.site.specs.SiteList.{site, columns, sites};
+ghost use Rattle.site.specs.Terms.{Level};
 ghost use Rattle.column.specs.Column.{stored};
 ghost use Rattle.site_file.specs.File.{siteBytes, bodyBytes, contentsBytes};
-ghost use Rattle.site_file.specs.Calls.{writeRefusal, writeTold, writeBuffer, writtenTold};
+ghost use Rattle.site_file.specs.Calls.{writeRefusal, writeAnswer, writeBuffer, writtenAnswer};
 
 // A site stored as twelve bytes.
 fn put_site(buffer: &mut [u8], at: usize, x: i32, y: i32, number: u32)
@@ -85,7 +86,7 @@ pub fn write(
     ensures { λ r.
         let a = columns (now (ax .entry)) (now (ay .entry)) (now (an .entry)) in
         let b = columns (now (bx .entry)) (now (by .entry)) (now (bn .entry)) in
-        ⌜ (writtenTold r ≡ writeTold a b (length (now (buffer .entry))))
+        ⌜ (writtenAnswer r ≡ writeAnswer a b (length (now (buffer .entry))))
         × (now (buffer .exit) ≡ writeBuffer a b (now (buffer .entry))) ⌝ }
 {
     let refusal = write_refusal(ax, ay, an, bx, by, bn, buffer.len());

@@ -3,7 +3,7 @@ use mathlib.Core.Path.{_≡_, sym, ap, _∙_}
 use mathlib.Core.Bool.{Bool}
 use mathlib.Core.List.{List, [], _∷_, _++_, map, append-assoc, append-nil, Permᴰ·append-left}
 use Prim.Native.Nat.{ℕ}
-use Rattle.order.specs.Sorted.{Sorted}
+use Rattle.order.specs.Terms.{Sorted}
 use Rattle.order.proofs.Order.{byTest}
 use Rattle.entry.specs.declared.Entry.{Entry}
 use Rattle.entry.specs.Entry.{bestK}

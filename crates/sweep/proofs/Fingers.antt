@@ -7,14 +7,14 @@ use Prim.Native.Nat.{ℕ, _+_, _-_, _≤_, _<_, _^_}
 use native.Mathlib.Omega.{arith}
 use lib.IntN.{ℤ}
 use Rattle.entry.specs.Results.{Results, entriesOf}
-use Rattle.entry.specs.Offered.{reachOf}
+use Rattle.entry.specs.Terms.{reachOf}
 use Rattle.sweep.specs.declared.Reference.{Reference}
 use Rattle.sweep.specs.declared.Tally.{Tally}
 use Rattle.sweep.specs.declared.Way.the-variants.{Classic}
 use Rattle.sweep.specs.Scan.{scan}
 use Rattle.sweep.specs.Sweep.{classicOver, leads, look, start, sweep}
-use Rattle.sweep.specs.Runs.{spot, rightward, referenceAt, lookFrom, firstNext, stateOf}
-use Rattle.sweep.specs.Terms.{SweepAsked, TallyReady, ScanAsked, Held, Tallied}
+use Rattle.sweep.specs.Terms.{spot, rightward, SweepAsked}
+use Rattle.sweep.specs.Internal.{referenceAt, lookFrom, firstNext, stateOf, TallyReady, ScanAsked, Held, Tallied}
 use Rattle.sweep.proofs.StepLaws.{classic-nil, classic-nil-right, classic-first, classic-second}
 use Rattle.sweep.proofs.CountLaws.{classic-counted}
 use Rattle.sweep.proofs.RunLaws.{rightward-nil, rightward-cons}

@@ -7,7 +7,7 @@ use native.Mathlib.Nat.{le-trans}
 use lib.IntN.{ℤ}
 use lib.Signed.{ltZ, leZ}
 use Rattle.order.specs.Lists.{All}
-use Rattle.order.specs.Sorted.{Sorted}
+use Rattle.order.specs.Terms.{Sorted}
 use Rattle.order.proofs.Order.{byTest, never-both, irrefl, ltZ-order}
 use Rattle.order.proofs.Lists.{all-weaken, mem-all}
 use Rattle.order.specs.Order.{on}

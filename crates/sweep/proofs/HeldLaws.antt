@@ -11,11 +11,11 @@ use Rattle.order.proofs.Order.{byTest}
 use Rattle.entry.specs.declared.Entry.{Entry}
 use Rattle.entry.specs.Entry.{offer, lastDistance}
 use Rattle.entry.specs.Results.{Results, entriesOf, holding}
-use Rattle.entry.specs.Offered.{Ready, Holds, reachOf}
+use Rattle.entry.specs.Terms.{Ready, Holds, reachOf}
 use Rattle.entry.proofs.Rank.{length-offer, sorted-offer, offer-past}
 use Rattle.entry.proofs.Columns.{room-lengths, lengths-room, length-entries, entries-holding, holding-self, holding-again, holding-lengths, room-holding, last-distance-column}
 use Rattle.sweep.specs.Scan.{beyond}
-use Rattle.sweep.specs.Terms.{Held}
+use Rattle.sweep.specs.Internal.{Held}
 
 -- The columns have kept their lengths.
 abbrev pub SameLengths : Results → Results → Type 0

@@ -16,14 +16,14 @@ use Rattle.site.proofs.Distance.{gap-sym, squared-distance-sym, squared-distanc
 use Rattle.entry.specs.declared.Entry.{Entry}
 use Rattle.entry.specs.Entry.{entry, offer}
 use Rattle.entry.specs.Results.{Results, entriesOf}
-use Rattle.entry.specs.Offered.{Holds, reachOf}
+use Rattle.entry.specs.Terms.{Holds, reachOf}
 use Rattle.sweep.specs.declared.Reference.{Reference}
 use Rattle.sweep.specs.declared.Tally.{Tally}
 use Rattle.sweep.specs.Strip.{pair}
 use Rattle.sweep.specs.Scan.{Candidate, beyond, looked, offered, lookAt}
 use Rattle.sweep.specs.Sweep.{look}
-use Rattle.sweep.specs.Runs.{spotOf, spot, lookFrom, stateOf}
-use Rattle.sweep.specs.Terms.{TallyReady, LookAsked, Held, LookTold}
+use Rattle.sweep.specs.Terms.{spotOf, spot}
+use Rattle.sweep.specs.Internal.{lookFrom, stateOf, TallyReady, LookAsked, Held, LookTold}
 use Rattle.sweep.proofs.HeldLaws.{holds-entries, held-starts, offered-held, reach-is, beyond-reach, reach-past}
 
 -- ---- any candidate

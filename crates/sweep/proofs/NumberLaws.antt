@@ -14,7 +14,8 @@ use Rattle.site.specs.declared.Site.{Site}
 use Rattle.site.specs.Site.{gap, square}
 use Rattle.site.proofs.Distance.{numberless}
 use Rattle.entry.specs.Entry.{entry}
-use Rattle.site.specs.SiteList.{Columns, Level, sites}
+use Rattle.site.specs.SiteList.{Columns, sites}
+use Rattle.site.specs.Terms.{Level}
 use Rattle.site.proofs.Columns.{columnsAt, sites-length, sites-at}
 use Rattle.entry.specs.declared.Entry.{Entry}
 use Rattle.sweep.specs.declared.Way.{Way}
@@ -22,7 +23,7 @@ use Rattle.sweep.specs.declared.Way.the-variants.{Classic, ReverseRun}
 use Rattle.sweep.specs.Strip.{Placed, placedFrom, strip, pair}
 use Rattle.sweep.specs.Scan.{Candidate, State, scan}
 use Rattle.sweep.specs.Sweep.{classicOver, reverseOver, leads, look, start, sweep}
-use Rattle.sweep.specs.Runs.{spotOf, spot, rightward}
+use Rattle.sweep.specs.Terms.{spotOf, spot, rightward}
 use Rattle.sweep.proofs.PlaceLaws.{strip-is}
 
 -- ---- things replaced by others that lead and look the same

@@ -11,7 +11,7 @@ use lib.Seq.{take-all, take-add, drop-drop, getD-take, getD-drop}
 use borrow.Author.Tests.{lt-ltb, le-ltb}
 use Rattle.order.specs.Order.{on, lex}
 use Rattle.order.specs.Lists.{All, Distinct}
-use Rattle.order.specs.Sorted.{Ascends}
+use Rattle.order.specs.Terms.{Ascends}
 use Rattle.order.proofs.Order.{never-both, lex-less, lex-next}
 use Rattle.order.proofs.Lists.{all-weaken, mem-take, mem-drop}
 use Rattle.order.proofs.Sorted.{ascends-take, ascends-drop}

@@ -8,7 +8,8 @@ use lib.IntN.{ℤ, pos}
 use lib.ListN.{length, getD}
 use lib.Signed.{leZ}
 use borrow.Author.Tests.{lt-ltb, le-ltb, le-leb, lt-leb}
-use Rattle.site.specs.SiteList.{Coordinates, columns}
+use Rattle.site.specs.SiteList.{columns}
+use Rattle.site.specs.Terms.{Coordinates}
 use Rattle.site.proofs.Accepted.{coordinate-x, coordinate-y}
 use Rattle.entry.specs.Results.{Results, entriesOf, holding}
 use Rattle.entry.proofs.Columns.{length-entries}
@@ -18,8 +19,8 @@ use Rattle.sweep.specs.declared.Tally.{Tally}
 use Rattle.sweep.specs.declared.Way.{Way}
 use Rattle.sweep.specs.Scan.{State}
 use Rattle.sweep.specs.Sweep.{leads, look, sweep}
-use Rattle.sweep.specs.Runs.{spot, rightward, referenceAt, lookFrom, firstNext, stateOf}
-use Rattle.sweep.specs.Terms.{SweepAsked, SweptStrips, TallyReady, ScanAsked, Tallied}
+use Rattle.sweep.specs.Terms.{spot, rightward, SweepAsked, SweptStrips}
+use Rattle.sweep.specs.Internal.{referenceAt, lookFrom, firstNext, stateOf, TallyReady, ScanAsked, Tallied}
 use Rattle.sweep.proofs.CountLaws.{Counted, sweep-looks-fit, sweep-distances-bound}
 use Rattle.sweep.proofs.RunLaws.{length-rightward}
 use Rattle.sweep.proofs.NumberLaws.{sweep-strips}

@@ -5,7 +5,7 @@ use mathlib.Core.List.{List, [], _∷_, _++_, map, append-assoc, append-nil, Lis
 use Prim.Native.Nat.{ℕ}
 use lib.ListN.{take, drop, take-append-drop}
 use Rattle.order.specs.Lists.{All}
-use Rattle.order.specs.Sorted.{Sorted}
+use Rattle.order.specs.Terms.{Sorted}
 use Rattle.order.proofs.Order.{byTest}
 use Rattle.order.proofs.Lists.{all-weaken, all-take, all-drop}
 use Rattle.order.proofs.Sorted.{sorted-take}

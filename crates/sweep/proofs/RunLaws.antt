@@ -7,7 +7,8 @@ use native.Mathlib.Omega.{arith}
 use lib.IntN.{ℤ}
 use lib.ListN.{length, take}
 use Rattle.sweep.specs.Strip.{Placed}
-use Rattle.sweep.specs.Runs.{spot, rightward, leftward}
+use Rattle.sweep.specs.Terms.{spot, rightward}
+use Rattle.sweep.specs.Internal.{leftward}
 
 module _ (xs ys : List ℤ) where
   pub rightward-nil : (from to : ℕ) → to ≤ from → rightward xs ys from (to - from) ≡ []

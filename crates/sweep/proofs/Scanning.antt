@@ -7,14 +7,14 @@ use native.Mathlib.Omega.{arith}
 use lib.IntN.{ℤ}
 use lib.ListN.{length}
 use Rattle.entry.specs.Results.{Results, entriesOf}
-use Rattle.entry.specs.Offered.{reachOf}
+use Rattle.entry.specs.Terms.{reachOf}
 use Rattle.sweep.specs.declared.Looked.{Looked}
 use Rattle.sweep.specs.declared.Reference.{Reference}
 use Rattle.sweep.specs.declared.Tally.{Tally}
 use Rattle.sweep.specs.Strip.{Placed}
 use Rattle.sweep.specs.Scan.{State, Scanned, beyond, looked, offered, lookAt, scan}
-use Rattle.sweep.specs.Runs.{spot, lookFrom, stateOf}
-use Rattle.sweep.specs.Terms.{LookAsked, ScanAsked, Held, Tallied, LookTold}
+use Rattle.sweep.specs.Terms.{spot}
+use Rattle.sweep.specs.Internal.{lookFrom, stateOf, LookAsked, ScanAsked, Held, Tallied, LookTold}
 use Rattle.sweep.proofs.StepLaws.{scan-nil, scan-stop, scan-on}
 use Rattle.sweep.proofs.HeldLaws.{held-starts, held-joins}
 

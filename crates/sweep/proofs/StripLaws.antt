@@ -5,9 +5,9 @@ use mathlib.Core.List.{List, [], _∷_}
 use Prim.Native.Nat.{ℕ, suc, _-_}
 use lib.Signed.{ltZ}
 use lib.ListN.{drop}
-use Rattle.order.specs.Order.{StrictOrder, on, ascending}
+use Rattle.order.specs.Order.{on, ascending}
+use Rattle.order.specs.Terms.{StrictOrder, Sorted, Ascends}
 use Rattle.order.specs.Lists.{All}
-use Rattle.order.specs.Sorted.{Sorted, Ascends}
 use Rattle.order.proofs.Order.{byTest, never-both, ltZ-order, up-to-equality, on-order, by-number, lex-order, lex-more, strict}
 use Rattle.order.proofs.Lists.{all-weaken}
 use Rattle.order.proofs.Sorted.{ascending-ascends, sorted-take, sorted-drop}

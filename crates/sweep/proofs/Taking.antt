@@ -10,15 +10,15 @@ use lib.ListN.{take, length-map}
 use borrow.Author.Tests.{ltb-true, ltb-false}
 use Rattle.order.proofs.Order.{byTest, never-both}
 use Rattle.entry.specs.Results.{Results, entriesOf}
-use Rattle.entry.specs.Offered.{reachOf}
+use Rattle.entry.specs.Terms.{reachOf}
 use Rattle.sweep.specs.declared.Reference.{Reference}
 use Rattle.sweep.specs.declared.Tally.{Tally}
 use Rattle.sweep.specs.declared.Way.the-variants.{ReverseRun}
 use Rattle.sweep.specs.Strip.{Placed}
 use Rattle.sweep.specs.Scan.{Candidate, State, scan}
 use Rattle.sweep.specs.Sweep.{reverseOver, leads, look, start, sweep}
-use Rattle.sweep.specs.Runs.{spot, rightward, leftward, referenceAt, lookFrom, firstNext, stateOf}
-use Rattle.sweep.specs.Terms.{SweepAsked, TallyReady, ScanAsked, Held, Tallied}
+use Rattle.sweep.specs.Terms.{spot, rightward, SweepAsked}
+use Rattle.sweep.specs.Internal.{leftward, referenceAt, lookFrom, firstNext, stateOf, TallyReady, ScanAsked, Held, Tallied}
 use Rattle.sweep.proofs.StepLaws.{reverse-nil, reverse-first, reverse-first-last, reverse-second, reverse-second-last}
 use Rattle.sweep.proofs.CountLaws.{scan-passed, reverse-counted}
 use Rattle.sweep.proofs.RunLaws.{rightward-nil, rightward-cons, leftward-nil, leftward-more, take-leftward, length-leftward}

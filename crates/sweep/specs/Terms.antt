@@ -1,23 +1,31 @@
--- What the functions of this crate ask and promise.
+-- Terms of contracts that other crates cite: sites read from two coordinate columns, and what a sweep asks and promises.
+use mathlib.Core.List.{List, [], _∷_}
 use mathlib.Core.Path.{_≡_}
-use mathlib.Core.Bool.{true}
-use mathlib.Core.List.{List}
-use Prim.Native.Nat.{ℕ, _+_, _≤_, _<_, _^_}
-use lib.IntN.{ℤ}
-use lib.ListN.{length}
-use Rattle.site.specs.Site.{within}
-use Rattle.site.specs.SiteList.{Coordinates, Numbered}
-use Rattle.entry.specs.Results.{Results, entriesOf, holding, roomFor}
-use Rattle.entry.specs.Offered.{Ready, reachOf}
-use Rattle.sweep.specs.declared.Looked.{Looked}
-use Rattle.sweep.specs.declared.Reference.{Reference}
+use Prim.Native.Nat.{ℕ, zero, suc, _≤_, _<_}
+use lib.IntN.{ℤ, pos}
+use lib.ListN.{getD, length}
+use Rattle.site.specs.SiteList.{site}
+use Rattle.site.specs.Terms.{Coordinates, Numbered}
+use Rattle.entry.specs.Results.{Results, entriesOf, holding}
+use Rattle.entry.specs.Terms.{Ready}
 use Rattle.sweep.specs.declared.Swept.{Swept}
-use Rattle.sweep.specs.declared.Tally.{Tally}
 use Rattle.sweep.specs.declared.Way.{Way}
-use Rattle.sweep.specs.Strip.{strip}
-use Rattle.sweep.specs.Scan.{State, LookDone}
+use Rattle.sweep.specs.Strip.{Placed, strip}
+use Rattle.sweep.specs.Scan.{State}
 use Rattle.sweep.specs.Sweep.{sweep}
-use Rattle.sweep.specs.Runs.{stateOf}
+
+-- A site that needs no number: a sweep reads none.
+abbrev pub spotOf : ℤ → ℤ → ℕ → Placed
+spotOf x y place = record { place = place; site = site x y 0 }
+
+-- The site at a place of two coordinate columns.
+unfoldable pub spot : List ℤ → List ℤ → ℕ → Placed
+spot xs ys i = spotOf (getD xs i (pos 0)) (getD ys i (pos 0)) i
+
+-- `n` sites from place `from` on.
+unfoldable pub rightward : List ℤ → List ℤ → ℕ → ℕ → List Placed
+rightward xs ys from zero = []
+rightward xs ys from (suc n) = spot xs ys from ∷ rightward xs ys (suc from) n
 
 -- A sweep asks: lawful columns, strips inside them, and result columns ready for up to `k` entries.
 pub record SweepAsked (ax ay bx by : List ℤ) (aFrom aTo bFrom bTo k count : ℕ) (r : Results) : Type 0 where
@@ -44,48 +52,3 @@ abbrev pub SweptStrips :
 SweptStrips way ax ay bx by aFrom aTo bFrom bTo k count before after answer =
     Numbered ax ay bx by (λ a b.
     SweptTo (sweep way k (strip aFrom aTo a) (strip bFrom bTo b) (entriesOf count before)) before after answer)
-
--- The tally is that of the columns, which are ready for up to `k` entries: they hold its entries, and its reach is theirs.
-pub record TallyReady (k : ℕ) (t : Tally) (r : Results) : Type 0 where
-  pub some : 0 < k
-  pub ready : Ready k (t .count) r
-  pub reach : t .reach ≡ reachOf k (entriesOf (t .count) r)
-
--- A look asks: a reference and another site within the limits, and room to count on.
-pub record LookAsked (o : Reference) (xs ys : List ℤ) (i k : ℕ) (old : Tally) (r : Results) : Type 0 where
-  pub across : within (o .x) ≡ true
-  pub up : within (o .y) ≡ true
-  pub others : Coordinates xs ys
-  pub inside : i < length xs
-  pub tally : TallyReady k old r
-  pub looks-fit : old .looks < 2 ^ 63
-  pub distances-fit : old .distances < 2 ^ 63
-
--- A scan asks the same for the sites from place `from` up to, not including, place `to`.
-pub record ScanAsked (o : Reference) (xs ys : List ℤ) (from to k : ℕ) (old : Tally) (r : Results) : Type 0 where
-  pub across : within (o .x) ≡ true
-  pub up : within (o .y) ≡ true
-  pub others : Coordinates xs ys
-  pub range : from ≤ to
-  pub to-inside : to ≤ length xs
-  pub tally : TallyReady k old r
-  pub looks-fit : old .looks ≤ 2 ^ 62
-  pub distances-fit : old .distances ≤ 2 ^ 62
-
--- The columns went from `before` with `old` entries to `r` with `count`, and hold nothing else that is new.
-pub record Held (k : ℕ) (before : Results) (old : ℕ) (r : Results) (count : ℕ) : Type 0 where
-  pub room : roomFor k before ≡ true
-  pub ready : Ready k count r
-  pub least : old ≤ count
-  pub rest : r ≡ holding (entriesOf count r) before
-
--- The columns went from `before` with `old` entries to `r`, and with the tally they hold the state `s`.
-pub record Tallied (k : ℕ) (before : Results) (old : ℕ) (s : State) (r : Results) (t : Tally) : Type 0 where
-  pub held : Held k before old r (t .count)
-  pub reach : t .reach ≡ reachOf k (entriesOf (t .count) r)
-  pub state : stateOf t r ≡ s
-
--- A look promises whether it stopped the scan, and the state that it leaves.
-pub record LookTold (k : ℕ) (before : Results) (old : ℕ) (d : LookDone) (r : Results) (l : Looked) : Type 0 where
-  pub stopped : l .stopped ≡ d .stopped
-  pub tally : Tallied k before old (d .state) r (l .tally)

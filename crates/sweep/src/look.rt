@@ -9,12 +9,13 @@ ghost use Prim.Native.Nat.{_<_};
 ghost use lib.IntN.{pos};
 ghost use lib.ListN.{length, getD};
 ghost use Rattle.site.specs.Site.{within, gap, square, squaredDistance};
-ghost use Rattle.site.specs.SiteList.{Coordinates, site};
+ghost use Rattle.site.specs.SiteList.{site};
+ghost use Rattle.site.specs.Terms.{Coordinates};
 ghost use Rattle.entry.specs.Entry.{entry};
 ghost use Rattle.entry.specs.Results.{results};
 ghost use Rattle.sweep.specs.Scan.{lookAt};
-ghost use Rattle.sweep.specs.Runs.{spot, lookFrom, stateOf};
-ghost use Rattle.sweep.specs.Terms.{LookAsked, LookTold};
+ghost use Rattle.sweep.specs.Terms.{spot};
+ghost use Rattle.sweep.specs.Internal.{lookFrom, stateOf, LookAsked, LookTold};
 
 // The squared x-difference of a reference and the site at a place of the other list.
 fn squared_gap_at(reference: Reference, xs: &[i32], i: usize) -> u64

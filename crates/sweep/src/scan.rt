@@ -8,8 +8,8 @@ ghost use Prim.Native.Nat.{_+_, _-_};
 ghost use Rattle.entry.specs.Entry.{entry};
 ghost use Rattle.entry.specs.Results.{results};
 ghost use Rattle.sweep.specs.Scan.{scan};
-ghost use Rattle.sweep.specs.Runs.{rightward, leftward, lookFrom, stateOf};
-ghost use Rattle.sweep.specs.Terms.{ScanAsked, Tallied};
+ghost use Rattle.sweep.specs.Terms.{rightward};
+ghost use Rattle.sweep.specs.Internal.{leftward, lookFrom, stateOf, ScanAsked, Tallied};
 
 // A reference against the sites of a range of the other list, to the right, until a look stops it.
 pub(super) fn scan_right(

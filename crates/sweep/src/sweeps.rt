@@ -5,13 +5,13 @@ use super::scan;
 ghost use mathlib.Core.Path.{_≡_};
 ghost use Prim.Native.Nat.{_-_, _≤_, _<_};
 ghost use lib.ListN.{length};
-ghost use Rattle.site.specs.SiteList.{Coordinates};
+ghost use Rattle.site.specs.Terms.{Coordinates};
 ghost use Rattle.entry.specs.Entry.{entry};
 ghost use Rattle.entry.specs.Results.{results, entriesOf};
 ghost use Rattle.sweep.specs.declared.Way.the-variants.{Classic, ReverseRun};
 ghost use Rattle.sweep.specs.Sweep.{sweep};
-ghost use Rattle.sweep.specs.Runs.{rightward, referenceAt, firstNext};
-ghost use Rattle.sweep.specs.Terms.{SweepAsked, Tallied};
+ghost use Rattle.sweep.specs.Terms.{rightward, SweepAsked};
+ghost use Rattle.sweep.specs.Internal.{referenceAt, firstNext, Tallied};
 
 // The site at a place of its columns as a reference.
 fn reference_at(xs: &[i32], ys: &[i32], i: usize, swapped: bool) -> Reference

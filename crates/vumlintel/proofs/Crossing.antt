@@ -6,9 +6,8 @@ use mir.Syntax.{w32}
 use mir.Val.{SFits, toZ, ofZ}
 use mir.Facts.{toZ-ofZ}
 use Rattle.site.specs.SiteList.{site}
-use Rattle.site.specs.Told.{tell}
-use Rattle.site.proofs.Told.{told, told-refused}
-use Rattle.vumlintel.specs.Crossing.{afterwards}
+use Rattle.site.specs.Answer.{answerUnless, afterwards}
+use Rattle.site.proofs.Answer.{answer-values, answer-refused}
 
 -- In the arm of a case `s` of an answer `r`, what `s` tells is what the call ensures.
 pub in-case : {R T : Type 0} (told : R → T) {r s : R} {t : T} → r ≡ s → told r ≡ t → told s ≡ t
@@ -22,11 +21,11 @@ site-of {x} {y} number fx fy =
 
 -- A refusal leaves what was there; none leaves the value.
 pub refusal-leaves : {A B : Type 0} (value : A → B) (n : ℕ) (values : A) (before : B)
-    → (n ≡ 0 → ⊥) → before ≡ afterwards value (tell n values) before
+    → (n ≡ 0 → ⊥) → before ≡ afterwards value (answerUnless n values) before
 unfolding afterwards
-refusal-leaves value n values before some = rw (← told-refused values refl some)
+refusal-leaves value n values before some = rw (← answer-refused values refl some)
 
 pub success-leaves : {A B : Type 0} (value : A → B) (n : ℕ) (values : A) (before : B)
-    → n ≡ 0 → value values ≡ afterwards value (tell n values) before
+    → n ≡ 0 → value values ≡ afterwards value (answerUnless n values) before
 unfolding afterwards
-success-leaves value n values before none = rw (← told none)
+success-leaves value n values before none = rw (← answer-values none)

@@ -1,4 +1,3 @@
 -- What a reader must believe of the exported calls beside the definitions that they cite.
-pub mod Crossing
 pub mod Parts
 pub mod Lent

@@ -1,11 +1,10 @@
 // The site file: writing one, reading one, and its sites.
 ghost use mathlib.Core.Path.{_≡_};
 ghost use lib.ListN.{length};
-ghost use Rattle.site.specs.Told.{numberOf};
+ghost use Rattle.site.specs.Answer.{numberOf, afterwards};
 ghost use Rattle.site.specs.SiteList.{columns};
 ghost use Rattle.site_file.specs.declared.Which.the-variants.{First, Second};
-ghost use Rattle.site_file.specs.Calls.{writeTold, writeBuffer, readTold, siteTold, siteReadTold};
-ghost use Rattle.vumlintel.specs.Crossing.{afterwards};
+ghost use Rattle.site_file.specs.Calls.{writeAnswer, writeBuffer, readAnswer, siteAnswer, siteReadAnswer};
 use site_file::FileRead;
 use site_file::SiteRead;
 use site_file::Which;
@@ -25,13 +24,13 @@ pub extern "C" fn vumlintel_write_file(
 ) -> u32
     ensures { λ r.
         ⌜ r
-        ≡ numberOf (writeTold (columns (now (ax .entry)) (now (ay .entry)) (now (an .entry))) (columns (now (bx .entry)) (now (by .entry)) (now (bn .entry))) (lib.ListN.length (now (buffer .entry)))) ⌝ }
+        ≡ numberOf (writeAnswer (columns (now (ax .entry)) (now (ay .entry)) (now (an .entry))) (columns (now (bx .entry)) (now (by .entry)) (now (bn .entry))) (lib.ListN.length (now (buffer .entry)))) ⌝ }
     ensures { λ _.
         ⌜ now (buffer .exit)
         ≡ writeBuffer (columns (now (ax .entry)) (now (ay .entry)) (now (an .entry))) (columns (now (bx .entry)) (now (by .entry)) (now (bn .entry))) (now (buffer .entry)) ⌝ }
     ensures { λ _.
         ⌜ now (length .exit)
-        ≡ afterwards (λ n. n) (writeTold (columns (now (ax .entry)) (now (ay .entry)) (now (an .entry))) (columns (now (bx .entry)) (now (by .entry)) (now (bn .entry))) (lib.ListN.length (now (buffer .entry)))) (now (length .entry)) ⌝ }
+        ≡ afterwards (λ n. n) (writeAnswer (columns (now (ax .entry)) (now (ay .entry)) (now (an .entry))) (columns (now (bx .entry)) (now (by .entry)) (now (bn .entry))) (lib.ListN.length (now (buffer .entry)))) (now (length .entry)) ⌝ }
 {
     let answer = site_file::write(ax, ay, an, bx, by, bn, buffer);
     match answer {
@@ -46,9 +45,9 @@ pub extern "C" fn vumlintel_write_file(
 // Reading a site file: both site counts.
 #[no_mangle]
 pub extern "C" fn vumlintel_read_file(file: &[u8], first: &mut u32, second: &mut u32) -> u32
-    ensures { λ r. ⌜ r ≡ numberOf (readTold (now (file .entry))) ⌝ }
-    ensures { λ _. ⌜ now (first .exit) ≡ afterwards (λ v. v .first) (readTold (now (file .entry))) (now (first .entry)) ⌝ }
-    ensures { λ _. ⌜ now (second .exit) ≡ afterwards (λ v. v .second) (readTold (now (file .entry))) (now (second .entry)) ⌝ }
+    ensures { λ r. ⌜ r ≡ numberOf (readAnswer (now (file .entry))) ⌝ }
+    ensures { λ _. ⌜ now (first .exit) ≡ afterwards (λ v. v .first) (readAnswer (now (file .entry))) (now (first .entry)) ⌝ }
+    ensures { λ _. ⌜ now (second .exit) ≡ afterwards (λ v. v .second) (readAnswer (now (file .entry))) (now (second .entry)) ⌝ }
 {
     let answer = site_file::read(file);
     match answer {
@@ -66,10 +65,10 @@ pub extern "C" fn vumlintel_read_file(file: &[u8], first: &mut u32, second: &mut
 
 // What a site of a file answers, across the boundary.
 fn cross_site(answer: SiteRead, x: &mut i32, y: &mut i32, number: &mut u32) -> u32
-    ensures { λ r. ⌜ r ≡ numberOf (siteReadTold answer) ⌝ }
-    ensures { λ _. ⌜ now (x .exit) ≡ afterwards (λ s. s .x) (siteReadTold answer) (now (x .entry)) ⌝ }
-    ensures { λ _. ⌜ now (y .exit) ≡ afterwards (λ s. s .y) (siteReadTold answer) (now (y .entry)) ⌝ }
-    ensures { λ _. ⌜ now (number .exit) ≡ afterwards (λ s. s .number) (siteReadTold answer) (now (number .entry)) ⌝ }
+    ensures { λ r. ⌜ r ≡ numberOf (siteReadAnswer answer) ⌝ }
+    ensures { λ _. ⌜ now (x .exit) ≡ afterwards (λ s. s .x) (siteReadAnswer answer) (now (x .entry)) ⌝ }
+    ensures { λ _. ⌜ now (y .exit) ≡ afterwards (λ s. s .y) (siteReadAnswer answer) (now (y .entry)) ⌝ }
+    ensures { λ _. ⌜ now (number .exit) ≡ afterwards (λ s. s .number) (siteReadAnswer answer) (now (number .entry)) ⌝ }
 {
     match answer {
         SiteRead::Found(s) => {
@@ -94,7 +93,7 @@ fn file_site(
     number: &mut u32,
 ) -> u32
     ensures { λ r.
-        let told = siteTold (now (file .entry)) which place in
+        let told = siteAnswer (now (file .entry)) which place in
         ⌜ (r ≡ numberOf told)
         × ((now (x .exit) ≡ afterwards (λ s. s .x) told (now (x .entry)))
         × ((now (y .exit) ≡ afterwards (λ s. s .y) told (now (y .entry)))
@@ -113,10 +112,10 @@ pub extern "C" fn vumlintel_file_site_first(
     y: &mut i32,
     number: &mut u32,
 ) -> u32
-    ensures { λ r. ⌜ r ≡ numberOf (siteTold (now (file .entry)) First place) ⌝ }
-    ensures { λ _. ⌜ now (x .exit) ≡ afterwards (λ s. s .x) (siteTold (now (file .entry)) First place) (now (x .entry)) ⌝ }
-    ensures { λ _. ⌜ now (y .exit) ≡ afterwards (λ s. s .y) (siteTold (now (file .entry)) First place) (now (y .entry)) ⌝ }
-    ensures { λ _. ⌜ now (number .exit) ≡ afterwards (λ s. s .number) (siteTold (now (file .entry)) First place) (now (number .entry)) ⌝ }
+    ensures { λ r. ⌜ r ≡ numberOf (siteAnswer (now (file .entry)) First place) ⌝ }
+    ensures { λ _. ⌜ now (x .exit) ≡ afterwards (λ s. s .x) (siteAnswer (now (file .entry)) First place) (now (x .entry)) ⌝ }
+    ensures { λ _. ⌜ now (y .exit) ≡ afterwards (λ s. s .y) (siteAnswer (now (file .entry)) First place) (now (y .entry)) ⌝ }
+    ensures { λ _. ⌜ now (number .exit) ≡ afterwards (λ s. s .number) (siteAnswer (now (file .entry)) First place) (now (number .entry)) ⌝ }
 {
     file_site(file, Which::First, place, x, y, number)
 }
@@ -130,10 +129,10 @@ pub extern "C" fn vumlintel_file_site_second(
     y: &mut i32,
     number: &mut u32,
 ) -> u32
-    ensures { λ r. ⌜ r ≡ numberOf (siteTold (now (file .entry)) Second place) ⌝ }
-    ensures { λ _. ⌜ now (x .exit) ≡ afterwards (λ s. s .x) (siteTold (now (file .entry)) Second place) (now (x .entry)) ⌝ }
-    ensures { λ _. ⌜ now (y .exit) ≡ afterwards (λ s. s .y) (siteTold (now (file .entry)) Second place) (now (y .entry)) ⌝ }
-    ensures { λ _. ⌜ now (number .exit) ≡ afterwards (λ s. s .number) (siteTold (now (file .entry)) Second place) (now (number .entry)) ⌝ }
+    ensures { λ r. ⌜ r ≡ numberOf (siteAnswer (now (file .entry)) Second place) ⌝ }
+    ensures { λ _. ⌜ now (x .exit) ≡ afterwards (λ s. s .x) (siteAnswer (now (file .entry)) Second place) (now (x .entry)) ⌝ }
+    ensures { λ _. ⌜ now (y .exit) ≡ afterwards (λ s. s .y) (siteAnswer (now (file .entry)) Second place) (now (y .entry)) ⌝ }
+    ensures { λ _. ⌜ now (number .exit) ≡ afterwards (λ s. s .number) (siteAnswer (now (file .entry)) Second place) (now (number .entry)) ⌝ }
 {
     file_site(file, Which::Second, place, x, y, number)
 }

@@ -1,10 +1,9 @@
 // Checking a site list, and adding a site to one.
 ghost use mathlib.Core.Path.{_≡_};
-ghost use Rattle.site.specs.Told.{numberOf};
+ghost use Rattle.site.specs.Answer.{numberOf, afterwards};
 ghost use Rattle.site.specs.SiteList.{columns, site};
-ghost use Rattle.site.specs.Refusal.{checkTold};
-ghost use Rattle.site.specs.Addition.{addTold, addedColumns};
-ghost use Rattle.vumlintel.specs.Crossing.{afterwards};
+ghost use Rattle.site.specs.Refusal.{checkAnswer};
+ghost use Rattle.site.specs.Addition.{addAnswer, addedColumns};
 use site::Added;
 use site::Checked;
 use site::Site;
@@ -12,8 +11,8 @@ use site::Site;
 // Checking a site list: the site count.
 #[no_mangle]
 pub extern "C" fn vumlintel_check(x: &[i32], y: &[i32], number: &[u32], count: &mut u32) -> u32
-    ensures { λ r. ⌜ r ≡ numberOf (checkTold (columns (now (x .entry)) (now (y .entry)) (now (number .entry)))) ⌝ }
-    ensures { λ _. ⌜ now (count .exit) ≡ afterwards (λ n. n) (checkTold (columns (now (x .entry)) (now (y .entry)) (now (number .entry)))) (now (count .entry)) ⌝ }
+    ensures { λ r. ⌜ r ≡ numberOf (checkAnswer (columns (now (x .entry)) (now (y .entry)) (now (number .entry)))) ⌝ }
+    ensures { λ _. ⌜ now (count .exit) ≡ afterwards (λ n. n) (checkAnswer (columns (now (x .entry)) (now (y .entry)) (now (number .entry)))) (now (count .entry)) ⌝ }
 {
     let answer = site::check(x, y, number);
     match answer {
@@ -38,10 +37,10 @@ pub extern "C" fn vumlintel_add(
     place: &mut u32,
     count: &mut u32,
 ) -> u32
-    ensures { λ r. ⌜ r ≡ numberOf (addTold (columns (now (x .entry)) (now (y .entry)) (now (number .entry))) «in_use» (site «site_x» «site_y» «site_number»)) ⌝ }
+    ensures { λ r. ⌜ r ≡ numberOf (addAnswer (columns (now (x .entry)) (now (y .entry)) (now (number .entry))) «in_use» (site «site_x» «site_y» «site_number»)) ⌝ }
     ensures { λ _. ⌜ columns (now (x .exit)) (now (y .exit)) (now (number .exit)) ≡ addedColumns (columns (now (x .entry)) (now (y .entry)) (now (number .entry))) «in_use» (site «site_x» «site_y» «site_number») ⌝ }
-    ensures { λ _. ⌜ now (place .exit) ≡ afterwards (λ v. v .place) (addTold (columns (now (x .entry)) (now (y .entry)) (now (number .entry))) «in_use» (site «site_x» «site_y» «site_number»)) (now (place .entry)) ⌝ }
-    ensures { λ _. ⌜ now (count .exit) ≡ afterwards (λ v. v .count) (addTold (columns (now (x .entry)) (now (y .entry)) (now (number .entry))) «in_use» (site «site_x» «site_y» «site_number»)) (now (count .entry)) ⌝ }
+    ensures { λ _. ⌜ now (place .exit) ≡ afterwards (λ v. v .place) (addAnswer (columns (now (x .entry)) (now (y .entry)) (now (number .entry))) «in_use» (site «site_x» «site_y» «site_number»)) (now (place .entry)) ⌝ }
+    ensures { λ _. ⌜ now (count .exit) ≡ afterwards (λ v. v .count) (addAnswer (columns (now (x .entry)) (now (y .entry)) (now (number .entry))) «in_use» (site «site_x» «site_y» «site_number»)) (now (count .entry)) ⌝ }
 {
     let s = Site {
         x: site_x,

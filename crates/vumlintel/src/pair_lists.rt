@@ -1,23 +1,21 @@
 // The K list and the distance list of two lists.
 ghost use mathlib.Core.Path.{_≡_};
-ghost use Rattle.site.specs.Told.{numberOf};
-ghost use Rattle.site.specs.SiteList.{columns};
-ghost use Rattle.entry.specs.Results.{results};
+ghost use Rattle.site.specs.Answer.{numberOf, afterwards};
+ghost use Rattle.site.specs.SiteList.{columns, lentList};
+ghost use Rattle.entry.specs.Results.{results, lentResults};
 ghost use Rattle.sweep.specs.declared.Way.the-variants.{Classic, ReverseRun};
-ghost use Rattle.pairs.specs.KList.{kListTold, kListResults, listedTold};
-ghost use Rattle.pairs.specs.DistanceList.{distanceTold, distanceFirst, distanceSecond};
-ghost use Rattle.vumlintel.specs.Crossing.{afterwards};
-ghost use Rattle.vumlintel.specs.Lent.{lentList, lentResults};
+ghost use Rattle.pairs.specs.KList.{kListAnswer, kListResults, listedAnswer};
+ghost use Rattle.pairs.specs.DistanceList.{distanceAnswer, distanceFirst, distanceSecond};
 use pairs::Listed;
 use pairs::Within;
 use sweep::Way;
 
 // What a K list answers, across the boundary.
 fn cross_listed(answer: Listed, entries: &mut u32, looks: &mut u64, distances: &mut u64) -> u32
-    ensures { λ r. ⌜ r ≡ numberOf (listedTold answer) ⌝ }
-    ensures { λ _. ⌜ now (entries .exit) ≡ afterwards (λ v. v .count) (listedTold answer) (now (entries .entry)) ⌝ }
-    ensures { λ _. ⌜ now (looks .exit) ≡ afterwards (λ v. v .looks) (listedTold answer) (now (looks .entry)) ⌝ }
-    ensures { λ _. ⌜ now (distances .exit) ≡ afterwards (λ v. v .distances) (listedTold answer) (now (distances .entry)) ⌝ }
+    ensures { λ r. ⌜ r ≡ numberOf (listedAnswer answer) ⌝ }
+    ensures { λ _. ⌜ now (entries .exit) ≡ afterwards (λ v. v .count) (listedAnswer answer) (now (entries .entry)) ⌝ }
+    ensures { λ _. ⌜ now (looks .exit) ≡ afterwards (λ v. v .looks) (listedAnswer answer) (now (looks .entry)) ⌝ }
+    ensures { λ _. ⌜ now (distances .exit) ≡ afterwards (λ v. v .distances) (listedAnswer answer) (now (distances .entry)) ⌝ }
 {
     match answer {
         Listed::Entries {
@@ -55,7 +53,7 @@ fn k_list(
         let a = lentList ax ay an .entry in
         let b = lentList bx by bn .entry in
         let l = lentResults distance first second in
-        let told = kListTold way a b k (l .entry) in
+        let told = kListAnswer way a b k (l .entry) in
         ⌜ (r ≡ numberOf told)
         × ((l .exit ≡ kListResults a b k (l .entry))
         × ((now (entries .exit) ≡ afterwards (λ v. v .count) told (now (entries .entry)))
@@ -83,11 +81,11 @@ pub extern "C" fn vumlintel_k_list_classic(
     looks: &mut u64,
     distances: &mut u64,
 ) -> u32
-    ensures { λ r. ⌜ r ≡ numberOf (kListTold Classic (columns (now (ax .entry)) (now (ay .entry)) (now (an .entry))) (columns (now (bx .entry)) (now (by .entry)) (now (bn .entry))) k (results (now (distance .entry)) (now (first .entry)) (now (second .entry)))) ⌝ }
+    ensures { λ r. ⌜ r ≡ numberOf (kListAnswer Classic (columns (now (ax .entry)) (now (ay .entry)) (now (an .entry))) (columns (now (bx .entry)) (now (by .entry)) (now (bn .entry))) k (results (now (distance .entry)) (now (first .entry)) (now (second .entry)))) ⌝ }
     ensures { λ _. ⌜ results (now (distance .exit)) (now (first .exit)) (now (second .exit)) ≡ kListResults (columns (now (ax .entry)) (now (ay .entry)) (now (an .entry))) (columns (now (bx .entry)) (now (by .entry)) (now (bn .entry))) k (results (now (distance .entry)) (now (first .entry)) (now (second .entry))) ⌝ }
-    ensures { λ _. ⌜ now (entries .exit) ≡ afterwards (λ v. v .count) (kListTold Classic (columns (now (ax .entry)) (now (ay .entry)) (now (an .entry))) (columns (now (bx .entry)) (now (by .entry)) (now (bn .entry))) k (results (now (distance .entry)) (now (first .entry)) (now (second .entry)))) (now (entries .entry)) ⌝ }
-    ensures { λ _. ⌜ now (looks .exit) ≡ afterwards (λ v. v .looks) (kListTold Classic (columns (now (ax .entry)) (now (ay .entry)) (now (an .entry))) (columns (now (bx .entry)) (now (by .entry)) (now (bn .entry))) k (results (now (distance .entry)) (now (first .entry)) (now (second .entry)))) (now (looks .entry)) ⌝ }
-    ensures { λ _. ⌜ now (distances .exit) ≡ afterwards (λ v. v .distances) (kListTold Classic (columns (now (ax .entry)) (now (ay .entry)) (now (an .entry))) (columns (now (bx .entry)) (now (by .entry)) (now (bn .entry))) k (results (now (distance .entry)) (now (first .entry)) (now (second .entry)))) (now (distances .entry)) ⌝ }
+    ensures { λ _. ⌜ now (entries .exit) ≡ afterwards (λ v. v .count) (kListAnswer Classic (columns (now (ax .entry)) (now (ay .entry)) (now (an .entry))) (columns (now (bx .entry)) (now (by .entry)) (now (bn .entry))) k (results (now (distance .entry)) (now (first .entry)) (now (second .entry)))) (now (entries .entry)) ⌝ }
+    ensures { λ _. ⌜ now (looks .exit) ≡ afterwards (λ v. v .looks) (kListAnswer Classic (columns (now (ax .entry)) (now (ay .entry)) (now (an .entry))) (columns (now (bx .entry)) (now (by .entry)) (now (bn .entry))) k (results (now (distance .entry)) (now (first .entry)) (now (second .entry)))) (now (looks .entry)) ⌝ }
+    ensures { λ _. ⌜ now (distances .exit) ≡ afterwards (λ v. v .distances) (kListAnswer Classic (columns (now (ax .entry)) (now (ay .entry)) (now (an .entry))) (columns (now (bx .entry)) (now (by .entry)) (now (bn .entry))) k (results (now (distance .entry)) (now (first .entry)) (now (second .entry)))) (now (distances .entry)) ⌝ }
 {
     k_list(
         Way::Classic,
@@ -124,11 +122,11 @@ pub extern "C" fn vumlintel_k_list_reverse_run(
     looks: &mut u64,
     distances: &mut u64,
 ) -> u32
-    ensures { λ r. ⌜ r ≡ numberOf (kListTold ReverseRun (columns (now (ax .entry)) (now (ay .entry)) (now (an .entry))) (columns (now (bx .entry)) (now (by .entry)) (now (bn .entry))) k (results (now (distance .entry)) (now (first .entry)) (now (second .entry)))) ⌝ }
+    ensures { λ r. ⌜ r ≡ numberOf (kListAnswer ReverseRun (columns (now (ax .entry)) (now (ay .entry)) (now (an .entry))) (columns (now (bx .entry)) (now (by .entry)) (now (bn .entry))) k (results (now (distance .entry)) (now (first .entry)) (now (second .entry)))) ⌝ }
     ensures { λ _. ⌜ results (now (distance .exit)) (now (first .exit)) (now (second .exit)) ≡ kListResults (columns (now (ax .entry)) (now (ay .entry)) (now (an .entry))) (columns (now (bx .entry)) (now (by .entry)) (now (bn .entry))) k (results (now (distance .entry)) (now (first .entry)) (now (second .entry))) ⌝ }
-    ensures { λ _. ⌜ now (entries .exit) ≡ afterwards (λ v. v .count) (kListTold ReverseRun (columns (now (ax .entry)) (now (ay .entry)) (now (an .entry))) (columns (now (bx .entry)) (now (by .entry)) (now (bn .entry))) k (results (now (distance .entry)) (now (first .entry)) (now (second .entry)))) (now (entries .entry)) ⌝ }
-    ensures { λ _. ⌜ now (looks .exit) ≡ afterwards (λ v. v .looks) (kListTold ReverseRun (columns (now (ax .entry)) (now (ay .entry)) (now (an .entry))) (columns (now (bx .entry)) (now (by .entry)) (now (bn .entry))) k (results (now (distance .entry)) (now (first .entry)) (now (second .entry)))) (now (looks .entry)) ⌝ }
-    ensures { λ _. ⌜ now (distances .exit) ≡ afterwards (λ v. v .distances) (kListTold ReverseRun (columns (now (ax .entry)) (now (ay .entry)) (now (an .entry))) (columns (now (bx .entry)) (now (by .entry)) (now (bn .entry))) k (results (now (distance .entry)) (now (first .entry)) (now (second .entry)))) (now (distances .entry)) ⌝ }
+    ensures { λ _. ⌜ now (entries .exit) ≡ afterwards (λ v. v .count) (kListAnswer ReverseRun (columns (now (ax .entry)) (now (ay .entry)) (now (an .entry))) (columns (now (bx .entry)) (now (by .entry)) (now (bn .entry))) k (results (now (distance .entry)) (now (first .entry)) (now (second .entry)))) (now (entries .entry)) ⌝ }
+    ensures { λ _. ⌜ now (looks .exit) ≡ afterwards (λ v. v .looks) (kListAnswer ReverseRun (columns (now (ax .entry)) (now (ay .entry)) (now (an .entry))) (columns (now (bx .entry)) (now (by .entry)) (now (bn .entry))) k (results (now (distance .entry)) (now (first .entry)) (now (second .entry)))) (now (looks .entry)) ⌝ }
+    ensures { λ _. ⌜ now (distances .exit) ≡ afterwards (λ v. v .distances) (kListAnswer ReverseRun (columns (now (ax .entry)) (now (ay .entry)) (now (an .entry))) (columns (now (bx .entry)) (now (by .entry)) (now (bn .entry))) k (results (now (distance .entry)) (now (first .entry)) (now (second .entry)))) (now (distances .entry)) ⌝ }
 {
     k_list(
         Way::ReverseRun,
@@ -162,10 +160,10 @@ pub extern "C" fn vumlintel_distance_list(
     second: &mut [u32],
     count: &mut u64,
 ) -> u32
-    ensures { λ r. ⌜ r ≡ numberOf (distanceTold (columns (now (ax .entry)) (now (ay .entry)) (now (an .entry))) (columns (now (bx .entry)) (now (by .entry)) (now (bn .entry))) e (now (first .entry)) (now (second .entry))) ⌝ }
+    ensures { λ r. ⌜ r ≡ numberOf (distanceAnswer (columns (now (ax .entry)) (now (ay .entry)) (now (an .entry))) (columns (now (bx .entry)) (now (by .entry)) (now (bn .entry))) e (now (first .entry)) (now (second .entry))) ⌝ }
     ensures { λ _. ⌜ now (first .exit) ≡ distanceFirst (columns (now (ax .entry)) (now (ay .entry)) (now (an .entry))) (columns (now (bx .entry)) (now (by .entry)) (now (bn .entry))) e (now (first .entry)) (now (second .entry)) ⌝ }
     ensures { λ _. ⌜ now (second .exit) ≡ distanceSecond (columns (now (ax .entry)) (now (ay .entry)) (now (an .entry))) (columns (now (bx .entry)) (now (by .entry)) (now (bn .entry))) e (now (first .entry)) (now (second .entry)) ⌝ }
-    ensures { λ _. ⌜ now (count .exit) ≡ afterwards (λ n. n) (distanceTold (columns (now (ax .entry)) (now (ay .entry)) (now (an .entry))) (columns (now (bx .entry)) (now (by .entry)) (now (bn .entry))) e (now (first .entry)) (now (second .entry))) (now (count .entry)) ⌝ }
+    ensures { λ _. ⌜ now (count .exit) ≡ afterwards (λ n. n) (distanceAnswer (columns (now (ax .entry)) (now (ay .entry)) (now (an .entry))) (columns (now (bx .entry)) (now (by .entry)) (now (bn .entry))) e (now (first .entry)) (now (second .entry))) (now (count .entry)) ⌝ }
 {
     let answer = pairs::distance_list(ax, ay, an, bx, by, bn, e, first, second);
     match answer {

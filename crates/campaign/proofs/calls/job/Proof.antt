@@ -2,12 +2,12 @@
 use borrow.Author.Needs.{needs}
 use mathlib.Core.Path.{_≡_, sym, _∙_}
 use Prim.Native.Nat.{_<_}
-use Rattle.site.specs.SiteList.{Columns, Level, columns, sites}
+use Rattle.site.specs.SiteList.{Columns, columns, sites}
+use Rattle.site.specs.Terms.{Level}
 use Rattle.entry.specs.Results.{Results, results, entriesOf}
 use Rattle.campaign.specs.Grid.{Job, jobOf}
 use Rattle.campaign.specs.Calls.{jobRefusal, skips}
-use Rattle.campaign.proofs.JobTests.{job-kept, job-few, job-levels, skip-asked, sweep-asked, job-refused}
-use Rattle.campaign.proofs.JobTests.{job-skipped, job-swept}
+use Rattle.campaign.proofs.JobTests.{job-kept, job-few, job-levels, skip-asked, sweep-asked, job-refused, job-skipped, job-swept}
 use Rattle.campaign.proofs.calls.job.Statement.{statement}
 use Rattle.campaign.proofs.calls.job.Tie as tie
 

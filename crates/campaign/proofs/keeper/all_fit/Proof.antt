@@ -8,12 +8,12 @@ use native.Mathlib.Omega.{arith}
 use borrow.Author.Tests.{not-true, not-false}
 use lib.ListN.{drop, getD}
 use Rattle.order.specs.Lists.{all}
-use Rattle.site.specs.SiteList.{Level, columns, sites}
+use Rattle.site.specs.SiteList.{columns, sites}
+use Rattle.site.specs.Terms.{Level, Numbered}
 use Rattle.entry.specs.declared.Entry.{Entry}
 use Rattle.entry.specs.Entry.{entry}
 use Rattle.entry.specs.Results.{results, entriesOf}
 use Rattle.campaign.specs.Keeper.{fits}
-use Rattle.site.specs.SiteList.{Numbered}
 use Rattle.campaign.proofs.KeeperTests.{stands-at, entries-many}
 use Rattle.campaign.proofs.Walks.{all-more, all-falls, all-end}
 use Rattle.campaign.proofs.keeper.all_fit.Statement.{statement}

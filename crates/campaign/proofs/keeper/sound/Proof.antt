@@ -8,7 +8,7 @@ use lib.ListN.{length}
 use borrow.Author.Tests.{not-true, not-false}
 use Rattle.site.specs.SiteList.{Columns, columns}
 use Rattle.entry.specs.Results.{results, roomFor}
-use Rattle.campaign.specs.Kept.{SoundPlan, soundPlan}
+use Rattle.campaign.specs.Internal.{SoundPlan, soundPlan}
 use Rattle.campaign.proofs.PlanTests.{sound-plan, count-few}
 use Rattle.campaign.proofs.SoundTests.{plan-fails, room-fails, count-fails, sound-decided}
 use Rattle.campaign.proofs.keeper.sound.Statement.{statement}

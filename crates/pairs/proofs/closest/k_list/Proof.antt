@@ -1,13 +1,13 @@
 -- `pairs::k_list` meets its contract.
 use mathlib.Core.Path.{sym, _∙_}
 use borrow.Author.Needs.{needs}
-use Rattle.pairs.specs.KList.{listedTold}
+use Rattle.pairs.specs.KList.{listedAnswer}
 use Rattle.pairs.proofs.KListAnswers.{k-refused, sweep-asks, swept-is}
 use Rattle.pairs.proofs.closest.k_list.Statement.{statement}
 use Rattle.pairs.proofs.closest.k_list.Tie as tie
 
 returns : tie.Need-returns
-unfolding listedTold
+unfolding listedAnswer
 returns c = k-refused _ _ _ _ _ (c .before .k-list-refusal .ensures) (c .if1 .taken)
 
 run-requires : tie.Need-run-requires
@@ -16,7 +16,7 @@ run-requires c κs =
     sweep-asks _ _ _ _ (sym (e .before .k-list-refusal .ensures) ∙ e .if1 .left)
 
 returns-2 : tie.Need-returns-2
-unfolding listedTold
+unfolding listedAnswer
 returns-2 c =
     let w = c .before .before .before .before .before .before .before .before in
     let e = w .before .before .before .before in

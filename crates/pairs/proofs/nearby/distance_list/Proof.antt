@@ -1,13 +1,13 @@
 -- `pairs::distance_list` meets its contract.
 use mathlib.Core.Path.{sym, _∙_}
 use borrow.Author.Needs.{needs}
-use Rattle.pairs.specs.DistanceList.{withinTold}
+use Rattle.pairs.specs.DistanceList.{withinAnswer}
 use Rattle.pairs.proofs.DistanceAnswers.{accepted, refused-is, answered-is}
 use Rattle.pairs.proofs.nearby.distance_list.Statement.{statement}
 use Rattle.pairs.proofs.nearby.distance_list.Tie as tie
 
 returns : tie.Need-returns
-unfolding withinTold
+unfolding withinAnswer
 returns c = refused-is _ _ _ _ _ (c .before .distance-refusal .ensures) (c .if1 .taken)
 
 write-all-requires : tie.Need-write-all-requires
@@ -16,7 +16,7 @@ write-all-requires c κs =
     accepted _ _ _ _ _ (sym (e .before .distance-refusal .ensures) ∙ e .if1 .left)
 
 returns-2 : tie.Need-returns-2
-unfolding withinTold
+unfolding withinAnswer
 returns-2 c =
     let w = c .before .before .before .before in
     let e = w .before .before .before in

@@ -4,7 +4,7 @@ use native.Mathlib.Omega.{arith}
 use borrow.Author.Needs.{needs, sfits-of}
 use lib.ListN.{length}
 use mir.Facts.{toZ-ofZ}
-use Rattle.pairs.specs.Run.{nearPairs}
+use Rattle.pairs.specs.Internal.{nearPairs}
 use Rattle.pairs.proofs.DistanceRows.{pairs-none, row-asks, row-first, Ready, ready-starts, ready-more}
 use Rattle.pairs.proofs.Writes.{Writing, writing-starts, writing-room, writing-more, writing-ends}
 use Rattle.pairs.proofs.nearby.write_all.Statement.{statement}

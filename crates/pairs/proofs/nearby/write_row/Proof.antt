@@ -12,8 +12,8 @@ use mir.Syntax.{w32}
 use mir.Val.{toZ, ofZ}
 use Rattle.entry.specs.declared.Entry.{Entry}
 use Rattle.sweep.specs.Strip.{Placed, pair}
-use Rattle.sweep.specs.Runs.{spotOf, spot}
-use Rattle.pairs.specs.Run.{rowPairs}
+use Rattle.sweep.specs.Terms.{spotOf, spot}
+use Rattle.pairs.specs.Internal.{rowPairs}
 use Rattle.pairs.proofs.Rows.{near-none, near-yes, near-no, near-asks}
 use Rattle.pairs.proofs.Writes.{written-none, written-one, Writing, writing-starts, writing-room, writing-more, writing-ends}
 use Rattle.pairs.proofs.nearby.write_row.Statement.{statement}

@@ -10,7 +10,7 @@ use mir.Syntax.{w32, w64}
 use mir.Val.{SFits, toZ, ofZ}
 use Rattle.site.specs.Site.{gap}
 use Rattle.site.proofs.Machine.{cast-fits, cast-back, difference-fits, difference-back, size-small, unsigned-fits, positive}
-use Rattle.pairs.specs.Run.{offset}
+use Rattle.pairs.specs.Internal.{offset}
 use Rattle.pairs.proofs.window.offset.Statement.{statement}
 use Rattle.pairs.proofs.window.offset.Tie as tie
 

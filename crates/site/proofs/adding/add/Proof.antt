@@ -9,7 +9,8 @@ use lib.Seq.{length-take-le}
 use mir.Syntax.{w32}
 use mir.Val.{SFits}
 use mir.Facts.{toZ-ofZ}
-use Rattle.site.specs.SiteList.{Columns, Level, columns, site, sites, inUse}
+use Rattle.site.specs.SiteList.{Columns, columns, site, sites, inUse}
+use Rattle.site.specs.Terms.{Level}
 use Rattle.site.specs.Addition.{placeOf, addRefusal}
 use Rattle.site.proofs.Machine.{at₂}
 use Rattle.site.proofs.Columns.{sites-length}

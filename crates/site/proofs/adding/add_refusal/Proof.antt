@@ -10,7 +10,8 @@ use lib.Seq.{length-take-le}
 use mir.Facts.{toZ-ofZ}
 use Rattle.site.specs.declared.Site.{Site}
 use Rattle.site.specs.Site.{within}
-use Rattle.site.specs.SiteList.{Columns, Level, columns, site, sites, inUse}
+use Rattle.site.specs.SiteList.{Columns, columns, site, sites, inUse}
+use Rattle.site.specs.Terms.{Level}
 use Rattle.site.specs.Refusal.{listRefusal}
 use Rattle.site.specs.Addition.{present}
 use Rattle.site.proofs.Machine.{at₁, at₂}

@@ -4,8 +4,8 @@ use native.Mathlib.Omega.{arith}
 use borrow.Author.Needs.{needs}
 use lib.ListN.{length}
 use Rattle.site.specs.SiteList.{Columns, columns}
-use Rattle.site.specs.Refusal.{checkTold, checkedTold}
-use Rattle.site.proofs.Told.{told, told-refused}
+use Rattle.site.specs.Refusal.{checkAnswer, checkedAnswer}
+use Rattle.site.proofs.Answer.{answer-values, answer-refused}
 use Rattle.site.proofs.Accepted.{accepted-few}
 use Rattle.site.proofs.lists.check.Statement.{statement}
 use Rattle.site.proofs.lists.check.Tie as tie
@@ -17,12 +17,12 @@ cast-t8 : tie.Need-cast-t8
 cast-t8 c = omega (arith, accepted-few (lent (c .before .before .before)) (sym (c .before .list-refusal .ensures) ∙ c .if1 .taken))
 
 returns : tie.Need-returns
-unfolding checkTold checkedTold
-returns c = told (sym (c .before .list-refusal .ensures) ∙ c .if1 .taken)
+unfolding checkAnswer checkedAnswer
+returns c = answer-values (sym (c .before .list-refusal .ensures) ∙ c .if1 .taken)
 
 returns-2 : tie.Need-returns-2
-unfolding checkTold checkedTold
-returns-2 c = told-refused (length (c .before .before .before .args .x .now)) (c .before .list-refusal .ensures) (c .if1 .left)
+unfolding checkAnswer checkedAnswer
+returns-2 c = answer-refused (length (c .before .before .before .args .x .now)) (c .before .list-refusal .ensures) (c .if1 .left)
 
 pub check-spec : {M : Type 1} → statement M
 check-spec = tie.close (tie.spec (λ c κs. search needs) cast-t8 returns returns-2)

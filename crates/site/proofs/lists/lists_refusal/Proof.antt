@@ -2,7 +2,7 @@
 use borrow.Author.Needs.{needs}
 use Rattle.site.specs.Refusal.{listRefusal, listsRefusal}
 use Rattle.site.specs.SiteList.{Columns, columns}
-use Rattle.site.proofs.Told.{first-refused, next-decides}
+use Rattle.site.proofs.Answer.{first-refused, next-decides}
 use Rattle.site.proofs.lists.lists_refusal.Statement.{statement}
 use Rattle.site.proofs.lists.lists_refusal.Tie as tie
 

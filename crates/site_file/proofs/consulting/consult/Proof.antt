@@ -38,12 +38,12 @@ use denote.Triple.Walked.{says, Stays, stay-none, stay-none-slice, walkOf, goes-
 use denote.Exit.{yes}
 use denote.Triple.Clauses.{ensured, lasts}
 use Rattle.site.specs.declared.Site.{Site}
-use Rattle.site.specs.Told.{Told}
+use Rattle.site.specs.Answer.{Answer}
 use Rattle.site_file.specs.declared.Which.{Which}
 use Rattle.site_file.specs.declared.Which.the-variants.{First, Second}
 use Rattle.site_file.specs.File.{startIn}
-use Rattle.site_file.specs.Calls.{siteTold, siteReadTold}
-use Rattle.site_file.specs.Held.{heldTold}
+use Rattle.site_file.specs.Calls.{siteAnswer, siteReadAnswer}
+use Rattle.site_file.specs.Held.{heldAnswer}
 use Rattle.site_file.specs.declared.Reader.{Reader}
 use Rattle.site_file.specs.declared.SiteRead.{SiteRead}
 use Rattle.site_file.proofs.Held.{held-by}
@@ -92,8 +92,8 @@ module _ {M : Type 1} (𝓤 : URA M) (H : Heap 𝓤) (A : Atoms 𝓤) (W : Given
   abbrev at : Vals consult.signature (κ, tt)
   at = (v ∷ [], (x ∷ [], (vint w32 p ∷ [], tt)))
 
-  abbrev found : Told Site
-  found = siteTold (now s) w p
+  abbrev found : Answer Site
+  found = siteAnswer (now s) w p
 
   -- What `open` says of a reader.
   abbrev Opened : Reader → Type 0
@@ -101,7 +101,7 @@ module _ {M : Type 1} (𝓤 : URA M) (H : Heap 𝓤) (A : Atoms 𝓤) (W : Given
 
   -- What `site_in` says of an answer.
   abbrev Answered : Reader → SiteRead → Type 0
-  Answered r t = siteReadTold t ≡ heldTold (now (r .file)) (r .first) (r .second) w p
+  Answered r t = siteReadAnswer t ≡ heldAnswer (now (r .file)) (r .first) (r .second) w p
 
   -- The reader's type as a local of a body has it.
   abbrev αᵉ : NamedLft
@@ -138,7 +138,7 @@ module _ {M : Type 1} (𝓤 : URA M) (H : Heap 𝓤) (A : Atoms 𝓤) (W : Given
   site-said : (r : Reader) (t : SiteRead) → ent 𝓤 (ensured 𝓤 H A site-in.ended (site-in.clauses 𝓤 H A mem run) (κ, tt) (r, (w, (p, tt))) tt t) (fact 𝓤 (Answered r t))
   site-said r t = exE 𝓤 _ (λ ws. snd∗ 𝓤 (sem 𝓤 H A (lasts site-in.ended (κ, tt) (r, (w, (p, tt))) ws)) (fact 𝓤 (Answered r t)))
 
-  exits : (t : SiteRead) (u : Val) → siteReadTold t ≡ found → ent 𝓤 (⋆ 𝓤 H A (‵ (S.the-row .own t (u ∷ [])) ∷ (‵ (flft κ q) ⊛ ‵ ftrue) ∷ ‵ Own ∷ [])) (Post u)
+  exits : (t : SiteRead) (u : Val) → siteReadAnswer t ≡ found → ent 𝓤 (⋆ 𝓤 H A (‵ (S.the-row .own t (u ∷ [])) ∷ (‵ (flft κ q) ⊛ ‵ ftrue) ∷ ‵ Own ∷ [])) (Post u)
   exits t u e =
       qed W (‵ (S.the-row .own t (u ∷ [])) ∷ (‵ (flft κ q) ⊛ ‵ ftrue) ∷ ‵ Own ∷ []) ∵
       suffices ! _ (ends-at 𝓤 H A consult.ended stayed (consult.clauses 𝓤 H A mem run) W (((κ, tt), (q, tt), tt, (s, (w, (p, tt))), at), tt) u t (tt, (tt, (tt, tt))) (tt, (tt, (tt, tt)))) $ says ! e $

@@ -3,13 +3,13 @@ use mathlib.Core.Path.{sym, _∙_}
 use native.Mathlib.Omega.{arith}
 use Rattle.site_file.proofs.Contents.{laid, inside}
 use Rattle.site_file.proofs.Held.{held-start, held-refused, held-first-wrong, held-second-wrong, held-past, held-found}
-use Rattle.site_file.specs.Calls.{siteReadTold}
+use Rattle.site_file.specs.Calls.{siteReadAnswer}
 use borrow.Author.Needs.{needs}
 use Rattle.site_file.proofs.consulting.site_from.Statement.{statement}
 use Rattle.site_file.proofs.consulting.site_from.Tie as tie
 
 returns : tie.Need-returns
-unfolding siteReadTold
+unfolding siteReadAnswer
 returns c =
     held-refused _ _ _ _ _ (c .before .contents-refusal .ensures) (c .if1 .taken)
 
@@ -18,7 +18,7 @@ word-at-requires c κs =
     let g = laid _ (sym (c .before .contents-refusal .ensures) ∙ c .if1 .left) in omega arith
 
 returns-2 : tie.Need-returns-2
-unfolding siteReadTold
+unfolding siteReadAnswer
 returns-2 c =
     held-first-wrong _ _ _ _ _ (c .before .before .before .contents-refusal .ensures) (c .before .before .if1 .left) (c .before .word-at .ensures) (c .if2 .taken)
 
@@ -27,7 +27,7 @@ word-at-requires-2 c κs =
     let g = laid _ (sym (c .before .before .before .contents-refusal .ensures) ∙ c .before .before .if1 .left) in omega arith
 
 returns-3 : tie.Need-returns-3
-unfolding siteReadTold
+unfolding siteReadAnswer
 returns-3 c =
     held-second-wrong _ _ _ _ _ (c .before .before .before .before .before .contents-refusal .ensures) (c .before .before .before .before .if1 .left) (c .before .before .before .word-at .ensures) (c .before .before .if2 .left) (c .before .word-at2 .ensures) (c .if3 .taken)
 
@@ -36,7 +36,7 @@ count-in-requires c κs =
     let g = laid _ (sym (c .before .before .before .before .before .contents-refusal .ensures) ∙ c .before .before .before .before .if1 .left) in omega arith
 
 returns-4 : tie.Need-returns-4
-unfolding siteReadTold
+unfolding siteReadAnswer
 returns-4 c =
     held-past _ _ _ _ _ (c .before .before .before .before .before .before .before .contents-refusal .ensures) (c .before .before .before .before .before .before .if1 .left) (c .before .before .before .before .before .word-at .ensures) (c .before .before .before .before .if2 .left) (c .before .before .before .word-at2 .ensures) (c .before .before .if3 .left) (c .before .count-in .ensures) (c .if4 .taken)
 
@@ -53,7 +53,7 @@ site-at-requires c κs =
     let g = inside _ (c .before .before .before .before .before .before .before .before .before .before .args .which) (laid _ (sym (c .before .before .before .before .before .before .before .before .contents-refusal .ensures) ∙ c .before .before .before .before .before .before .before .if1 .left)) in let e = held-start _ (c .before .before .before .before .before .before .before .before .before .before .args .which) (c .before .before .before .before .before .before .word-at .ensures) (c .before .before .before .before .before .if2 .left) (c .before .before .before .before .word-at2 .ensures) (c .before .before .before .if3 .left) in omega (arith, c .before .before .count-in .ensures, c .held-start .ensures)
 
 returns-5 : tie.Need-returns-5
-unfolding siteReadTold
+unfolding siteReadAnswer
 returns-5 c =
     held-found _ _ _ _ _ (c .before .before .before .before .before .before .before .before .before .contents-refusal .ensures) (c .before .before .before .before .before .before .before .before .if1 .left) (c .before .before .before .before .before .before .before .word-at .ensures) (c .before .before .before .before .before .before .if2 .left) (c .before .before .before .before .before .word-at2 .ensures) (c .before .before .before .before .if3 .left) (c .before .before .before .count-in .ensures) (c .before .before .if4 .left) (c .before .held-start .ensures) (c .site-at .ensures)
 

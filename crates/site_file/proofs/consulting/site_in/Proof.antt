@@ -43,9 +43,9 @@ use denote.Triple.Walked.{says, Stays, stay-none, walkOf, goes-none, Walks, ends
 use denote.Exit.{yes}
 use denote.Triple.Clauses.{ensured, lasts}
 use Rattle.site.specs.declared.Site.{Site}
-use Rattle.site.specs.Told.{Told}
-use Rattle.site_file.specs.Calls.{siteReadTold}
-use Rattle.site_file.specs.Held.{heldTold}
+use Rattle.site.specs.Answer.{Answer}
+use Rattle.site_file.specs.Calls.{siteReadAnswer}
+use Rattle.site_file.specs.Held.{heldAnswer}
 use Rattle.site_file.specs.declared.Reader.{Reader}
 use Rattle.site_file.specs.declared.SiteRead.{SiteRead}
 use Rattle.site_file.specs.declared.Which.{Which}
@@ -87,8 +87,8 @@ module _ {M : Type 1} (𝓤 : URA M) (H : Heap 𝓤) (A : Atoms 𝓤) (W : Given
   abbrev x : Val
   x = EL.val E.the-type E′.the-laws w
 
-  abbrev found : Told Site
-  found = heldTold (now (d .file)) (d .first) (d .second) w p
+  abbrev found : Answer Site
+  found = heldAnswer (now (d .file)) (d .first) (d .second) w p
 
   abbrev at : Vals site-in.signature (κ, tt)
   at = (mach ∷ [], (x ∷ [], (vint w32 p ∷ [], tt)))
@@ -137,10 +137,10 @@ module _ {M : Type 1} (𝓤 : URA M) (H : Heap 𝓤) (A : Atoms 𝓤) (W : Given
       move ! (2 ∷ 0 ∷ []) $ use2 W (raw (SiteFrom 𝓤 H A mem run .pre to)) asked $ frame ! $ done !)
 
   -- Of what the callee ensures, the clause alone.
-  said : (r : SiteRead) → ent 𝓤 (ensured 𝓤 H A site-from.ended (site-from.clauses 𝓤 H A mem run) (κ, tt) (d .file, (d .first, (d .second, (w, (p, tt))))) tt r) (fact 𝓤 (siteReadTold r ≡ found))
-  said r = exE 𝓤 _ (λ ws. snd∗ 𝓤 (sem 𝓤 H A (lasts site-from.ended (κ, tt) (d .file, (d .first, (d .second, (w, (p, tt))))) ws)) (fact 𝓤 (siteReadTold r ≡ found)))
+  said : (r : SiteRead) → ent 𝓤 (ensured 𝓤 H A site-from.ended (site-from.clauses 𝓤 H A mem run) (κ, tt) (d .file, (d .first, (d .second, (w, (p, tt))))) tt r) (fact 𝓤 (siteReadAnswer r ≡ found))
+  said r = exE 𝓤 _ (λ ws. snd∗ 𝓤 (sem 𝓤 H A (lasts site-from.ended (κ, tt) (d .file, (d .first, (d .second, (w, (p, tt))))) ws)) (fact 𝓤 (siteReadAnswer r ≡ found)))
 
-  exits : (r : SiteRead) (u : Val) → siteReadTold r ≡ found → ent 𝓤 (⋆ 𝓤 H A (‵ (S.the-row .own r (u ∷ [])) ∷ (‵ (flft κ q) ⊛ ‵ ftrue) ∷ ‵ Own ∷ [])) (Post u)
+  exits : (r : SiteRead) (u : Val) → siteReadAnswer r ≡ found → ent 𝓤 (⋆ 𝓤 H A (‵ (S.the-row .own r (u ∷ [])) ∷ (‵ (flft κ q) ⊛ ‵ ftrue) ∷ ‵ Own ∷ [])) (Post u)
   exits r u e =
       qed W (‵ (S.the-row .own r (u ∷ [])) ∷ (‵ (flft κ q) ⊛ ‵ ftrue) ∷ ‵ Own ∷ []) ∵
       suffices ! _ (ends-at 𝓤 H A site-in.ended stayed (site-in.clauses 𝓤 H A mem run) W (((κ, tt), (q, tt), tt, (d, (w, (p, tt))), at), tt) u r (tt, (tt, (tt, tt))) (tt, (tt, (tt, tt)))) $ says ! e $
@@ -159,7 +159,7 @@ module _ {M : Type 1} (𝓤 : URA M) (H : Heap 𝓤) (A : Atoms 𝓤) (W : Given
         move ! (14 ∷ []) $ use1 W (raw (SiteFrom 𝓤 H A mem run .pre to) ⊛ ‵ Own) (apart (wt .1 .1 .0 .fits) (wt .1 .1 .1 .0 .fits)) $ split ! $
         calls-at ! fm (SiteFrom 𝓤 H A mem run) known to (and-then ! (load ! (from ! (stop !)) (look ! 6 refl)) (and-then ! (load ! (from ! (stop !)) (look ! 4 refl)) (and-then ! (load ! (from ! (stop !)) (look ! 2 refl)) (and-then ! (load ! (from ! (stop !)) (look ! 10 refl)) (and-then ! (load ! (from ! (stop !)) (look ! 8 refl)) (no-more !)))))) (λ u.
         use1 W (later (some (λ (r : SiteRead). ((‵ (flft κ q) ⊛ ‵ ftrue) ⊛ ‵ (S.the-row .own r (u ∷ []))) ⊛ raw (ensured 𝓤 H A site-from.ended (site-from.clauses 𝓤 H A mem run) (κ, tt) (d .file, (d .first, (d .second, (w, (p, tt))))) tt r)))) (id⊢ 𝓤 _) $ await ! tt $ pick ! (λ r.
-        split ! $ move ! (1 ∷ []) $ use1 W (raw (fact 𝓤 (siteReadTold r ≡ found))) (said r) $ heard ! (siteReadTold r ≡ found) (λ e. split ! $ move ! (1 ∷ []) $
+        split ! $ move ! (1 ∷ []) $ use1 W (raw (fact 𝓤 (siteReadAnswer r ≡ found))) (said r) $ heard ! (siteReadAnswer r ≡ found) (λ e. split ! $ move ! (1 ∷ []) $
         -- [the result; the token; what the reader owns; _6; …; _1; …; room for _0; …]
         peeks ! S.the-row (Is S.the-row) (shows 𝓤 H A S.the-row) r (u ∷ []) (λ is.
         land ! (from ! (stop !)) (init ! 15 refl (EL.lawful S.the-type S′.the-laws 𝓤 H A W tt .typed r _ is .0)) $

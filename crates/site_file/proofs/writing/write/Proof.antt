@@ -3,13 +3,13 @@ use mathlib.Core.Path.{sym, _∙_}
 use native.Mathlib.Omega.{arith}
 use Rattle.site.proofs.Accepted.{accepted-level}
 use Rattle.site_file.proofs.WriteAnswer.{ready, write-refused, write-answered, write-untouched, write-stored}
-use Rattle.site_file.specs.Calls.{writtenTold}
+use Rattle.site_file.specs.Calls.{writtenAnswer}
 use borrow.Author.Needs.{needs}
 use Rattle.site_file.proofs.writing.write.Statement.{statement}
 use Rattle.site_file.proofs.writing.write.Tie as tie
 
 returns : tie.Need-returns
-unfolding writtenTold
+unfolding writtenAnswer
 returns c =
     (write-refused _ _ (c .before .before .before .before .before .args .buffer .now) (c .before .write-refusal .ensures) (c .if1 .taken), write-untouched _ _ (c .before .before .before .before .before .args .buffer .now) (c .before .write-refusal .ensures) (c .if1 .taken))
 
@@ -62,7 +62,7 @@ cast-t16 c =
     let g = ready _ _ _ (sym (c .before .before .before .before .before .before .before .before .before .before .before .before .before .write-refusal .ensures) ∙ c .before .before .before .before .before .before .before .before .before .before .before .before .if1 .left) in omega arith
 
 returns-2 : tie.Need-returns-2
-unfolding writtenTold
+unfolding writtenAnswer
 returns-2 c =
     (write-answered _ _ (c .before .before .before .before .before .before .before .before .before .before .before .before .before .before .before .before .before .args .buffer .now) (c .before .before .before .before .before .before .before .before .before .before .before .before .before .write-refusal .ensures) (c .before .before .before .before .before .before .before .before .before .before .before .before .if1 .left), write-stored _ _ (c .before .before .before .before .before .before .before .before .before .before .before .before .before .before .before .before .before .args .buffer .now) (c .before .before .before .before .before .before .before .before .before .before .before .before .before .write-refusal .ensures) (c .before .before .before .before .before .before .before .before .before .before .before .before .if1 .left) (c .before .before .before .before .before .before .before .before .before .before .put-contents .ensures) (c .before .before .before .before .before .before .put-sites .ensures) (c .before .before .put-sites2 .ensures))
 

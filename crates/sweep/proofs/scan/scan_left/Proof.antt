@@ -3,7 +3,7 @@ use Prim.Native.Nat.{_-_, _≤_, _<_}
 use native.Mathlib.Omega.{arith}
 use borrow.Author.Needs.{needs}
 use Rattle.entry.specs.Results.{results}
-use Rattle.sweep.specs.Runs.{leftward}
+use Rattle.sweep.specs.Internal.{leftward}
 use Rattle.sweep.proofs.RunLaws.{leftward-nil, leftward-cons, length-leftward, left-limit}
 use Rattle.sweep.proofs.HeldLaws.{SameLengths, held-lengths}
 use Rattle.sweep.proofs.Scanning.{Scanning, tallied-at, scanning-starts, scanning-asks, scanning-ends, scanning-stops, scanning-goes}

@@ -3,7 +3,7 @@ use Prim.Native.Nat.{_-_, _≤_}
 use native.Mathlib.Omega.{arith}
 use borrow.Author.Needs.{needs}
 use Rattle.entry.specs.Results.{results}
-use Rattle.sweep.specs.Runs.{rightward}
+use Rattle.sweep.specs.Terms.{rightward}
 use Rattle.sweep.proofs.RunLaws.{rightward-nil, rightward-cons, length-rightward}
 use Rattle.sweep.proofs.HeldLaws.{SameLengths, held-lengths}
 use Rattle.sweep.proofs.Scanning.{Scanning, scanning-starts, scanning-asks, scanning-ends, scanning-stops, scanning-goes}

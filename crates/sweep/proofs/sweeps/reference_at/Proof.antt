@@ -1,6 +1,6 @@
 -- A reference read from its columns.
 use mir.Facts.{toZ-ofZ}
-use Rattle.sweep.specs.Runs.{referenceAt}
+use Rattle.sweep.specs.Internal.{referenceAt}
 use borrow.Author.Needs.{needs, sfits-of}
 use Rattle.sweep.proofs.sweeps.reference_at.Statement.{statement}
 use Rattle.sweep.proofs.sweeps.reference_at.Tie as tie

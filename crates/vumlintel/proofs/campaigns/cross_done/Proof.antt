@@ -1,9 +1,8 @@
 -- `cross_done` meets its contract: each arm returns and writes what its case of the outcome tells.
 use borrow.Author.Needs.{needs}
 use mathlib.Core.Path.{refl}
-use Rattle.site.specs.Told.{numberOf}
-use Rattle.campaign.specs.Calls.{jobDoneTold}
-use Rattle.vumlintel.specs.Crossing.{afterwards}
+use Rattle.site.specs.Answer.{numberOf, afterwards}
+use Rattle.campaign.specs.Calls.{jobDoneAnswer}
 use Rattle.vumlintel.proofs.campaigns.cross_done.Statement.{statement}
 use Rattle.vumlintel.proofs.campaigns.cross_done.Tie as tie
 
@@ -11,15 +10,15 @@ enum-told : tie.Need-enum-told
 enum-told c = search needs
 
 returns : tie.Need-returns
-unfolding jobDoneTold numberOf afterwards
+unfolding jobDoneAnswer numberOf afterwards
 returns c = rw (c .before .outcome .given .1) (refl, (refl, (refl, refl)))
 
 returns-2 : tie.Need-returns-2
-unfolding jobDoneTold numberOf afterwards
+unfolding jobDoneAnswer numberOf afterwards
 returns-2 c = rw (c .enum-told .given .1) (refl, (refl, (refl, refl)))
 
 returns-3 : tie.Need-returns-3
-unfolding jobDoneTold numberOf afterwards
+unfolding jobDoneAnswer numberOf afterwards
 returns-3 c = rw (c .before .outcome2 .given .1) (refl, (refl, (refl, refl)))
 
 pub cross-done-spec : {M : Type 1} → statement M

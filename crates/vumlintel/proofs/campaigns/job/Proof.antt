@@ -2,22 +2,22 @@
 use borrow.Author.Needs.{needs}
 use mathlib.Core.Path.{_≡_, sym, _∙_}
 use Prim.Native.Nat.{ℕ}
-use Rattle.site.specs.Told.{numberOf}
+use Rattle.site.specs.Answer.{numberOf}
 use Rattle.site.specs.SiteList.{Columns}
-use Rattle.site.proofs.Told.{number-tell, unless-kept}
+use Rattle.site.proofs.Answer.{answer-number, unless-kept}
 use Rattle.entry.specs.Results.{Results}
 use Rattle.sweep.specs.declared.Way.{Way}
 use Rattle.campaign.specs.declared.Campaign.{Campaign}
 use Rattle.campaign.specs.Grid.{Job}
-use Rattle.campaign.specs.Calls.{jobTold, jobCampaign}
+use Rattle.campaign.specs.Calls.{jobAnswer, jobCampaign}
 use Rattle.vumlintel.proofs.campaigns.job.Statement.{statement}
 use Rattle.vumlintel.proofs.campaigns.job.Tie as tie
 
 -- A refused job leaves the campaign.
 refused-leaves : (way : Way) (c : Campaign) (a b : Columns) (l : Results) (j : Job) {r : ℕ}
-    → r ≡ numberOf (jobTold way c a b l j) → (r ≡ 0 → ⊥) → c ≡ jobCampaign c a b l j
-unfolding jobTold jobCampaign
-refused-leaves way c a b l j number some = unless-kept _ _ (number ∙ number-tell _ _) some
+    → r ≡ numberOf (jobAnswer way c a b l j) → (r ≡ 0 → ⊥) → c ≡ jobCampaign c a b l j
+unfolding jobAnswer jobCampaign
+refused-leaves way c a b l j number some = unless-kept _ _ (number ∙ answer-number _ _) some
 
 returns : tie.Need-returns
 returns c =

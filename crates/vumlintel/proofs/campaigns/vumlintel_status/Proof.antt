@@ -1,9 +1,8 @@
 -- `vumlintel_status` meets its contract: each arm returns and writes what its case of the answer tells.
 use borrow.Author.Needs.{needs}
 use mathlib.Core.Path.{refl}
-use Rattle.site.specs.Told.{numberOf}
+use Rattle.site.specs.Answer.{numberOf, afterwards}
 use Rattle.campaign.specs.Calls.{statusOf}
-use Rattle.vumlintel.specs.Crossing.{afterwards}
 use Rattle.vumlintel.proofs.Crossing.{in-case}
 use Rattle.vumlintel.proofs.campaigns.vumlintel_status.Statement.{statement}
 use Rattle.vumlintel.proofs.campaigns.vumlintel_status.Tie as tie

@@ -1,24 +1,23 @@
 -- `vumlintel_write_file` meets its contract: each arm returns and writes what its case of the answer tells.
 use borrow.Author.Needs.{needs}
 use mathlib.Core.Path.{refl}
-use Rattle.site.specs.Told.{numberOf}
-use Rattle.site_file.specs.Calls.{writtenTold}
-use Rattle.vumlintel.specs.Crossing.{afterwards}
+use Rattle.site.specs.Answer.{numberOf, afterwards}
+use Rattle.site_file.specs.Calls.{writtenAnswer}
 use Rattle.vumlintel.proofs.Crossing.{in-case}
 use Rattle.vumlintel.proofs.files.vumlintel_write_file.Statement.{statement}
 use Rattle.vumlintel.proofs.files.vumlintel_write_file.Tie as tie
 
 returns : tie.Need-returns
-unfolding writtenTold numberOf afterwards
+unfolding writtenAnswer numberOf afterwards
 returns c =
     let write = c .before .before .before .before .before .write in
-    rw (← in-case writtenTold (c .before .answer .given .1) (write .ensures .0)) (refl, (write .ensures .1, refl))
+    rw (← in-case writtenAnswer (c .before .answer .given .1) (write .ensures .0)) (refl, (write .ensures .1, refl))
 
 returns-2 : tie.Need-returns-2
-unfolding writtenTold numberOf afterwards
+unfolding writtenAnswer numberOf afterwards
 returns-2 c =
     let write = c .before .before .before .before .before .write in
-    rw (← in-case writtenTold (c .before .answer2 .given .1) (write .ensures .0)) (refl, (write .ensures .1, refl))
+    rw (← in-case writtenAnswer (c .before .answer2 .given .1) (write .ensures .0)) (refl, (write .ensures .1, refl))
 
 pub vumlintel-write-file-spec : {M : Type 1} → statement M
 vumlintel-write-file-spec =

@@ -1,22 +1,21 @@
 -- `vumlintel_check` meets its contract: each arm returns and writes what its case of the answer tells.
 use borrow.Author.Needs.{needs}
 use mathlib.Core.Path.{refl}
-use Rattle.site.specs.Told.{numberOf}
-use Rattle.site.specs.Refusal.{checkedTold}
-use Rattle.vumlintel.specs.Crossing.{afterwards}
+use Rattle.site.specs.Answer.{numberOf, afterwards}
+use Rattle.site.specs.Refusal.{checkedAnswer}
 use Rattle.vumlintel.proofs.Crossing.{in-case}
 use Rattle.vumlintel.proofs.lists.vumlintel_check.Statement.{statement}
 use Rattle.vumlintel.proofs.lists.vumlintel_check.Tie as tie
 
 returns : tie.Need-returns
-unfolding checkedTold numberOf afterwards
+unfolding checkedAnswer numberOf afterwards
 returns c =
-    rw (← in-case checkedTold (c .before .answer .given .1) (c .before .before .before .check .ensures)) (refl, refl)
+    rw (← in-case checkedAnswer (c .before .answer .given .1) (c .before .before .before .check .ensures)) (refl, refl)
 
 returns-2 : tie.Need-returns-2
-unfolding checkedTold numberOf afterwards
+unfolding checkedAnswer numberOf afterwards
 returns-2 c =
-    rw (← in-case checkedTold (c .before .answer2 .given .1) (c .before .before .before .check .ensures)) (refl, refl)
+    rw (← in-case checkedAnswer (c .before .answer2 .given .1) (c .before .before .before .check .ensures)) (refl, refl)
 
 pub vumlintel-check-spec : {M : Type 1} → statement M
 vumlintel-check-spec =

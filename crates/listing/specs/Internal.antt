@@ -1,14 +1,14 @@
--- What the functions that write text into a lent buffer promise.
+-- Terms that only this crate's functions cite: what those that write text into a lent buffer ask and promise.
 use mathlib.Core.Path.{_≡_}
 use mathlib.Core.Bool.{true}
 use mathlib.Core.List.{List, map}
 use Prim.Native.Nat.{ℕ, _+_, _≤_, _<_}
 use lib.ListN.{length}
+use Rattle.column.specs.Column.{stored}
 use Rattle.site.specs.SiteList.{Columns}
 use Rattle.site.specs.Refusal.{listsRefusal}
 use Rattle.entry.specs.Entry.{lawfulK}
 use Rattle.site_file.specs.Calls.{readRefusal}
-use Rattle.column.specs.Column.{stored}
 use Rattle.listing.specs.Decimal.{decimal, digitAt, powersBelow}
 
 -- The buffer holds the text from position `at` on and is otherwise as it was `before`; `next` is the position past the text.

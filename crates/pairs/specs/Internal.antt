@@ -1,5 +1,4 @@
--- What the parts of a distance list ask and promise: a reference's run of other sites, the near ones, and their pairs written.
--- No number is read, so all is said of coordinate columns.
+-- Terms that only this crate's functions cite: a reference's run of other sites, the near ones, and their pairs written.
 use mathlib.Core.Path.{_≡_}
 use mathlib.Core.Bool.{Bool, true}
 use mathlib.Core.List.{List, map}
@@ -11,10 +10,11 @@ use Rattle.order.specs.Lists.{keep}
 use Rattle.column.specs.Column.{stored}
 use Rattle.site.specs.declared.Site.{Site}
 use Rattle.site.specs.Site.{within, gap, square, squaredDistance}
-use Rattle.site.specs.SiteList.{Coordinates, site}
+use Rattle.site.specs.SiteList.{site}
+use Rattle.site.specs.Terms.{Coordinates}
 use Rattle.entry.specs.declared.Entry.{Entry}
 use Rattle.sweep.specs.Strip.{Placed, pair, pairs}
-use Rattle.sweep.specs.Runs.{rightward}
+use Rattle.sweep.specs.Terms.{rightward}
 use Rattle.pairs.specs.declared.Run.{Run}
 
 -- How far a coordinate is right of the least `i32`.

@@ -4,7 +4,7 @@ use mathlib.Core.Bool.{Bool, true, false, not, cond}
 use Prim.Native.Nat.{ℕ, zero, suc}
 use native.Mathlib.Omega.{arith}
 use borrow.Author.Tests.{not-false}
-use Rattle.site.specs.Told.{refused, answered, tell, unlessRefused, numberOf, orElse}
+use Rattle.site.specs.Answer.{refused, answered, answerUnless, unlessRefused, afterwards, numberOf, orElse}
 
 -- There is none, or there is one.
 pub byNumber : {P : Type 0} → (n : ℕ) → (n ≡ 0 → P) → ((n ≡ 0 → ⊥) → P) → P
@@ -15,32 +15,32 @@ byNumber (suc n) none some = some (λ e. omega arith)
 
 module _ {A : Type 0} where
   -- No refusal: the values.
-  pub told : {n : ℕ} {v : A} → n ≡ 0 → answered v ≡ tell n v
-  unfolding tell
-  told {n} {v} e = rw e
+  pub answer-values : {n : ℕ} {v : A} → n ≡ 0 → answered v ≡ answerUnless n v
+  unfolding answerUnless
+  answer-values {n} {v} e = rw e
 
   -- A refusal, as it was found: its number.
-  pub told-refused : {n r : ℕ} (v : A) → r ≡ n → (r ≡ 0 → ⊥) → refused r ≡ tell n v
-  unfolding tell
-  told-refused {r = zero} v e h = absurd (h refl)
-  told-refused {r = suc r} v e h = rw (← e)
+  pub answer-refused : {n r : ℕ} (v : A) → r ≡ n → (r ≡ 0 → ⊥) → refused r ≡ answerUnless n v
+  unfolding answerUnless
+  answer-refused {r = zero} v e h = absurd (h refl)
+  answer-refused {r = suc r} v e h = rw (← e)
 
   -- Values were told: there is no refusal, and they are those.
-  pub answer-told : (n : ℕ) (values c : A) → tell n values ≡ answered c → (n ≡ 0) × (values ≡ c)
-  unfolding tell
-  answer-told zero values c h = (refl, cc)
-  answer-told (suc n) values c h = let z : _≡_ {A = ℕ} 0 1 = cc in absurd (omega arith)
+  pub answered-values : (n : ℕ) (values c : A) → answerUnless n values ≡ answered c → (n ≡ 0) × (values ≡ c)
+  unfolding answerUnless
+  answered-values zero values c h = (refl, cc)
+  answered-values (suc n) values c h = let z : _≡_ {A = ℕ} 0 1 = cc in absurd (omega arith)
 
   -- A number was told: it is the refusal's.
-  pub refusal-told : (n r : ℕ) (values : A) → refused r ≡ tell n values → (r ≡ n) × (n ≡ 0 → ⊥)
-  unfolding tell
-  refusal-told zero r values h = let z : _≡_ {A = ℕ} 0 1 = cc in absurd (omega arith)
-  refusal-told (suc n) r values h = (cc, λ e. omega arith)
+  pub refused-number : (n r : ℕ) (values : A) → refused r ≡ answerUnless n values → (r ≡ n) × (n ≡ 0 → ⊥)
+  unfolding answerUnless
+  refused-number zero r values h = let z : _≡_ {A = ℕ} 0 1 = cc in absurd (omega arith)
+  refused-number (suc n) r values h = (cc, λ e. omega arith)
 
-  pub number-tell : (n : ℕ) (values : A) → numberOf (tell n values) ≡ n
-  unfolding tell numberOf
-  number-tell zero values = refl
-  number-tell (suc n) values = refl
+  pub answer-number : (n : ℕ) (values : A) → numberOf (answerUnless n values) ≡ n
+  unfolding answerUnless numberOf
+  answer-number zero values = refl
+  answer-number (suc n) values = refl
 
   -- ---- what a lent place holds
 
@@ -52,6 +52,17 @@ module _ {A : Type 0} where
   pub unless-done : {n r : ℕ} (before after : A) → r ≡ n → r ≡ 0 → after ≡ unlessRefused n before after
   unfolding unlessRefused
   unless-done before after e h = rw (← e, h)
+
+module _ {A B : Type 0} (value : A → B) where
+  pub after-refused : {n r : ℕ} (values : A) (before : B) → r ≡ n → (r ≡ 0 → ⊥)
+      → before ≡ afterwards value (answerUnless n values) before
+  unfolding answerUnless afterwards
+  after-refused {r = zero} values before e h = absurd (h refl)
+  after-refused {r = suc r} values before e h = rw (← e)
+
+  pub after-answered : {n : ℕ} (values : A) (before : B) → n ≡ 0 → value values ≡ afterwards value (answerUnless n values) before
+  unfolding answerUnless afterwards
+  after-answered values before e = rw e
 
 -- ---- the first of two
 

@@ -3,22 +3,27 @@ use mathlib.Core.Bool.{Bool, cond}
 use Prim.Native.Nat.{ℕ, zero, suc}
 
 -- "A refusal answers its number alone"; a success answers its values.
-pub data Told (A : Type 0) : Type 0 where
-  refused : ℕ → Told A
-  answered : A → Told A
+pub data Answer (A : Type 0) : Type 0 where
+  refused : ℕ → Answer A
+  answered : A → Answer A
 
 -- The answer under a refusal number: the values where it is 0.
-unfoldable pub tell : {A : Type 0} → ℕ → A → Told A
-tell zero values = answered values
-tell (suc n) values = refused (suc n)
+unfoldable pub answerUnless : {A : Type 0} → ℕ → A → Answer A
+answerUnless zero values = answered values
+answerUnless (suc n) values = refused (suc n)
 
 -- What a lent place holds afterwards: "every lent buffer and the campaign being as before" a refusal.
 unfoldable pub unlessRefused : {A : Type 0} → ℕ → A → A → A
 unlessRefused zero before after = after
 unlessRefused (suc n) before after = before
 
+-- What a lent place holds afterwards: a value of the answer, or what it held before a refusal.
+unfoldable pub afterwards : {A B : Type 0} → (A → B) → Answer A → B → B
+afterwards value (refused number) before = before
+afterwards value (answered values) before = value values
+
 -- The refusal's number of an answer, 0 for none.
-unfoldable pub numberOf : {A : Type 0} → Told A → ℕ
+unfoldable pub numberOf : {A : Type 0} → Answer A → ℕ
 numberOf (refused number) = number
 numberOf (answered values) = 0
 

@@ -1,0 +1,90 @@
+-- Terms that only this crate's functions cite: references, tallies, and what a look and a scan ask and promise.
+use mathlib.Core.Bool.{Bool, cond, _&&_, _||_, true}
+use mathlib.Core.List.{List, [], _∷_}
+use mathlib.Core.Path.{_≡_}
+use Prim.Native.Nat.{ℕ, zero, suc, _+_, _≤_, _<_, _^_}
+use lib.Dec.{leb, ltb}
+use lib.IntN.{ℤ, pos}
+use lib.ListN.{getD, length}
+use lib.Signed.{leZ}
+use Rattle.site.specs.SiteList.{site}
+use Rattle.site.specs.Site.{within}
+use Rattle.site.specs.Terms.{Coordinates}
+use Rattle.entry.specs.Results.{Results, entriesOf, holding, roomFor}
+use Rattle.entry.specs.Terms.{Ready, reachOf}
+use Rattle.sweep.specs.declared.Reference.{Reference}
+use Rattle.sweep.specs.declared.Tally.{Tally}
+use Rattle.sweep.specs.declared.Looked.{Looked}
+use Rattle.sweep.specs.Strip.{Placed}
+use Rattle.sweep.specs.Scan.{Candidate, State, LookDone}
+use Rattle.sweep.specs.Sweep.{look}
+use Rattle.sweep.specs.Terms.{spotOf, spot}
+
+-- `n` sites from place `limit` on, latest first.
+unfoldable pub leftward : List ℤ → List ℤ → ℕ → ℕ → List Placed
+leftward xs ys limit zero = []
+leftward xs ys limit (suc n) = spot xs ys (limit + n) ∷ leftward xs ys limit n
+
+-- The reference at a place of two coordinate columns.
+unfoldable pub referenceAt : List ℤ → List ℤ → ℕ → Bool → Reference
+referenceAt xs ys i swapped =
+    record { x = getD xs i (pos 0); y = getD ys i (pos 0); place = i; swapped = swapped }
+
+-- A look from a reference; it is `swapped` where it is the second list's.
+unfoldable pub lookFrom : Reference → Placed → Candidate
+lookFrom r o =
+    let site = spotOf (r .x) (r .y) (r .place) in
+    cond (r .swapped) (look o site) (look site o)
+
+-- Whether the next reference is the first list's: there is one, and the second list has none or one that it leads.
+unfoldable pub firstNext : List ℤ → ℕ → ℕ → List ℤ → ℕ → ℕ → Bool
+firstNext ax i aTo bx j bTo = ltb i aTo && (leb bTo j || leZ (getD ax i (pos 0)) (getD bx j (pos 0)))
+
+-- The state that a tally and the columns hold.
+unfoldable pub stateOf : Tally → Results → State
+stateOf t r = record { entries = entriesOf (t .count) r; looks = t .looks; distances = t .distances }
+
+-- The tally is that of the columns, which are ready for up to `k` entries: they hold its entries, and its reach is theirs.
+pub record TallyReady (k : ℕ) (t : Tally) (r : Results) : Type 0 where
+  pub some : 0 < k
+  pub ready : Ready k (t .count) r
+  pub reach : t .reach ≡ reachOf k (entriesOf (t .count) r)
+
+-- A look asks: a reference and another site within the limits, and room to count on.
+pub record LookAsked (o : Reference) (xs ys : List ℤ) (i k : ℕ) (old : Tally) (r : Results) : Type 0 where
+  pub across : within (o .x) ≡ true
+  pub up : within (o .y) ≡ true
+  pub others : Coordinates xs ys
+  pub inside : i < length xs
+  pub tally : TallyReady k old r
+  pub looks-fit : old .looks < 2 ^ 63
+  pub distances-fit : old .distances < 2 ^ 63
+
+-- A scan asks the same for the sites from place `from` up to, not including, place `to`.
+pub record ScanAsked (o : Reference) (xs ys : List ℤ) (from to k : ℕ) (old : Tally) (r : Results) : Type 0 where
+  pub across : within (o .x) ≡ true
+  pub up : within (o .y) ≡ true
+  pub others : Coordinates xs ys
+  pub range : from ≤ to
+  pub to-inside : to ≤ length xs
+  pub tally : TallyReady k old r
+  pub looks-fit : old .looks ≤ 2 ^ 62
+  pub distances-fit : old .distances ≤ 2 ^ 62
+
+-- The columns went from `before` with `old` entries to `r` with `count`, and hold nothing else that is new.
+pub record Held (k : ℕ) (before : Results) (old : ℕ) (r : Results) (count : ℕ) : Type 0 where
+  pub room : roomFor k before ≡ true
+  pub ready : Ready k count r
+  pub least : old ≤ count
+  pub rest : r ≡ holding (entriesOf count r) before
+
+-- The columns went from `before` with `old` entries to `r`, and with the tally they hold the state `s`.
+pub record Tallied (k : ℕ) (before : Results) (old : ℕ) (s : State) (r : Results) (t : Tally) : Type 0 where
+  pub held : Held k before old r (t .count)
+  pub reach : t .reach ≡ reachOf k (entriesOf (t .count) r)
+  pub state : stateOf t r ≡ s
+
+-- A look promises whether it stopped the scan, and the state that it leaves.
+pub record LookTold (k : ℕ) (before : Results) (old : ℕ) (d : LookDone) (r : Results) (l : Looked) : Type 0 where
+  pub stopped : l .stopped ≡ d .stopped
+  pub tally : Tallied k before old (d .state) r (l .tally)
