@@ -1,23 +1,26 @@
 -- The refusal of an addition, by the tests in their order.
-use mathlib.Core.Path.{_≡_, ap, _∙_}
+use mathlib.Core.Path.{_≡_, ap, ap₂, _∙_}
 use mathlib.Core.Bool.{true, false, not, cond, _||_}
 use Prim.Native.Nat.{ℕ, _+_, _≤_, _<_}
 use native.Mathlib.Omega.{arith}
 use borrow.Author.Tests.{ne-eqb, eq-eqb, lt-leb, le-leb, lt-ltb, le-ltb, leb-false, not-false}
 use lib.Dec.{leb, ltb}
 use lib.ListN.{length, length-take}
-use Rattle.column.specs.Column.{inserted}
 use Rattle.site.specs.declared.Site.{Site}
 use Rattle.site.specs.declared.Added.the-variants.{At, Refused}
-use Rattle.site.specs.Answer.{orElse, unlessRefused}
+use Rattle.site.specs.Answer.{afterwards, orElse}
 use Rattle.site.specs.Site.{within, lawfulSite}
-use Rattle.site.specs.SiteList.{Columns, columns, sites, inUse}
+use Rattle.site.specs.SiteList.{Columns, sites, inUse}
 use Rattle.site.specs.Terms.{Level}
 use Rattle.site.specs.Refusal.{equalLengths, contentRefusal, listRefusal}
-use Rattle.site.specs.Addition.{useFault, noRoom, placeOf, present, addRefusal, addedColumns, addAnswer, addedAnswer}
+use Rattle.site.specs.Addition.{useFault, noRoom, placeOf, present, addRefusal, AddValues, addValues, insertSite, addAnswer, addedAnswer}
 use Rattle.site.proofs.Lawful.{lawful-is, level-equal, equal-level, content-left}
 use Rattle.site.proofs.Cases.{or-first, or-second}
-use Rattle.site.proofs.Answer.{answer-values, answer-refused, first-refused, unless-kept, orElse-first, orElse-second, no-fault, fault-none}
+use Rattle.site.proofs.Answer.{answer-values, answer-refused, after-refused, after-answered, first-refused, orElse-first, orElse-second, no-fault, fault-none}
+
+-- The values of an addition that is not refused.
+abbrev added : Columns → ℕ → Site → AddValues
+added c n s = let p = placeOf s (sites (inUse n c)) in addValues (insertSite p n s c) p (n + 1)
 
 module _ (c : Columns) (n : ℕ) (s : Site) where
   pub add-unequal-y : (length (c .x) ≡ length (c .y) → ⊥) → 1 ≡ addRefusal c n s
@@ -141,21 +144,25 @@ module _ (c : Columns) (n : ℕ) (s : Site) (ok : addRefusal c n s ≡ 0) where
   unfolding useFault
   added-level = equal-level c (not-false (equalLengths c) (or-first (not (equalLengths c)) (ltb 65_535 n || ltb (length (c .x)) n) use-ok))
 
-  -- What is told, and what the columns hold.
-  pub added-told : {p : ℕ} → p ≡ placeOf s (sites (inUse n c)) → addedAnswer (At p (n + 1)) ≡ addAnswer c n s
-  unfolding addedAnswer addAnswer
-  added-told {p} e =
-      ap (λ (q : ℕ). addedAnswer (At q (n + 1))) e ∙ answer-values ok
+  -- What is answered, and what the columns hold.
+  module _ {p : ℕ} {d : Columns} (e : p ≡ placeOf s (sites (inUse n c))) (f : d ≡ insertSite p n s c) where
+    added-columns : d ≡ insertSite (placeOf s (sites (inUse n c))) n s c
+    added-columns = f ∙ ap (λ (q : ℕ). insertSite q n s c) e
 
-  pub added-columns : {p : ℕ} {d : Columns} → p ≡ placeOf s (sites (inUse n c)) → d ≡ columns (inserted p n (s .x) (c .x)) (inserted p n (s .y) (c .y)) (inserted p n (s .number) (c .number)) → d ≡ addedColumns c n s
-  unfolding addedColumns unlessRefused
-  added-columns {p} {d} e f = rw ok (f ∙ ap (λ (q : ℕ). columns (inserted q n (s .x) (c .x)) (inserted q n (s .y) (c .y)) (inserted q n (s .number) (c .number))) e)
+    pub added-answer : addedAnswer (At p (n + 1)) d ≡ addAnswer c n s
+    unfolding addedAnswer addAnswer
+    added-answer = ap₂ (λ (q : ℕ) (t : Columns). addedAnswer (At q (n + 1)) t) e added-columns ∙ answer-values ok
+
+    pub added-after : d ≡ afterwards (λ v. v .columns) (addAnswer c n s) c
+    unfolding addAnswer
+    added-after = added-columns ∙ after-answered (λ v. v .columns) (added c n s) c ok
 
 -- A refused addition changes nothing.
-pub refused-told : (c : Columns) (n : ℕ) (s : Site) {r : ℕ} → r ≡ addRefusal c n s → (r ≡ 0 → ⊥) → addedAnswer (Refused r) ≡ addAnswer c n s
-unfolding addedAnswer addAnswer
-refused-told c n s e h = answer-refused (record { place = placeOf s (sites (inUse n c)); count = n + 1 }) e h
+module _ (c : Columns) (n : ℕ) (s : Site) {r : ℕ} (e : r ≡ addRefusal c n s) (h : r ≡ 0 → ⊥) where
+  pub refused-answer : addedAnswer (Refused r) c ≡ addAnswer c n s
+  unfolding addedAnswer addAnswer
+  refused-answer = answer-refused (added c n s) e h
 
-pub refused-columns : (c : Columns) (n : ℕ) (s : Site) {r : ℕ} → r ≡ addRefusal c n s → (r ≡ 0 → ⊥) → c ≡ addedColumns c n s
-unfolding addedColumns
-refused-columns c n s e h = unless-kept c _ e h
+  pub refused-after : c ≡ afterwards (λ v. v .columns) (addAnswer c n s) c
+  unfolding addAnswer
+  refused-after = after-refused (λ v. v .columns) (added c n s) c e h

@@ -19,16 +19,17 @@ use Rattle.order.proofs.Lists.{all-weaken, all-holds, keep-yes, keep-none, perm
 use Rattle.order.proofs.Best.{insert-nil, insert-later, insert-here}
 use Rattle.order.proofs.Sorted.{insert-is-perm, sorted-insert, ascends-sorted, ascends-distinct, distinct-ascends}
 use Rattle.site.specs.declared.Site.{Site}
+use Rattle.site.specs.Answer.{afterwards}
 use Rattle.site.specs.Site.{lawfulSite, siteBefore}
-use Rattle.site.specs.SiteList.{Columns, columns, site, zipSites, sites, inUse}
+use Rattle.site.specs.SiteList.{Columns, site, zipSites, sites, inUse}
 use Rattle.site.specs.Terms.{Level}
 use Rattle.site.specs.Refusal.{listRefusal, LawfulList}
-use Rattle.site.specs.Addition.{placeOf, present, addRefusal, addedColumns}
+use Rattle.site.specs.Addition.{placeOf, present, addRefusal, insertSite, addAnswer}
 use Rattle.site.proofs.SiteOrder.{site-order}
 use Rattle.site.proofs.Columns.{sites-length}
 use Rattle.site.proofs.Kept.{place-le}
 use Rattle.site.proofs.Accepted.{content-inside, content-ascends, lawful-accepted}
-use Rattle.site.proofs.Addition.{in-use-level, added-content, added-lawful, added-new, added-room, added-few, added-level, added-columns}
+use Rattle.site.proofs.Addition.{in-use-level, added-content, added-lawful, added-new, added-room, added-few, added-level, added-after}
 
 -- An element put in at a place.
 abbrev put : {A : Type 0} → ℕ → A → List A → List A
@@ -116,14 +117,18 @@ module _ (c : Columns) (n : ℕ) (s : Site) (ok : addRefusal c n s ≡ 0) where
   room-number = omega (arith, added-room c n s ok, added-level c n s ok .number)
 
   grown : Columns
-  grown = columns (inserted spot n (s .x) (c .x)) (inserted spot n (s .y) (c .y)) (inserted spot n (s .number) (c .number))
+  grown = insertSite spot n s c
 
-  grown-is : grown ≡ addedColumns c n s
+  -- The columns after the addition.
+  abbrev after : Columns
+  after = afterwards (λ v. v .columns) (addAnswer c n s) c
+
+  grown-is : grown ≡ after
   unfolding grown spot old
-  grown-is = added-columns c n s ok refl refl
+  grown-is = added-after c n s ok refl refl
 
   grown-put : sites (inUse (n + 1) grown) ≡ put spot s old
-  unfolding sites inUse grown old
+  unfolding sites inUse insertSite grown old
   grown-put =
       (λ i. zipSites (inserted-in-use spot n (s .x) (c .x) spot-low (added-room c n s ok) i) (inserted-in-use spot n (s .y) (c .y) spot-low room-y i) (inserted-in-use spot n (s .number) (c .number) spot-low room-number i))
       ∙ zip-put spot (s .x) (s .y) (s .number) (take n (c .x)) (take n (c .y)) (take n (c .number)) (level .y) (level .number) (simp length-take (omega (arith, spot-low, added-room c n s ok)))
@@ -137,7 +142,7 @@ module _ (c : Columns) (n : ℕ) (s : Site) (ok : addRefusal c n s ≡ 0) where
   old-put = insert-at-place site-order s old old-ascends
 
   -- The sites in use afterwards.
-  pub added-sites : sites (inUse (n + 1) (addedColumns c n s)) ≡ insert siteBefore s (sites (inUse n c))
+  pub added-sites : sites (inUse (n + 1) after) ≡ insert siteBefore s (sites (inUse n c))
   unfolding old
   added-sites = ap (λ (d : Columns). sites (inUse (n + 1) d)) (sym grown-is) ∙ grown-put ∙ sym old-put
 
@@ -152,14 +157,14 @@ module _ (c : Columns) (n : ℕ) (s : Site) (ok : addRefusal c n s ≡ 0) where
       neither t e = rw e (simp (irrefl site-order t))
 
   grown-level : Level (inUse (n + 1) grown)
-  unfolding inUse grown
+  unfolding inUse insertSite grown
   grown-level = record {
     y = simp (length-take, length-inserted n (c .x) (added-room c n s ok) spot (s .x) spot-low, length-inserted n (c .y) room-y spot (s .y) spot-low) (omega (arith, added-level c n s ok .y));
     number = simp (length-take, length-inserted n (c .x) (added-room c n s ok) spot (s .x) spot-low, length-inserted n (c .number) room-number spot (s .number) spot-low) (omega (arith, added-level c n s ok .number));
   }
 
   grown-few : length (inUse (n + 1) grown .x) ≤ 65_535
-  unfolding inUse grown
+  unfolding inUse insertSite grown
   grown-few = simp length-take (omega (arith, added-few c n s ok))
 
   grown-sites : sites (inUse (n + 1) grown) ≡ insert siteBefore s old
@@ -183,5 +188,5 @@ module _ (c : Columns) (n : ℕ) (s : Site) (ok : addRefusal c n s ≡ 0) where
   }
 
   -- They are a lawful list.
-  pub added-accepted : listRefusal (inUse (n + 1) (addedColumns c n s)) ≡ 0
+  pub added-accepted : listRefusal (inUse (n + 1) after) ≡ 0
   added-accepted = rw (← grown-is) (lawful-accepted (inUse (n + 1) grown) grown-lawful)

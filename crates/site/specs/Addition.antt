@@ -9,7 +9,7 @@ use Rattle.column.specs.Column.{inserted}
 use Rattle.site.specs.declared.Site.{Site}
 use Rattle.site.specs.declared.Added.{Added}
 use Rattle.site.specs.declared.Added.the-variants.{At, Refused}
-use Rattle.site.specs.Answer.{Answer, refused, answered, answerUnless, unlessRefused, refuseIf, orElse}
+use Rattle.site.specs.Answer.{Answer, refused, answered, answerUnless, refuseIf, orElse}
 use Rattle.site.specs.Site.{lawfulSite, siteBefore}
 use Rattle.site.specs.SiteList.{Columns, columns, sites, inUse}
 use Rattle.site.specs.Refusal.{equalLengths, contentRefusal}
@@ -39,18 +39,25 @@ addRefusal c count s =
     (orElse (refuseIf (noRoom c count) 6) (refuseIf (present s (sites (inUse count c))) 11))))
 
 -- "Adding puts the site at its place and moves later ones up by one."
-unfoldable pub addedColumns : Columns → ℕ → Site → Columns
-addedColumns c count s =
-    let p = placeOf s (sites (inUse count c)) in
-    unlessRefused (addRefusal c count s) c
-    (columns (inserted p count (s .x) (c .x)) (inserted p count (s .y) (c .y)) (inserted p count (s .number) (c .number)))
+unfoldable pub insertSite : ℕ → ℕ → Site → Columns → Columns
+insertSite p count s c =
+    columns (inserted p count (s .x) (c .x)) (inserted p count (s .y) (c .y)) (inserted p count (s .number) (c .number))
 
--- "adding, the site's place and the new count in use", or the refusal.
-unfoldable pub addAnswer : Columns → ℕ → Site → Answer (record { place : ℕ; count : ℕ })
+-- The columns afterwards, "the site's place and the new count in use".
+pub record AddValues : Type 0 where
+  pub columns : Columns
+  pub place : ℕ
+  pub count : ℕ
+
+abbrev pub addValues : Columns → ℕ → ℕ → AddValues
+addValues c place count = record { columns = c; place = place; count = count }
+
+unfoldable pub addAnswer : Columns → ℕ → Site → Answer AddValues
 addAnswer c count s =
-    answerUnless (addRefusal c count s) (record { place = placeOf s (sites (inUse count c)); count = count + 1 })
+    let place = placeOf s (sites (inUse count c)) in
+    answerUnless (addRefusal c count s) (addValues (insertSite place count s c) place (count + 1))
 
--- The paper's number and values for each case of the answer.
-unfoldable pub addedAnswer : Added → Answer (record { place : ℕ; count : ℕ })
-addedAnswer (At place count) = answered (record { place = place; count = count })
-addedAnswer (Refused number) = refused number
+-- The number and the values for each case of `Added`, with the columns at exit.
+unfoldable pub addedAnswer : Added → Columns → Answer AddValues
+addedAnswer (At place count) c = answered (addValues c place count)
+addedAnswer (Refused number) c = refused number

@@ -6,11 +6,11 @@ ghost use mathlib.Core.Path.{_≡_};
 ghost use mathlib.Core.Bool.{cond, _||_};
 ghost use Prim.Native.Nat.{_≤_, _<_};
 ghost use lib.ListN.{length};
-ghost use Rattle.column.specs.Column.{inserted};
 ghost use Rattle.site.specs.Site.{siteBefore};
-ghost use Rattle.site.specs.SiteList.{site, columns, sites, siteAt};
+ghost use Rattle.site.specs.Answer.{afterwards};
+ghost use Rattle.site.specs.SiteList.{site, columns, lentList, sites, siteAt};
 ghost use Rattle.site.specs.Terms.{Level};
-ghost use Rattle.site.specs.Addition.{placeOf, present, addRefusal, addedColumns, addAnswer, addedAnswer};
+ghost use Rattle.site.specs.Addition.{placeOf, present, addRefusal, insertSite, addAnswer, addedAnswer};
 
 // 1 where the site at `i` comes before another, else 0.
 fn earlier_at(x: &[i32], y: &[i32], number: &[u32], i: usize, sx: i32, sy: i32, sn: u32) -> u32
@@ -120,7 +120,7 @@ fn add_refusal(x: &[i32], y: &[i32], number: &[u32], count: u32, sx: i32, sy: i3
 // A site at a place of the three columns, the rest of the first `n` moved up by one.
 fn insert_site(x: &mut [i32], y: &mut [i32], number: &mut [u32], place: usize, n: usize, s: Site)
     requires { ⌜ (place ≤ n) × (n < length (now x)) × (n < length (now y)) × (n < length (now number)) ⌝ }
-    ensures { λ _. ⌜ columns (now (x .exit)) (now (y .exit)) (now (number .exit)) ≡ columns (inserted place n (s .x) (now (x .entry))) (inserted place n (s .y) (now (y .entry))) (inserted place n (s .number) (now (number .entry))) ⌝ }
+    ensures { λ _. let c = lentList x y number in ⌜ c .exit ≡ insertSite place n s (c .entry) ⌝ }
 {
     column::insert_i32(x, place, n, s.x);
     column::insert_i32(y, place, n, s.y);
@@ -129,8 +129,10 @@ fn insert_site(x: &mut [i32], y: &mut [i32], number: &mut [u32], place: usize, n
 
 // A site at its place, later ones moved up by one. (01: adding a site.)
 pub fn add(x: &mut [i32], y: &mut [i32], number: &mut [u32], count: u32, s: Site) -> Added
-    ensures { λ r. ⌜ addedAnswer r ≡ addAnswer (columns (now (x .entry)) (now (y .entry)) (now (number .entry))) count s ⌝ }
-    ensures { λ _. ⌜ columns (now (x .exit)) (now (y .exit)) (now (number .exit)) ≡ addedColumns (columns (now (x .entry)) (now (y .entry)) (now (number .entry))) count s ⌝ }
+    ensures { λ r.
+        let c = lentList x y number in
+        let answer = addAnswer (c .entry) count s in
+        ⌜ (addedAnswer r (c .exit) ≡ answer) × (c .exit ≡ afterwards (λ v. v .columns) answer (c .entry)) ⌝ }
 {
     let refusal = add_refusal(x, y, number, count, s.x, s.y, s.number);
     if refusal != 0 {

@@ -15,7 +15,7 @@ use Rattle.site.specs.Addition.{placeOf, addRefusal}
 use Rattle.site.proofs.Machine.{at₂}
 use Rattle.site.proofs.Columns.{sites-length}
 use Rattle.site.proofs.Kept.{place-le}
-use Rattle.site.proofs.Addition.{in-use-level, added-level, added-room, added-few, added-told, added-columns, refused-told, refused-columns}
+use Rattle.site.proofs.Addition.{in-use-level, added-level, added-room, added-few, added-answer, added-after, refused-answer, refused-after}
 use Rattle.site.proofs.adding.add.Statement.{statement}
 use Rattle.site.proofs.adding.add.Tie as tie
 
@@ -51,7 +51,10 @@ few c = let e = start (c .before) in added-few (lent e) (e .args .count) (e .arg
 returns : tie.Need-returns
 returns c =
     let e = start (c .before) in
-    (refused-told (lent e) (e .args .count) (e .args .s) (learnt (c .before)) (c .if1 .taken), refused-columns (lent e) (e .args .count) (e .args .s) (learnt (c .before)) (c .if1 .taken))
+    let a = e .args in
+    let l = learnt (c .before) in
+    let h = c .if1 .taken in
+    (refused-answer (lent e) (a .count) (a .s) l h, refused-after (lent e) (a .count) (a .s) l h)
 
 within-y : (c : tie.Else1) → start (c .before) .args .count ≤ length (start (c .before) .args .y .now)
 within-y c = omega (arith, room c, level c .y)
@@ -130,7 +133,10 @@ returns-2 c =
     let g = h .before .before .before .before in
     let f = g .before .before .before .before .before .before in
     let e = start (f .before) in
-    (added-told (lent e) (e .args .count) (e .args .s) (accepted f) (learnt-place g), added-columns (lent e) (e .args .count) (e .args .s) (accepted f) (learnt-place g) (h .insert-site .ensures))
+    let a = e .args in
+    let p = learnt-place g in
+    let q = h .insert-site .ensures in
+    (added-answer (lent e) (a .count) (a .s) (accepted f) p q, added-after (lent e) (a .count) (a .s) (accepted f) p q)
 
 pub add-spec : {M : Type 1} → statement M
 add-spec =

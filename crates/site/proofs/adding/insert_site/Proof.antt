@@ -6,6 +6,7 @@ use mir.Val.{SFits}
 use mir.Facts.{toZ-ofZ}
 use Rattle.site.specs.SiteList.{columns}
 use Rattle.column.specs.Column.{inserted}
+use Rattle.site.specs.Addition.{insertSite}
 use Rattle.site.proofs.Machine.{at₁}
 use Rattle.site.proofs.adding.insert_site.Statement.{statement}
 use Rattle.site.proofs.adding.insert_site.Tie as tie
@@ -20,6 +21,7 @@ fits-y : (c : tie.After-struct-told2) → SFits w32 (start (c .before .before .b
 fits-y c = sfits-of (search needs)
 
 returns : tie.Need-returns
+unfolding insertSite
 returns c =
     let second = c .before .before .before .before .before in
     let first = second .before .before .before .before in
