@@ -1,10 +1,9 @@
 -- Examples of skips and of a job's refusals: what M1 to M10 do not tell apart.
 use mathlib.Core.Path.{_≡_, refl}
-use mathlib.Core.Bool.{cond}
 use mathlib.Core.List.{List, [], _∷_}
-use Prim.Native.Nat.{ℕ}
+use Prim.Native.Nat.{ℕ, _*_, _-_}
 use lib.IntN.{pos}
-use Rattle.site.specs.Answer.{refused, answered, answerUnless, unlessRefused, orElse, Answer}
+use Rattle.site.specs.Answer.{refused, answered, answerUnless, afterwards, orElse, Answer}
 use Rattle.sweep.specs.declared.Way.the-variants.{Classic}
 use Rattle.campaign.specs.declared.Campaign.{Campaign}
 use Rattle.order.specs.Best.{insert, inserts, sort, best}
@@ -19,20 +18,21 @@ use Rattle.entry.specs.Results.{entriesOf, zipEntries, holding, roomFor, Result
 use Rattle.sweep.specs.Scan.{beyond, looked, offered, scan}
 use Rattle.sweep.specs.Strip.{whole, placedFrom, strip, pair, product, pairs}
 use Rattle.sweep.specs.Sweep.{classicOver, leads, look, start, sweep}
-use Rattle.campaign.specs.Calls.{slots, newCampaign, jobRefusal, skips, jobEntries, afterJob, jobValues, jobAnswer, jobCampaign, jobResults, JobValues}
+use Rattle.campaign.specs.Calls.{slots, newCampaign, jobRefusal, skips, jobEntries, afterJob, jobAnswer, JobValues}
 use Rattle.campaign.specs.Grid.{lastEnd, lawfulEnds, stripFrom, stripTo, stripAt, stripHolding, countFrom, markOf, settledJobs, lawfulMark, lawfulMarks, jobPairs, jobsPairs, firstX, lastX, rangeGap, stripGap, squaredStripGap, Job, jobOf, jobs, settled, settle}
 use Rattle.campaign.specs.Keeper.{firstEnds, secondEnds, soundEnds, fits, soundEntry, settledTotal, rightCount, sound, campaignRefusal}
 
 -- What is told of a job, in one number: the refusal's, or 100 where it was swept and 200 where it was skipped.
 toldAs : Answer JobValues → ℕ
 toldAs (refused n) = n
-toldAs (answered v) = cond (v .swept) 100 200
+toldAs (answered v) = 200 - 100 * v .swept
 
 -- Jobs by the classic sweep, one after another.
 toldOf : Columns → Columns → Campaign → Results → List Job → List ℕ
 toldOf a b c r [] = []
 toldOf a b c r (j ∷ l) =
-    toldAs (jobAnswer Classic c a b r j) ∷ toldOf a b (jobCampaign c a b r j) (jobResults c a b r j) l
+    let answer = jobAnswer Classic c a b r j in
+    toldAs answer ∷ toldOf a b (afterwards (λ (v : JobValues). v .campaign) answer c) (afterwards (λ (v : JobValues). v .results) answer r) l
 
 one : Results
 one = results (0 ∷ []) (0 ∷ []) (0 ∷ [])
@@ -62,5 +62,5 @@ keeperFirst =
 told :
     equalGap ∷ ownRanges ∷ keeperFirst ∷ []
     ≡ (100 ∷ 100 ∷ 9 ∷ 8 ∷ 8 ∷ []) ∷ (100 ∷ 200 ∷ 200 ∷ 200 ∷ []) ∷ (7 ∷ 7 ∷ []) ∷ []
-unfolding toldAs toldOf one equalGap ownRanges keeperFirst lex insert inserts sort best ascending all keep sum overwritten gap square squaredOver squaredDistance within lawfulSite siteBefore sites zipSites equalLengths sizeFault contentRefusal listRefusal listsRefusal answerUnless unlessRefused orElse rankBefore bestK offer lastDistance entriesOf zipEntries holding roomFor whole placedFrom strip pair product pairs beyond looked offered scan classicOver leads look start sweep lawfulK last lastEnd lawfulEnds stripFrom stripTo stripAt stripHolding countFrom jobs markOf settled settle settledJobs lawfulMark lawfulMarks jobPairs jobsPairs firstX lastX rangeGap stripGap squaredStripGap firstEnds secondEnds soundEnds siteAt fits soundEntry settledTotal rightCount sound campaignRefusal slots newCampaign jobRefusal skips jobEntries afterJob jobValues jobAnswer jobCampaign jobResults
+unfolding toldAs toldOf one equalGap ownRanges keeperFirst lex insert inserts sort best ascending all keep sum overwritten gap square squaredOver squaredDistance within lawfulSite siteBefore sites zipSites equalLengths sizeFault contentRefusal listRefusal listsRefusal answerUnless afterwards orElse rankBefore bestK offer lastDistance entriesOf zipEntries holding roomFor whole placedFrom strip pair product pairs beyond looked offered scan classicOver leads look start sweep lawfulK last lastEnd lawfulEnds stripFrom stripTo stripAt stripHolding countFrom jobs markOf settled settle settledJobs lawfulMark lawfulMarks jobPairs jobsPairs firstX lastX rangeGap stripGap squaredStripGap firstEnds secondEnds soundEnds siteAt fits soundEntry settledTotal rightCount sound campaignRefusal slots newCampaign jobRefusal skips jobEntries afterJob jobAnswer
 told = refl

@@ -1,5 +1,5 @@
 -- A job, test by test, and what it leaves, skipped or swept.
-use mathlib.Core.Path.{_≡_, refl, sym, ap, _∙_}
+use mathlib.Core.Path.{_≡_, refl, sym, ap, ap₂, _∙_}
 use mathlib.Core.Bool.{Bool, true, false, cond, _&&_}
 use mathlib.Core.List.{List}
 use Prim.Native.Nat.{ℕ, _-_, _≤_, _<_}
@@ -11,11 +11,11 @@ use borrow.Author.Tests.{lt-ltb, le-ltb, ltb-true, eq-eqb, ne-eqb}
 use Rattle.order.specs.Terms.{Sorted}
 use Rattle.order.proofs.Sorted.{best-sorted}
 use Rattle.site.specs.declared.Site.{Site}
-use Rattle.site.specs.Answer.{orElse}
+use Rattle.site.specs.Answer.{answered, afterwards, orElse}
 use Rattle.site.specs.SiteList.{Columns, sites}
 use Rattle.site.specs.Terms.{Level, Coordinates}
 use Rattle.site.proofs.Cases.{and-first, and-second}
-use Rattle.site.proofs.Answer.{answer-values, answer-refused, unless-kept, unless-done, first-refused, next-decides, orElse-first, orElse-second, fault-none}
+use Rattle.site.proofs.Answer.{answer-values, answer-refused, after-refused, after-answered, first-refused, next-decides, orElse-first, orElse-second, fault-none}
 use Rattle.entry.specs.declared.Entry.{Entry}
 use Rattle.entry.specs.Entry.{bestK}
 use Rattle.entry.specs.Results.{Results, entriesOf, holding, roomFor}
@@ -37,7 +37,7 @@ use Rattle.campaign.specs.declared.JobDone.{JobDone}
 use Rattle.campaign.specs.declared.Strip.{Strip}
 use Rattle.campaign.specs.Grid.{stripAt, jobOf, settled, jobPairs, squaredStripGap}
 use Rattle.campaign.specs.Keeper.{firstEnds, secondEnds, campaignRefusal}
-use Rattle.campaign.specs.Calls.{jobRefusal, skips, jobEntries, afterJob, jobValues, jobAnswer, jobCampaign, jobResults, jobDoneAnswer}
+use Rattle.campaign.specs.Calls.{jobRefusal, skips, jobEntries, afterJob, JobValues, jobValues, jobAnswer, jobDoneAnswer}
 use Rattle.campaign.specs.Internal.{StripOf, JobAsked}
 use Rattle.site.proofs.Accepted.{accepted-level, accepted-order, accepted-coordinates}
 use Rattle.campaign.proofs.PlanTests.{asked-parts, first-strip, second-strip}
@@ -153,14 +153,18 @@ not-full c a b r s t room most h = simp (length-entries (c .k) (c .entries) r ro
 -- ---- what a job leaves
 
 module _ (way : Way) (c : Campaign) (a b : Columns) (r : Results) (s t : ℕ) where
-  -- A job as its answer and the result columns tell it.
-  abbrev pub Told-job : JobDone → Results → Type 0
-  Told-job d r' =
-      (jobDoneAnswer d ≡ jobAnswer way c a b r (jobOf s t)) × ((d .campaign ≡ jobCampaign c a b r (jobOf s t)) × (r' ≡ jobResults c a b r (jobOf s t)))
+  -- A job as its answer, its campaign and the result columns tell it.
+  abbrev pub Done-as : JobDone → Results → Type 0
+  Done-as d r' =
+      let answer = jobAnswer way c a b r (jobOf s t) in
+      (jobDoneAnswer d r' ≡ answer)
+      × ((d .campaign ≡ afterwards (λ (v : JobValues). v .campaign) answer c)
+      × (r' ≡ afterwards (λ (v : JobValues). v .results) answer r))
 
-  pub job-refused : {q : ℕ} → q ≡ jobRefusal c a b r (jobOf s t) → (q ≡ 0 → ⊥) → Told-job (record { campaign = c; outcome = outcome.Refused q }) r
-  unfolding jobDoneAnswer jobAnswer jobCampaign jobResults
-  job-refused is h = (answer-refused _ is h, (unless-kept c _ is h, unless-kept r _ is h))
+  pub job-refused : {q : ℕ} → q ≡ jobRefusal c a b r (jobOf s t) → (q ≡ 0 → ⊥)
+      → Done-as (record { campaign = c; outcome = outcome.Refused q }) r
+  unfolding jobDoneAnswer jobAnswer
+  job-refused is h = (answer-refused _ is h, (after-refused _ _ c is h, after-refused _ _ r is h))
 
   module _ (ok : jobRefusal c a b r (jobOf s t) ≡ 0) where
     entries : List Entry
@@ -202,38 +206,35 @@ module _ (way : Way) (c : Campaign) (a b : Columns) (r : Results) (s t : ℕ) wh
     unfolding jobEntries jobPairs firstStrip secondStrip
     swept-entries = sweep-sorted way (c .k) firstStrip secondStrip entries entries first-sorted second-sorted (sym own-best)
 
-    pub job-skipped : skips c (sites a) (sites b) (entriesOf (c .entries) r) (jobOf s t) ≡ true → {c' : Campaign} → c' ≡ afterJob c (c .entries) (jobOf s t)
-        → Told-job (record { campaign = c'; outcome = outcome.Skipped }) r
-    unfolding jobDoneAnswer jobAnswer jobCampaign jobResults jobValues entries
+    pub job-skipped : skips c (sites a) (sites b) (entriesOf (c .entries) r) (jobOf s t) ≡ true → {c' : Campaign}
+        → c' ≡ afterJob c (c .entries) (jobOf s t) → Done-as (record { campaign = c'; outcome = outcome.Skipped }) r
+    unfolding jobDoneAnswer jobAnswer entries
     job-skipped h {c'} e =
         let w = job-kept c a b r s t ok in
-        let same : jobEntries c (sites a) (sites b) (entriesOf (c .entries) r) (jobOf s t) ≡ entriesOf (c .entries) r = skipped-entries h in
+        let same : jobEntries c (sites a) (sites b) (entriesOf (c .entries) r) (jobOf s t) ≡ entriesOf (c .entries) r =
+        skipped-entries h in
         let count : length (jobEntries c (sites a) (sites b) (entriesOf (c .entries) r) (jobOf s t)) ≡ c .entries =
         ap (λ (l : List Entry). length l) same ∙ kept-length c a b r w in
         let after : c' ≡ afterJob c (length (jobEntries c (sites a) (sites b) (entriesOf (c .entries) r) (jobOf s t))) (jobOf s t) =
-        e ∙ ap (λ (n : ℕ). afterJob c n (jobOf s t)) (sym count) in (
-          rw (h, after) (answer-values ok),
-          (
-            after ∙ unless-done c _ refl ok,
-            sym (holding-self (c .k) (c .entries) r (w .room) (w .most)) ∙ ap (λ (l : List Entry). holding l r)
-                (sym same) ∙ unless-done r _ refl ok,
-          ),
+        e ∙ ap (λ (n : ℕ). afterJob c n (jobOf s t)) (sym count) in
+        let columns : r ≡ holding (jobEntries c (sites a) (sites b) (entriesOf (c .entries) r) (jobOf s t)) r =
+        sym (holding-self (c .k) (c .entries) r (w .room) (w .most)) ∙ ap (λ (l : List Entry). holding l r) (sym same) in (
+          ap₂ (λ (d : Campaign) (l : Results). answered (jobValues d l 0 0 0)) after columns ∙ rw h (answer-values ok),
+          (after ∙ after-answered _ _ c ok, columns ∙ after-answered _ _ r ok),
         )
 
     pub job-swept : skips c (sites a) (sites b) (entriesOf (c .entries) r) (jobOf s t) ≡ false → {r' : Results} {d : Swept}
         → SweptTo (sweep way (c .k) (stripAt (firstEnds c) (sites a) s) (stripAt (secondEnds c) (sites b) t) (entriesOf (c .entries) r)) r r' d
         → {c' : Campaign} → c' ≡ afterJob c (d .entries) (jobOf s t)
-        → Told-job (record { campaign = c'; outcome = outcome.Swept (d .looks) (d .distances) }) r'
-    unfolding jobDoneAnswer jobAnswer jobCampaign jobResults jobValues entries firstStrip secondStrip
+        → Done-as (record { campaign = c'; outcome = outcome.Swept (d .looks) (d .distances) }) r'
+    unfolding jobDoneAnswer jobAnswer entries firstStrip secondStrip
     job-swept h {r'} {d} w {c'} e =
         let count : d .entries ≡ length (jobEntries c (sites a) (sites b) (entriesOf (c .entries) r) (jobOf s t)) =
         w .entries ∙ ap (λ (l : List Entry). length l) swept-entries in
         let after : c' ≡ afterJob c (length (jobEntries c (sites a) (sites b) (entriesOf (c .entries) r) (jobOf s t))) (jobOf s t) =
-        e ∙ ap (λ (n : ℕ). afterJob c n (jobOf s t)) count in (
-          rw (h, after, w .looks, w .distances) (answer-values ok),
-          (
-            after ∙ unless-done c _ refl ok,
-            w .columns ∙ ap (λ (l : List Entry). holding l r) swept-entries
-                ∙ unless-done r _ refl ok,
-          ),
+        e ∙ ap (λ (n : ℕ). afterJob c n (jobOf s t)) count in
+        let columns : r' ≡ holding (jobEntries c (sites a) (sites b) (entriesOf (c .entries) r) (jobOf s t)) r =
+        w .columns ∙ ap (λ (l : List Entry). holding l r) swept-entries in (
+          rw (h, after, columns, w .looks, w .distances) (answer-values ok),
+          (after ∙ after-answered _ _ c ok, columns ∙ after-answered _ _ r ok),
         )

@@ -1,11 +1,11 @@
 -- What opening, a job and status answer, and what the campaign and the result columns then hold.
-use mathlib.Core.Bool.{Bool, true, false, not, cond, _&&_}
+use mathlib.Core.Bool.{Bool, not, cond, _&&_}
 use mathlib.Core.List.{List, [], _++_}
 use Prim.Native.Nat.{ℕ, _*_, _-_}
 use lib.Dec.{ltb}
 use lib.ListN.{length, replicate}
 use Rattle.site.specs.declared.Site.{Site}
-use Rattle.site.specs.Answer.{Answer, refused, answered, answerUnless, unlessRefused, refuseIf, orElse}
+use Rattle.site.specs.Answer.{Answer, refused, answered, answerUnless, refuseIf, orElse}
 use Rattle.site.specs.SiteList.{Columns, sites}
 use Rattle.site.specs.Refusal.{listsRefusal}
 use Rattle.entry.specs.declared.Entry.{Entry}
@@ -36,18 +36,22 @@ openRefusal a b k ends ends' r =
 unfoldable pub slots : List ℕ → List ℕ
 slots ends = ends ++ replicate (32 - length ends) 0
 
--- "the campaign with entry count 0", "1,024 marks, one for each job, all 0 at opening".
-unfoldable pub newCampaign : ℕ → List ℕ → List ℕ → Campaign
-newCampaign k ends ends' =
+-- A campaign of its parts: K, the entry count, and for each list its strips and its ends; then the marks.
+abbrev pub campaignOf : ℕ → ℕ → ℕ → ℕ → List ℕ → List ℕ → List ℕ → Campaign
+campaignOf k entries firstStrips secondStrips firstEnds secondEnds marks =
     record {
       k = k;
-      entries = 0;
-      «first_strips» = length ends;
-      «second_strips» = length ends';
-      «first_ends» = slots ends;
-      «second_ends» = slots ends';
-      marks = replicate 1024 0;
+      entries = entries;
+      «first_strips» = firstStrips;
+      «second_strips» = secondStrips;
+      «first_ends» = firstEnds;
+      «second_ends» = secondEnds;
+      marks = marks;
     }
+
+-- "the campaign with entry count 0", "1,024 marks, one for each job, all 0 at opening".
+unfoldable pub newCampaign : ℕ → List ℕ → List ℕ → Campaign
+newCampaign k ends ends' = campaignOf k 0 (length ends) (length ends') (slots ends) (slots ends') (replicate 1024 0)
 
 -- The campaign field of a refused opening: all 0.
 unfoldable pub noCampaign : Campaign
@@ -76,48 +80,31 @@ jobEntries c a b l j = bestK (c .k) (l ++ jobPairs (firstEnds c) (secondEnds c) 
 -- "Either way it becomes settled." All else of the campaign stays.
 unfoldable pub afterJob : Campaign → ℕ → Job → Campaign
 afterJob c count j =
-    record {
-      k = c .k;
-      entries = count;
-      «first_strips» = c .«first_strips»;
-      «second_strips» = c .«second_strips»;
-      «first_ends» = c .«first_ends»;
-      «second_ends» = c .«second_ends»;
-      marks = settle (c .marks) j;
-    }
+    campaignOf (c .k) count (c .«first_strips») (c .«second_strips») (c .«first_ends») (c .«second_ends») (settle (c .marks) j)
 
--- "a job, the campaign, whether it was swept or skipped, looks and distances (both 0 when skipped)".
+-- "a job, the campaign, whether it was swept or skipped, looks and distances"; the result columns; 1 for swept, 0 for skipped.
 pub record JobValues : Type 0 where
   pub campaign : Campaign
-  pub swept : Bool
+  pub results : Results
+  pub swept : ℕ
   pub looks : ℕ
   pub distances : ℕ
 
-unfoldable pub jobValues : Way → Campaign → List Site → List Site → List Entry → Job → JobValues
-jobValues way c a b l j =
-    let s = sweep way (c .k) (stripAt (firstEnds c) a (j .first)) (stripAt (secondEnds c) b (j .second)) l in
-    let skip = skips c a b l j in
-    record {
-      campaign = afterJob c (length (jobEntries c a b l j)) j;
-      swept = not skip;
-      looks = cond skip 0 (s .looks);
-      distances = cond skip 0 (s .distances);
-    }
+abbrev pub jobValues : Campaign → Results → ℕ → ℕ → ℕ → JobValues
+jobValues c r swept looks distances =
+    record { campaign = c; results = r; swept = swept; looks = looks; distances = distances }
 
+-- What a job answers: looks and distances are "both 0 when skipped".
 unfoldable pub jobAnswer : Way → Campaign → Columns → Columns → Results → Job → Answer JobValues
 jobAnswer way c a b r j =
-    answerUnless (jobRefusal c a b r j) (jobValues way c (sites a) (sites b) (entriesOf (c .entries) r) j)
-
--- What the campaign and the result columns are after a job.
-unfoldable pub jobCampaign : Campaign → Columns → Columns → Results → Job → Campaign
-jobCampaign c a b r j =
-    unlessRefused (jobRefusal c a b r j) c
-    (afterJob c (length (jobEntries c (sites a) (sites b) (entriesOf (c .entries) r) j)) j)
-
-unfoldable pub jobResults : Campaign → Columns → Columns → Results → Job → Results
-jobResults c a b r j =
-    unlessRefused (jobRefusal c a b r j) r
-    (holding (jobEntries c (sites a) (sites b) (entriesOf (c .entries) r) j) r)
+    let old = entriesOf (c .entries) r in
+    let new = jobEntries c (sites a) (sites b) old j in
+    let skip = skips c (sites a) (sites b) old j in
+    let first = stripAt (firstEnds c) (sites a) (j .first) in
+    let second = stripAt (secondEnds c) (sites b) (j .second) in
+    let s = sweep way (c .k) first second old in
+    answerUnless (jobRefusal c a b r j)
+    (jobValues (afterJob c (length new) j) (holding new r) (cond skip 0 1) (cond skip 0 (s .looks)) (cond skip 0 (s .distances)))
 
 -- "Status gives jobs settled, jobs in all, entries, and K."
 pub record StatusValues : Type 0 where
@@ -140,13 +127,12 @@ statusAnswer c a b r =
 unfoldable pub openedAnswer : Opened → Answer Campaign
 openedAnswer o = answerUnless (o .refusal) (o .campaign)
 
-unfoldable pub jobDoneAnswer : JobDone → Answer JobValues
-jobDoneAnswer d = case (d .outcome)
+unfoldable pub jobDoneAnswer : JobDone → Results → Answer JobValues
+jobDoneAnswer d r = case (d .outcome)
   where
     case : Outcome → Answer JobValues
-    case (outcome.Swept looks distances) =
-        answered (record { campaign = d .campaign; swept = true; looks = looks .0; distances = distances .0 })
-    case outcome.Skipped = answered (record { campaign = d .campaign; swept = false; looks = 0; distances = 0 })
+    case (outcome.Swept looks distances) = answered (jobValues (d .campaign) r 1 (looks .0) (distances .0))
+    case outcome.Skipped = answered (jobValues (d .campaign) r 0 0 0)
     case (outcome.Refused number) = refused number
 
 unfoldable pub statusOf : Status → Answer StatusValues

@@ -9,11 +9,19 @@ use super::keeper;
 use super::opening;
 use sweep::Way;
 ghost use mathlib.Core.Path.{_≡_};
-ghost use Rattle.site.specs.Answer.{unlessRefused};
-ghost use Rattle.site.specs.SiteList.{columns};
-ghost use Rattle.entry.specs.Results.{results};
+ghost use Rattle.site.specs.Answer.{afterwards};
+ghost use Rattle.site.specs.SiteList.{lentList};
+ghost use Rattle.entry.specs.Results.{lentResults};
 ghost use Rattle.campaign.specs.Grid.{jobOf};
-ghost use Rattle.campaign.specs.Calls.{openRefusal, newCampaign, noCampaign, openAnswer, openedAnswer, statusAnswer, statusOf, jobAnswer, jobDoneAnswer, jobCampaign, jobResults};
+ghost use Rattle.campaign.specs.Calls.{
+  noCampaign,
+  openAnswer,
+  openedAnswer,
+  statusAnswer,
+  statusOf,
+  jobAnswer,
+  jobDoneAnswer,
+};
 
 // Opens a campaign: K, the cut ends of each list, no job settled. No column is touched. (01: opening.)
 pub fn open(
@@ -30,17 +38,12 @@ pub fn open(
     first: &[u32],
     second: &[u32],
 ) -> Opened
-    ensures { λ r. ⌜
-        openedAnswer r ≡ openAnswer (columns (now (ax .entry)) (now (ay .entry)) (now (an .entry)))
-        (columns (now (bx .entry)) (now (by .entry)) (now (bn .entry))) k (now («first_ends» .entry))
-        (now («second_ends» .entry)) (results (now (distance .entry)) (now (first .entry)) (now (second .entry)))
-        ⌝ }
-    ensures { λ r. ⌜
-        r .campaign ≡ unlessRefused (openRefusal (columns (now (ax .entry)) (now (ay .entry)) (now (an .entry)))
-        (columns (now (bx .entry)) (now (by .entry)) (now (bn .entry))) k (now («first_ends» .entry))
-        (now («second_ends» .entry)) (results (now (distance .entry)) (now (first .entry)) (now (second .entry))))
-        noCampaign (newCampaign k (now («first_ends» .entry)) (now («second_ends» .entry)))
-        ⌝ }
+    ensures { λ r.
+        let a = lentList ax ay an .entry in
+        let b = lentList bx by bn .entry in
+        let l = lentResults distance first second .entry in
+        let answer = openAnswer a b k (now («first_ends» .entry)) (now («second_ends» .entry)) l in
+        ⌜ (openedAnswer r ≡ answer) × (r .campaign ≡ afterwards (λ c. c) answer noCampaign) ⌝ }
 {
     let refusal = opening::refusal(
         ax,
@@ -81,11 +84,11 @@ pub fn status(
     first: &[u32],
     second: &[u32],
 ) -> Status
-    ensures { λ r. ⌜
-        statusOf r ≡ statusAnswer c (columns (now (ax .entry)) (now (ay .entry)) (now (an .entry)))
-        (columns (now (bx .entry)) (now (by .entry)) (now (bn .entry)))
-        (results (now (distance .entry)) (now (first .entry)) (now (second .entry)))
-        ⌝ }
+    ensures { λ r.
+        let a = lentList ax ay an .entry in
+        let b = lentList bx by bn .entry in
+        let l = lentResults distance first second .entry in
+        ⌜ statusOf r ≡ statusAnswer c a b l ⌝ }
 {
     let refused = keeper::refusal(c, ax, ay, an, bx, by, bn, distance, first, second);
     if refused != 0 {
@@ -115,25 +118,13 @@ pub fn job(
     second_strip: u32,
     way: Way,
 ) -> JobDone
-    ensures { λ r. ⌜
-        jobDoneAnswer r ≡ jobAnswer way c (columns (now (ax .entry)) (now (ay .entry)) (now (an .entry)))
-        (columns (now (bx .entry)) (now (by .entry)) (now (bn .entry)))
-        (results (now (distance .entry)) (now (first .entry)) (now (second .entry)))
-        (jobOf «first_strip» «second_strip»)
-        ⌝ }
-    ensures { λ r. ⌜
-        r .campaign ≡ jobCampaign c (columns (now (ax .entry)) (now (ay .entry)) (now (an .entry)))
-        (columns (now (bx .entry)) (now (by .entry)) (now (bn .entry)))
-        (results (now (distance .entry)) (now (first .entry)) (now (second .entry)))
-        (jobOf «first_strip» «second_strip»)
-        ⌝ }
-    ensures { λ r. ⌜
-        (results (now (distance .exit)) (now (first .exit)) (now (second .exit))) ≡ jobResults c
-        (columns (now (ax .entry)) (now (ay .entry)) (now (an .entry)))
-        (columns (now (bx .entry)) (now (by .entry)) (now (bn .entry)))
-        (results (now (distance .entry)) (now (first .entry)) (now (second .entry)))
-        (jobOf «first_strip» «second_strip»)
-        ⌝ }
+    ensures { λ r.
+        let a = lentList ax ay an .entry in
+        let b = lentList bx by bn .entry in
+        let l = lentResults distance first second in
+        let answer = jobAnswer way c a b (l .entry) (jobOf «first_strip» «second_strip») in
+        ⌜ (jobDoneAnswer r (l .exit) ≡ answer) × ((r .campaign ≡ afterwards (λ v. v .campaign) answer c)
+        × (l .exit ≡ afterwards (λ v. v .results) answer (l .entry))) ⌝ }
 {
     let s = first_strip;
     let t = second_strip;
