@@ -7,13 +7,13 @@ use native.Mathlib.Omega.{arith}
 use borrow.Author.Tests.{lt-ltb, le-ltb, ltb-false}
 use lib.ListN.{length}
 use Rattle.column.proofs.Stored.{stored-start}
-use Rattle.site.specs.Answer.{refused, answered}
+use Rattle.site.specs.Answer.{refused, answered, afterwards}
 use Rattle.site.specs.SiteList.{Columns, sites}
 use Rattle.site.specs.Refusal.{listsRefusal}
-use Rattle.site.proofs.Answer.{answer-values, answer-refused, unless-kept, unless-done, first-refused, next-decides, orElse-first, orElse-second, no-fault}
+use Rattle.site.proofs.Answer.{answer-values, answer-refused, after-refused, after-answered, first-refused, next-decides, orElse-first, orElse-second, no-fault}
 use Rattle.site.proofs.Accepted.{accepted-level, both-accepted}
 use Rattle.entry.specs.declared.Entry.{Entry}
-use Rattle.pairs.specs.DistanceList.{distanceList, distanceRefusal, distanceFirst, distanceSecond, distanceAnswer}
+use Rattle.pairs.specs.DistanceList.{distanceList, distanceRefusal, distanceValues, distanceAnswer}
 use Rattle.pairs.specs.Internal.{InOrder, nearPairs, Room, Written}
 use Rattle.pairs.proofs.Offsets.{in-order}
 use Rattle.pairs.proofs.DistanceRows.{list-is}
@@ -71,20 +71,23 @@ module _ (a b : Columns) (e : ℕ) (first second : List ℕ) where
   -- The answer and the columns.
   pub refused-is : {r : ℕ} → r ≡ distanceRefusal a b e first second → (r ≡ 0 → ⊥)
       → (refused r ≡ distanceAnswer a b e first second)
-      × ((first ≡ distanceFirst a b e first second) × (second ≡ distanceSecond a b e first second))
-  unfolding distanceAnswer distanceFirst distanceSecond
-  refused-is p h = (answer-refused _ p h, (unless-kept first _ p h, unless-kept second _ p h))
+      × ((first ≡ afterwards (λ v. v .first) (distanceAnswer a b e first second) first)
+      × (second ≡ afterwards (λ v. v .second) (distanceAnswer a b e first second) second))
+  unfolding distanceAnswer
+  refused-is p h =
+      (answer-refused _ p h, (after-refused (λ v. v .first) _ first p h, after-refused (λ v. v .second) _ second p h))
 
   pub answered-is : {n : ℕ} {first′ second′ : List ℕ} → distanceRefusal a b e first second ≡ 0
       → Written near 0 first second first′ second′ n
-      → (answered n ≡ distanceAnswer a b e first second)
-      × ((first′ ≡ distanceFirst a b e first second) × (second′ ≡ distanceSecond a b e first second))
-  unfolding distanceAnswer distanceFirst distanceSecond
+      → (answered (distanceValues first′ second′ n) ≡ distanceAnswer a b e first second)
+      × ((first′ ≡ afterwards (λ v. v .first) (distanceAnswer a b e first second) first)
+      × (second′ ≡ afterwards (λ v. v .second) (distanceAnswer a b e first second) second))
+  unfolding distanceAnswer
   answered-is {n} {first′} {second′} ok w =
-      let v : Written listed 0 first second first′ second′ n = rw (both-listed e a b (accepted-lists ok)) w in (
-        ap answered (v .count ∙ zero-add (length listed)) ∙ answer-values ok,
-        (
-          v .in-first ∙ stored-start (map (λ p. p .first) listed) first ∙ unless-done first _ refl ok,
-          v .in-second ∙ stored-start (map (λ p. p .second) listed) second ∙ unless-done second _ refl ok,
-        ),
+      let v : Written listed 0 first second first′ second′ n = rw (both-listed e a b (accepted-lists ok)) w in
+      let f = v .in-first ∙ stored-start (map (λ p. p .first) listed) first in
+      let s = v .in-second ∙ stored-start (map (λ p. p .second) listed) second in
+      let c = v .count ∙ zero-add (length listed) in (
+        ap answered (λ i. distanceValues (f i) (s i) (c i)) ∙ answer-values ok,
+        (f ∙ after-answered (λ v. v .first) _ first ok, s ∙ after-answered (λ v. v .second) _ second ok),
       )

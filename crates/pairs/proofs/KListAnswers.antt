@@ -7,10 +7,10 @@ use native.Mathlib.Omega.{arith}
 use lib.ListN.{length}
 use Rattle.order.specs.Terms.{Sorted}
 use Rattle.order.proofs.Best.{best-nil}
-use Rattle.site.specs.Answer.{Answer, refused, answered, refuseIf, orElse}
+use Rattle.site.specs.Answer.{Answer, refused, answered, afterwards, refuseIf, orElse}
 use Rattle.site.specs.SiteList.{Columns, sites}
 use Rattle.site.specs.Refusal.{listRefusal, listsRefusal}
-use Rattle.site.proofs.Answer.{answer-values, answer-refused, unless-kept, unless-done, first-refused, next-decides, orElse-first, orElse-second, fault-none}
+use Rattle.site.proofs.Answer.{answer-values, answer-refused, after-refused, after-answered, first-refused, next-decides, orElse-first, orElse-second, fault-none}
 use Rattle.site.proofs.Accepted.{accepted-level, accepted-length, accepted-order, accepted-coordinates, both-accepted}
 use Rattle.entry.specs.declared.Entry.{Entry}
 use Rattle.entry.specs.Entry.{rankBefore, bestK, lawfulK}
@@ -24,7 +24,7 @@ use Rattle.sweep.specs.Sweep.{sweep}
 use Rattle.sweep.specs.Terms.{SweepAsked, SweptTo, SweptStrips}
 use Rattle.sweep.proofs.PlaceLaws.{strip-whole}
 use Rattle.sweep.proofs.SweepLaws.{sweep-whole-best}
-use Rattle.pairs.specs.KList.{kList, kListRefusal, kListResults, Counts, kListAnswer}
+use Rattle.pairs.specs.KList.{kList, kListRefusal, KListValues, kListValues, kListAnswer}
 
 sorted-none : (r : Results) → Sorted rankBefore (entriesOf 0 r)
 unfolding entriesOf Sorted
@@ -42,10 +42,12 @@ sweep-k-list way k a b oka okb =
     sweep-whole-best way k (sites a) (sites b) [] [] (accepted-order a oka) (accepted-order b okb)
     (sym (best-nil rankBefore k))
 
-counts-are : (s : State) (l : List Entry) {before after : Results} {answer : Swept} → s .entries ≡ l → SweptTo s before after answer
-    → _≡_ {A = Counts} (record { count = answer .entries; looks = answer .looks .0; distances = answer .distances .0 })
-    (record { count = length l; looks = s .looks; distances = s .distances })
-counts-are s l e v = λ i. record { count = (v .entries ∙ ap length e) i; looks = v .looks i; distances = v .distances i }
+values-are : (s : State) (l : List Entry) {before after : Results} {answer : Swept} → s .entries ≡ l → SweptTo s before after answer
+    → kListValues after (answer .entries) (answer .looks .0) (answer .distances .0)
+    ≡ kListValues (holding l before) (length l) (s .looks) (s .distances)
+values-are s l {before} e v =
+    λ i.
+    kListValues ((v .columns ∙ ap (λ (t : List Entry). holding t before) e) i) ((v .entries ∙ ap length e) i) (v .looks i) (v .distances i)
 
 module _ (a b : Columns) (k : ℕ) (r : Results) where
   -- The refusal, by its tests.
@@ -68,9 +70,9 @@ module _ (a b : Columns) (k : ℕ) (r : Results) where
       k-accepted g = next-decides p none (next-decides {q = 0} (rw (← l, h)) refl (rw (← m, g)))
 
   pub k-refused : (way : Way) {n : ℕ} → n ≡ kListRefusal a b k r → (n ≡ 0 → ⊥)
-      → (refused n ≡ kListAnswer way a b k r) × (r ≡ kListResults a b k r)
-  unfolding kListAnswer kListResults
-  k-refused way p h = (answer-refused _ p h, unless-kept r _ p h)
+      → (refused n ≡ kListAnswer way a b k r) × (r ≡ afterwards (λ v. v .results) (kListAnswer way a b k r) r)
+  unfolding kListAnswer
+  k-refused way p h = (answer-refused _ p h, after-refused (λ v. v .results) _ r p h)
 
   -- What no refusal tells.
   module _ (ok : kListRefusal a b k r ≡ 0) where
@@ -110,15 +112,13 @@ module _ (a b : Columns) (k : ℕ) (r : Results) where
     -- What it then answers and leaves.
     pub swept-is : (way : Way) {after : Results} {answer : Swept}
         → SweptStrips way (a .x) (a .y) (b .x) (b .y) 0 (length (a .x)) 0 (length (b .x)) k 0 r after answer
-        → (answered (record { count = answer .entries; looks = answer .looks .0; distances = answer .distances .0 })
-        ≡ kListAnswer way a b k r) × (after ≡ kListResults a b k r)
-    unfolding kListAnswer kListResults
+        → (answered (kListValues after (answer .entries) (answer .looks .0) (answer .distances .0)) ≡ kListAnswer way a b k r)
+        × (after ≡ afterwards (λ v. v .results) (kListAnswer way a b k r) r)
+    unfolding kListAnswer
     swept-is way {after} {answer} w =
         let s = sweep way k (whole (sites a)) (whole (sites b)) [] in
         let l = lists-accepted in
         let u = w .numbered (a .number) (b .number) (accepted-level a (l .0)) (accepted-level b (l .1)) in
         let v : SweptTo s r after answer = subst (λ (t : State). SweptTo t r after answer) (over-whole way) u in
-        let e = sweep-k-list way k a b (l .0) (l .1) in (
-          ap {B = Answer Counts} answered (counts-are s (kList k (sites a) (sites b)) e v) ∙ answer-values ok,
-          v .columns ∙ ap (λ (t : List Entry). holding t r) e ∙ unless-done r _ refl ok,
-        )
+        let e = values-are s (kList k (sites a) (sites b)) (sweep-k-list way k a b (l .0) (l .1)) v in
+        (ap {B = Answer KListValues} answered e ∙ answer-values ok, ap (λ v. v .results) e ∙ after-answered (λ v. v .results) _ r ok)

@@ -6,7 +6,7 @@ use lib.ListN.{length}
 use Rattle.order.specs.Lists.{keep}
 use Rattle.column.specs.Column.{overwritten}
 use Rattle.site.specs.declared.Site.{Site}
-use Rattle.site.specs.Answer.{Answer, refused, answered, answerUnless, unlessRefused, refuseIf, orElse}
+use Rattle.site.specs.Answer.{Answer, refused, answered, answerUnless, refuseIf, orElse}
 use Rattle.site.specs.Site.{square}
 use Rattle.site.specs.SiteList.{Columns, sites}
 use Rattle.site.specs.Refusal.{listsRefusal}
@@ -25,23 +25,23 @@ distanceRefusal a b e first second =
     orElse (listsRefusal a b)
     (refuseIf (ltb (min (length first) (length second)) (length (distanceList e (sites a) (sites b)))) 6)
 
--- What the two lent columns then hold.
-unfoldable pub distanceFirst : Columns → Columns → ℕ → List ℕ → List ℕ → List ℕ
-distanceFirst a b e first second =
-    unlessRefused (distanceRefusal a b e first second) first
-    (overwritten (map (λ p. p .first) (distanceList e (sites a) (sites b))) first)
+-- "a distance list, its count", and what the two columns then hold.
+pub record DistanceValues : Type 0 where
+  pub first : List ℕ
+  pub second : List ℕ
+  pub count : ℕ
 
-unfoldable pub distanceSecond : Columns → Columns → ℕ → List ℕ → List ℕ → List ℕ
-distanceSecond a b e first second =
-    unlessRefused (distanceRefusal a b e first second) second
-    (overwritten (map (λ p. p .second) (distanceList e (sites a) (sites b))) second)
+abbrev pub distanceValues : List ℕ → List ℕ → ℕ → DistanceValues
+distanceValues first second count = record { first = first; second = second; count = count }
 
--- "Its count is the exact number of pairs", or the refusal.
-unfoldable pub distanceAnswer : Columns → Columns → ℕ → List ℕ → List ℕ → Answer ℕ
+-- "Its count is the exact number of pairs."
+unfoldable pub distanceAnswer : Columns → Columns → ℕ → List ℕ → List ℕ → Answer DistanceValues
 distanceAnswer a b e first second =
-    answerUnless (distanceRefusal a b e first second) (length (distanceList e (sites a) (sites b)))
+    let l = distanceList e (sites a) (sites b) in
+    answerUnless (distanceRefusal a b e first second)
+    (distanceValues (overwritten (map (λ p. p .first) l) first) (overwritten (map (λ p. p .second) l) second) (length l))
 
--- The paper's number and value for each case of the answer.
-unfoldable pub withinAnswer : Within → Answer ℕ
-withinAnswer (Pairs count) = answered count
-withinAnswer (Refused number) = refused number
+-- The paper's number and value for each case of the answer, with what the columns hold at exit.
+unfoldable pub withinAnswer : Within → List ℕ → List ℕ → Answer DistanceValues
+withinAnswer (Pairs count) first second = answered (distanceValues first second count)
+withinAnswer (Refused number) first second = refused number

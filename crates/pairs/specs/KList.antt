@@ -4,7 +4,7 @@ use mathlib.Core.List.{List, []}
 use Prim.Native.Nat.{ℕ}
 use lib.ListN.{length}
 use Rattle.site.specs.declared.Site.{Site}
-use Rattle.site.specs.Answer.{Answer, refused, answered, answerUnless, unlessRefused, refuseIf, orElse}
+use Rattle.site.specs.Answer.{Answer, refused, answered, answerUnless, refuseIf, orElse}
 use Rattle.site.specs.SiteList.{Columns, sites}
 use Rattle.site.specs.Refusal.{listsRefusal}
 use Rattle.entry.specs.declared.Entry.{Entry}
@@ -25,28 +25,24 @@ unfoldable pub kListRefusal : Columns → Columns → ℕ → Results → ℕ
 kListRefusal a b k r =
     orElse (listsRefusal a b) (orElse (refuseIf (not (lawfulK k)) 4) (refuseIf (not (roomFor k r)) 6))
 
--- What the result columns then hold.
-unfoldable pub kListResults : Columns → Columns → ℕ → Results → Results
-kListResults a b k r = unlessRefused (kListRefusal a b k r) r (holding (kList k (sites a) (sites b)) r)
-
--- "a K list, the entry count, looks and distances": the counters are the sweep's own.
-pub record Counts : Type 0 where
+-- "a K list, the entry count, looks and distances", and what the result columns then hold.
+pub record KListValues : Type 0 where
+  pub results : Results
   pub count : ℕ
   pub looks : ℕ
   pub distances : ℕ
 
-unfoldable pub kListAnswer : Way → Columns → Columns → ℕ → Results → Answer Counts
-kListAnswer way a b k r =
-    let swept = sweep way k (whole (sites a)) (whole (sites b)) [] in
-    answerUnless (kListRefusal a b k r)
-    (record {
-      count = length (kList k (sites a) (sites b));
-      looks = swept .looks;
-      distances = swept .distances;
-    })
+abbrev pub kListValues : Results → ℕ → ℕ → ℕ → KListValues
+kListValues r count looks distances = record { results = r; count = count; looks = looks; distances = distances }
 
--- The paper's number and values for each case of the answer.
-unfoldable pub listedAnswer : Listed → Answer Counts
-listedAnswer (Entries count looks distances) =
-    answered (record { count = count; looks = looks .0; distances = distances .0 })
-listedAnswer (Refused number) = refused number
+-- The counters are the sweep's own.
+unfoldable pub kListAnswer : Way → Columns → Columns → ℕ → Results → Answer KListValues
+kListAnswer way a b k r =
+    let l = kList k (sites a) (sites b) in
+    let swept = sweep way k (whole (sites a)) (whole (sites b)) [] in
+    answerUnless (kListRefusal a b k r) (kListValues (holding l r) (length l) (swept .looks) (swept .distances))
+
+-- The paper's number and values for each case of the answer, with what the result columns hold at exit.
+unfoldable pub listedAnswer : Listed → Results → Answer KListValues
+listedAnswer (Entries count looks distances) r = answered (kListValues r count (looks .0) (distances .0))
+listedAnswer (Refused number) r = refused number

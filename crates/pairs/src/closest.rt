@@ -2,9 +2,10 @@
 use super::Listed;
 use sweep::Way;
 ghost use mathlib.Core.Path.{_≡_};
-ghost use Rattle.site.specs.SiteList.{columns};
-ghost use Rattle.entry.specs.Results.{results};
-ghost use Rattle.pairs.specs.KList.{kListRefusal, kListResults, kListAnswer, listedAnswer};
+ghost use Rattle.site.specs.Answer.{afterwards};
+ghost use Rattle.site.specs.SiteList.{lentList};
+ghost use Rattle.entry.specs.Results.{lentResults};
+ghost use Rattle.pairs.specs.KList.{kListRefusal, kListAnswer, listedAnswer};
 
 // The refusal of a K list: 1, 2 or 3 of the first list, else of the second, then 4 for K, then 6 for columns too short; 0 for none.
 fn k_list_refusal(
@@ -20,9 +21,9 @@ fn k_list_refusal(
     second: &[u32],
 ) -> u32
     ensures { λ r.
-        let a = columns (now (ax .entry)) (now (ay .entry)) (now (an .entry)) in
-        let b = columns (now (bx .entry)) (now (by .entry)) (now (bn .entry)) in
-        ⌜ r ≡ kListRefusal a b k (results (now (distance .entry)) (now (first .entry)) (now (second .entry))) ⌝ }
+        let a = lentList ax ay an .entry in
+        let b = lentList bx by bn .entry in
+        ⌜ r ≡ kListRefusal a b k (lentResults distance first second .entry) ⌝ }
 {
     let refusal = site::lists_refusal(ax, ay, an, bx, by, bn);
     if refusal != 0 {
@@ -52,11 +53,11 @@ pub fn k_list(
     second: &mut [u32],
 ) -> Listed
     ensures { λ r.
-        let a = columns (now (ax .entry)) (now (ay .entry)) (now (an .entry)) in
-        let b = columns (now (bx .entry)) (now (by .entry)) (now (bn .entry)) in
-        let before = results (now (distance .entry)) (now (first .entry)) (now (second .entry)) in
-        let after = results (now (distance .exit)) (now (first .exit)) (now (second .exit)) in
-        ⌜ (listedAnswer r ≡ kListAnswer way a b k before) × (after ≡ kListResults a b k before) ⌝ }
+        let a = lentList ax ay an .entry in
+        let b = lentList bx by bn .entry in
+        let l = lentResults distance first second in
+        let answer = kListAnswer way a b k (l .entry) in
+        ⌜ (listedAnswer r (l .exit) ≡ answer) × (l .exit ≡ afterwards (λ v. v .results) answer (l .entry)) ⌝ }
 {
     let refusal = k_list_refusal(ax, ay, an, bx, by, bn, k, distance, first, second);
     if refusal != 0 {

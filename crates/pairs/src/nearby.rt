@@ -8,9 +8,10 @@ ghost use Prim.Native.Nat.{_*_, _<_};
 ghost use lib.IntN.{pos};
 ghost use lib.ListN.{length, getD};
 ghost use Rattle.site.specs.Site.{within};
-ghost use Rattle.site.specs.SiteList.{columns, site};
+ghost use Rattle.site.specs.Answer.{afterwards};
+ghost use Rattle.site.specs.SiteList.{lentList, site};
 ghost use Rattle.sweep.specs.Terms.{spotOf};
-ghost use Rattle.pairs.specs.DistanceList.{distanceRefusal, distanceFirst, distanceSecond, distanceAnswer, withinAnswer};
+ghost use Rattle.pairs.specs.DistanceList.{distanceRefusal, distanceAnswer, withinAnswer};
 ghost use Rattle.pairs.specs.Internal.{InOrder, near, nearSites, rowPairs, nearPairs, Reference, Room, Written};
 
 // Whether a site is near a position: its squared distance is at most `e` squared. A difference of y beyond `e` decides alone.
@@ -142,8 +143,8 @@ fn distance_refusal(
     second: &[u32],
 ) -> u32
     ensures { λ r.
-        let a = columns (now (ax .entry)) (now (ay .entry)) (now (an .entry)) in
-        let b = columns (now (bx .entry)) (now (by .entry)) (now (bn .entry)) in
+        let a = lentList ax ay an .entry in
+        let b = lentList bx by bn .entry in
         ⌜ r ≡ distanceRefusal a b e (now (first .entry)) (now (second .entry)) ⌝ }
 {
     let refusal = site::lists_refusal(ax, ay, an, bx, by, bn);
@@ -173,13 +174,13 @@ pub fn distance_list(
     second: &mut [u32],
 ) -> Within
     ensures { λ r.
-        let a = columns (now (ax .entry)) (now (ay .entry)) (now (an .entry)) in
-        let b = columns (now (bx .entry)) (now (by .entry)) (now (bn .entry)) in
-        let f = now (first .entry) in
-        let s = now (second .entry) in
+        let a = lentList ax ay an .entry in
+        let b = lentList bx by bn .entry in
+        let answer = distanceAnswer a b e (now (first .entry)) (now (second .entry)) in
         ⌜
-        (withinAnswer r ≡ distanceAnswer a b e f s)
-        × ((now (first .exit) ≡ distanceFirst a b e f s) × (now (second .exit) ≡ distanceSecond a b e f s))
+        (withinAnswer r (now (first .exit)) (now (second .exit)) ≡ answer)
+        × ((now (first .exit) ≡ afterwards (λ v. v .first) answer (now (first .entry)))
+        × (now (second .exit) ≡ afterwards (λ v. v .second) answer (now (second .entry))))
         ⌝ }
 {
     let refusal = distance_refusal(ax, ay, an, bx, by, bn, e, first, second);
