@@ -4,10 +4,10 @@ use mathlib.Core.Bool.{true, cond}
 use mathlib.Core.List.{List}
 use Prim.Native.Nat.{ℕ, _≤_, _-_, _^_}
 use lib.Dec.{eqb}
-use lib.ListN.{length}
+use lib.ListN.{length, getD}
 use Rattle.order.specs.Terms.{Sorted}
 use Rattle.entry.specs.declared.Entry.{Entry}
-use Rattle.entry.specs.Entry.{rankBefore, lastDistance}
+use Rattle.entry.specs.Entry.{entry, rankBefore, lastDistance}
 use Rattle.entry.specs.Results.{Results, entriesOf, holding, roomFor}
 
 -- The columns have room for `k` entries and hold `count` of them, none before an earlier one.
@@ -20,6 +20,10 @@ pub record Ready (k count : ℕ) (r : Results) : Type 0 where
 pub record Holds (l : List Entry) (before after : Results) (count : ℕ) : Type 0 where
   pub entries : count ≡ length l
   pub columns : after ≡ holding l before
+
+-- The numbers at a place of the columns, 0 past a column's end.
+abbrev pub entryAt : Results → ℕ → Entry
+entryAt r i = entry (getD (r .distance) i 0) (getD (r .first) i 0) (getD (r .second) i 0)
 
 -- The greatest squared distance at which a pair can still enter: any of 64 bits while there are fewer than `k` entries.
 unfoldable pub reachOf : ℕ → List Entry → ℕ

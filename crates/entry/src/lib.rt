@@ -4,10 +4,10 @@ ghost use mathlib.Core.Bool.{cond};
 ghost use lib.Dec.{eqb};
 ghost use Prim.Native.Nat.{suc, min, _≤_, _<_, _-_, _^_};
 ghost use lib.ListN.{length, getD};
-ghost use Rattle.entry.specs.Entry.{entry, rankBefore, lawfulK, offer};
-ghost use Rattle.entry.specs.Results.{results, entriesOf, roomFor};
+ghost use Rattle.entry.specs.Entry.{rankBefore, lawfulK, offer};
+ghost use Rattle.entry.specs.Results.{results, lentResults, entriesOf, roomFor};
 ghost use Rattle.entry.specs.Internal.{PlaceOf};
-ghost use Rattle.entry.specs.Terms.{Ready, Holds};
+ghost use Rattle.entry.specs.Terms.{Ready, Holds, entryAt};
 
 // A pair with its squared distance.
 pub struct Entry {
@@ -44,7 +44,7 @@ pub fn lawful_k(k: u32) -> bool
 
 // Whether no column is shorter than `k`.
 pub fn room(k: usize, distance: &[u64], first: &[u32], second: &[u32]) -> bool
-    ensures { λ r. ⌜ r ≡ roomFor k (results (now (distance .entry)) (now (first .entry)) (now (second .entry))) ⌝ }
+    ensures { λ r. ⌜ r ≡ roomFor k (lentResults distance first second .entry) ⌝ }
 {
     if distance.len() < k {
         return false;
@@ -57,8 +57,7 @@ pub fn room(k: usize, distance: &[u64], first: &[u32], second: &[u32]) -> bool
 
 // The entry at a place of the columns; numbers past a column's end are 0.
 pub fn entry_at(distance: &[u64], first: &[u32], second: &[u32], i: usize) -> Entry
-    ensures { λ r.
-        ⌜ r ≡ entry (getD (now (distance .entry)) i 0) (getD (now (first .entry)) i 0) (getD (now (second .entry)) i 0) ⌝ }
+    ensures { λ r. ⌜ r ≡ entryAt (lentResults distance first second .entry) i ⌝ }
 {
     Entry {
         distance: column::get_u64(distance, i),
@@ -70,8 +69,7 @@ pub fn entry_at(distance: &[u64], first: &[u32], second: &[u32], i: usize) -> En
 // The entry at a place that all three columns have.
 fn entry_inside(distance: &[u64], first: &[u32], second: &[u32], i: usize) -> Entry
     requires { ⌜ (i < length (now distance)) × (i < length (now first)) × (i < length (now second)) ⌝ }
-    ensures { λ r.
-        ⌜ r ≡ entry (getD (now (distance .entry)) i 0) (getD (now (first .entry)) i 0) (getD (now (second .entry)) i 0) ⌝ }
+    ensures { λ r. ⌜ r ≡ entryAt (lentResults distance first second .entry) i ⌝ }
 {
     Entry {
         distance: distance[i],
@@ -83,7 +81,7 @@ fn entry_inside(distance: &[u64], first: &[u32], second: &[u32], i: usize) -> En
 // The place that an entry takes among the first `count`.
 fn place(distance: &[u64], first: &[u32], second: &[u32], count: usize, e: Entry) -> usize
     requires { ⌜ Ready count count (results (now distance) (now first) (now second)) ⌝ }
-    ensures { λ r. ⌜ PlaceOf e (entriesOf count (results (now (distance .entry)) (now (first .entry)) (now (second .entry)))) r ⌝ }
+    ensures { λ r. ⌜ PlaceOf e (entriesOf count (lentResults distance first second .entry)) r ⌝ }
 {
     let mut low = 0;
     let mut high = count;
@@ -108,11 +106,9 @@ pub fn offer(
     e: Entry,
 ) -> usize
     requires { ⌜ Ready k count (results (now distance) (now first) (now second)) ⌝ }
-    ensures { λ r. ⌜
-        Holds (offer k e (entriesOf count (results (now (distance .entry)) (now (first .entry)) (now (second .entry)))))
-        (results (now (distance .entry)) (now (first .entry)) (now (second .entry)))
-        (results (now (distance .exit)) (now (first .exit)) (now (second .exit))) r
-        ⌝ }
+    ensures { λ r.
+        let l = lentResults distance first second in
+        ⌜ Holds (offer k e (entriesOf count (l .entry))) (l .entry) (l .exit) r ⌝ }
 {
     let p = place(distance, first, second, count, e);
     if p == k {

@@ -16,7 +16,7 @@ ghost use Rattle.site.specs.Addition.{placeOf, present, addRefusal, inse
 fn earlier_at(x: &[i32], y: &[i32], number: &[u32], i: usize, sx: i32, sy: i32, sn: u32) -> u32
     requires { ⌜ (Level (columns (now x) (now y) (now number))) × (i < length (now x)) ⌝ }
     ensures { λ r.
-        let l = sites (columns (now (x .entry)) (now (y .entry)) (now (number .entry))) in
+        let l = sites (lentList x y number .entry) in
         ⌜ r ≡ cond (siteBefore (siteAt l i) (site sx sy sn)) 1 0 ⌝ }
 {
     if lists::before(x[i], y[i], number[i], sx, sy, sn) {
@@ -28,7 +28,10 @@ fn earlier_at(x: &[i32], y: &[i32], number: &[u32], i: usize, sx: i32, sy: i32, 
 
 // 0 where one site comes before or after another, else 1.
 fn same(ax: i32, ay: i32, an: u32, bx: i32, by: i32, bn: u32) -> u32
-    ensures { λ r. ⌜ r ≡ cond (siteBefore (site ax ay an) (site bx by bn) || siteBefore (site bx by bn) (site ax ay an)) 0 1 ⌝ }
+    ensures { λ r.
+        let a = site ax ay an in
+        let b = site bx by bn in
+        ⌜ r ≡ cond (siteBefore a b || siteBefore b a) 0 1 ⌝ }
 {
     if lists::before(ax, ay, an, bx, by, bn) {
         return 0;
@@ -44,8 +47,9 @@ fn same(ax: i32, ay: i32, an: u32, bx: i32, by: i32, bn: u32) -> u32
 fn same_at(x: &[i32], y: &[i32], number: &[u32], i: usize, sx: i32, sy: i32, sn: u32) -> u32
     requires { ⌜ (Level (columns (now x) (now y) (now number))) × (i < length (now x)) ⌝ }
     ensures { λ r.
-        let t = siteAt (sites (columns (now (x .entry)) (now (y .entry)) (now (number .entry)))) i in
-        ⌜ r ≡ cond (siteBefore t (site sx sy sn) || siteBefore (site sx sy sn) t) 0 1 ⌝ }
+        let a = siteAt (sites (lentList x y number .entry)) i in
+        let b = site sx sy sn in
+        ⌜ r ≡ cond (siteBefore a b || siteBefore b a) 0 1 ⌝ }
 {
     same(x[i], y[i], number[i], sx, sy, sn)
 }
@@ -53,7 +57,7 @@ fn same_at(x: &[i32], y: &[i32], number: &[u32], i: usize, sx: i32, sy: i32, sn:
 // The place of a site in a list: how many of its sites come before it.
 fn place_of(x: &[i32], y: &[i32], number: &[u32], sx: i32, sy: i32, sn: u32) -> u32
     requires { ⌜ (Level (columns (now x) (now y) (now number))) × (length (now x) ≤ 65_535) ⌝ }
-    ensures { λ r. ⌜ r ≡ placeOf (site sx sy sn) (sites (columns (now (x .entry)) (now (y .entry)) (now (number .entry)))) ⌝ }
+    ensures { λ r. ⌜ r ≡ placeOf (site sx sy sn) (sites (lentList x y number .entry)) ⌝ }
 {
     let mut place: u32 = 0;
     let mut i = 0;
@@ -67,7 +71,7 @@ fn place_of(x: &[i32], y: &[i32], number: &[u32], sx: i32, sy: i32, sn: u32) -> 
 // Whether a site stands in a list.
 fn is_present(x: &[i32], y: &[i32], number: &[u32], sx: i32, sy: i32, sn: u32) -> bool
     requires { ⌜ (Level (columns (now x) (now y) (now number))) × (length (now x) ≤ 65_535) ⌝ }
-    ensures { λ r. ⌜ r ≡ present (site sx sy sn) (sites (columns (now (x .entry)) (now (y .entry)) (now (number .entry)))) ⌝ }
+    ensures { λ r. ⌜ r ≡ present (site sx sy sn) (sites (lentList x y number .entry)) ⌝ }
 {
     let mut same: u32 = 0;
     let mut i = 0;
@@ -80,7 +84,7 @@ fn is_present(x: &[i32], y: &[i32], number: &[u32], sx: i32, sy: i32, sn: u32) -
 
 // The refusal of an addition, 1, 2, 3, 6 or 11; 0 for none.
 fn add_refusal(x: &[i32], y: &[i32], number: &[u32], count: u32, sx: i32, sy: i32, sn: u32) -> u32
-    ensures { λ r. ⌜ r ≡ addRefusal (columns (now (x .entry)) (now (y .entry)) (now (number .entry))) count (site sx sy sn) ⌝ }
+    ensures { λ r. ⌜ r ≡ addRefusal (lentList x y number .entry) count (site sx sy sn) ⌝ }
 {
     if x.len() != y.len() {
         return 1;

@@ -8,7 +8,7 @@ ghost use lib.ListN.{length};
 ghost use Rattle.order.specs.Order.{ascending};
 ghost use Rattle.order.specs.Lists.{all};
 ghost use Rattle.site.specs.Site.{within, siteBefore};
-ghost use Rattle.site.specs.SiteList.{site, columns, sites, siteAt};
+ghost use Rattle.site.specs.SiteList.{site, columns, lentList, sites, siteAt};
 ghost use Rattle.site.specs.Terms.{Level};
 ghost use Rattle.site.specs.Refusal.{listRefusal, listsRefusal, checkAnswer, checkedAnswer};
 
@@ -56,7 +56,7 @@ fn all_within(column: &[i32]) -> bool
 fn break_at(x: &[i32], y: &[i32], number: &[u32], i: usize) -> u32
     requires { ⌜ (Level (columns (now x) (now y) (now number))) × (i + 1 < length (now x)) ⌝ }
     ensures { λ r.
-        let l = sites (columns (now (x .entry)) (now (y .entry)) (now (number .entry))) in
+        let l = sites (lentList x y number .entry) in
         ⌜ r ≡ cond (siteBefore (siteAt l i) (siteAt l (i + 1))) 0 1 ⌝ }
 {
     if before(x[i], y[i], number[i], x[i + 1], y[i + 1], number[i + 1]) {
@@ -69,7 +69,7 @@ fn break_at(x: &[i32], y: &[i32], number: &[u32], i: usize) -> u32
 // Whether each site comes before the one after it.
 fn ascends(x: &[i32], y: &[i32], number: &[u32]) -> bool
     requires { ⌜ (Level (columns (now x) (now y) (now number))) × (length (now x) ≤ 65_535) ⌝ }
-    ensures { λ r. ⌜ r ≡ ascending siteBefore (sites (columns (now (x .entry)) (now (y .entry)) (now (number .entry)))) ⌝ }
+    ensures { λ r. ⌜ r ≡ ascending siteBefore (sites (lentList x y number .entry)) ⌝ }
 {
     let mut breaks: u32 = 0;
     let mut i = 0;
@@ -82,7 +82,7 @@ fn ascends(x: &[i32], y: &[i32], number: &[u32]) -> bool
 
 // The refusal of a list, 1, 2 or 3; 0 for a lawful one.
 pub fn list_refusal(x: &[i32], y: &[i32], number: &[u32]) -> u32
-    ensures { λ r. ⌜ r ≡ listRefusal (columns (now (x .entry)) (now (y .entry)) (now (number .entry))) ⌝ }
+    ensures { λ r. ⌜ r ≡ listRefusal (lentList x y number .entry) ⌝ }
 {
     if x.len() != y.len() {
         return 1;
@@ -107,10 +107,7 @@ pub fn list_refusal(x: &[i32], y: &[i32], number: &[u32]) -> u32
 
 // The refusal of two lists, 1, 2 or 3 of the first, else of the second; 0 for lawful ones.
 pub fn lists_refusal(ax: &[i32], ay: &[i32], an: &[u32], bx: &[i32], by: &[i32], bn: &[u32]) -> u32
-    ensures { λ r.
-        let a = columns (now (ax .entry)) (now (ay .entry)) (now (an .entry)) in
-        let b = columns (now (bx .entry)) (now (by .entry)) (now (bn .entry)) in
-        ⌜ r ≡ listsRefusal a b ⌝ }
+    ensures { λ r. ⌜ r ≡ listsRefusal (lentList ax ay an .entry) (lentList bx by bn .entry) ⌝ }
 {
     let first = list_refusal(ax, ay, an);
     if first != 0 {
@@ -121,7 +118,7 @@ pub fn lists_refusal(ax: &[i32], ay: &[i32], an: &[u32], bx: &[i32], by: &[i32],
 
 // Whether the columns are a lawful list. (01: checking a site list.)
 pub fn check(x: &[i32], y: &[i32], number: &[u32]) -> Checked
-    ensures { λ r. ⌜ checkedAnswer r ≡ checkAnswer (columns (now (x .entry)) (now (y .entry)) (now (number .entry))) ⌝ }
+    ensures { λ r. ⌜ checkedAnswer r ≡ checkAnswer (lentList x y number .entry) ⌝ }
 {
     let refusal = list_refusal(x, y, number);
     if refusal == 0 {
