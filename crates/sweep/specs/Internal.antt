@@ -44,7 +44,7 @@ firstNext ax i aTo bx j bTo = ltb i aTo && (leb bTo j || leZ (getD ax i (pos 0))
 unfoldable pub stateOf : Tally → Results → State
 stateOf t r = record { entries = entriesOf (t .count) r; looks = t .looks; distances = t .distances }
 
--- The tally is that of the columns, which are ready for up to `k` entries: they hold its entries, and its reach is theirs.
+-- The tally is that of the columns, which are ready for up to `k` entries: they hold its entries, its reach is theirs.
 pub record TallyReady (k : ℕ) (t : Tally) (r : Results) : Type 0 where
   pub some : 0 < k
   pub ready : Ready k (t .count) r

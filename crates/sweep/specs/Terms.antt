@@ -1,4 +1,4 @@
--- Terms of contracts that other crates cite: sites read from two coordinate columns, and what a sweep asks and promises.
+-- Terms of contracts that other crates cite: sites of two coordinate columns, and what a sweep asks and promises.
 use mathlib.Core.List.{List, [], _∷_}
 use mathlib.Core.Path.{_≡_}
 use Prim.Native.Nat.{ℕ, zero, suc, _≤_, _<_}
@@ -39,7 +39,7 @@ pub record SweepAsked (ax ay bx by : List ℤ) (aFrom aTo bFrom bTo k count : �
   pub few : k ≤ 4_096
   pub ready : Ready k count r
 
--- A sweep promises: its answer and the result columns are those of the state `s`; what stands past the entries is untouched.
+-- A sweep promises: its answer and the result columns are those of the state `s`; past the entries nothing changes.
 pub record SweptTo (s : State) (before after : Results) (answer : Swept) : Type 0 where
   pub entries : answer .entries ≡ length (s .entries)
   pub looks : answer .looks .0 ≡ s .looks

@@ -5,8 +5,7 @@ mod sweeps;
 
 ghost use mathlib.Core.Path.{_≡_};
 ghost use Prim.Native.Nat.{_≤_};
-ghost use Rattle.entry.specs.Entry.{entry};
-ghost use Rattle.entry.specs.Results.{results};
+ghost use Rattle.entry.specs.Results.{results, lentResults};
 ghost use Rattle.sweep.specs.Terms.{SweepAsked, SweptStrips};
 
 // How many looks a sweep made.
@@ -36,8 +35,8 @@ struct Reference {
     swapped: bool,
 }
 
-// What a sweep carries: where the last scan to the left ended, the entry count, both counters, and the greatest squared distance
-// at which a pair can still enter.
+// What a sweep carries: where the last scan to the left ended, the entry count, both counters, and the greatest squared
+// distance at which a pair can still enter.
 struct Tally {
     at: usize,
     count: usize,
@@ -55,7 +54,9 @@ struct Looked {
 // What a sweep answers after its last scan.
 fn answer(tally: Tally) -> Swept
     requires { ⌜ tally .count ≤ 4_096 ⌝ }
-    ensures { λ r. ⌜ (r .entries ≡ tally .count) × (r .looks .0 ≡ tally .looks) × (r .distances .0 ≡ tally .distances) ⌝ }
+    ensures { λ r. ⌜
+        (r .entries ≡ tally .count) × (r .looks .0 ≡ tally .looks) × (r .distances .0 ≡ tally .distances)
+        ⌝ }
 {
     Swept {
         entries: tally.count as u32,
@@ -85,11 +86,10 @@ pub fn run(
         SweepAsked (now ax) (now ay) (now bx) (now by) «a_from» «a_to» «b_from» «b_to» k count
         (results (now distance) (now first) (now second))
         ⌝ }
-    ensures { λ r. ⌜
-        SweptStrips way (now (ax .entry)) (now (ay .entry)) (now (bx .entry)) (now (by .entry)) «a_from» «a_to» «b_from» «b_to» k count
-        (results (now (distance .entry)) (now (first .entry)) (now (second .entry)))
-        (results (now (distance .exit)) (now (first .exit)) (now (second .exit))) r
-        ⌝ }
+    ensures { λ r.
+        let l = lentResults distance first second in
+        let swept = SweptStrips way (now (ax .entry)) (now (ay .entry)) (now (bx .entry)) (now (by .entry)) in
+        ⌜ swept «a_from» «a_to» «b_from» «b_to» k count (l .entry) (l .exit) r ⌝ }
 {
     match way {
         Way::Classic => answer(sweeps::classic(

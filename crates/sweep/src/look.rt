@@ -12,7 +12,7 @@ ghost use Rattle.site.specs.Site.{within, gap, square, squaredDistance};
 ghost use Rattle.site.specs.SiteList.{site};
 ghost use Rattle.site.specs.Terms.{Coordinates};
 ghost use Rattle.entry.specs.Entry.{entry};
-ghost use Rattle.entry.specs.Results.{results};
+ghost use Rattle.entry.specs.Results.{results, lentResults};
 ghost use Rattle.sweep.specs.Scan.{lookAt};
 ghost use Rattle.sweep.specs.Terms.{spot};
 ghost use Rattle.sweep.specs.Internal.{lookFrom, stateOf, LookAsked, LookTold};
@@ -27,17 +27,22 @@ fn squared_gap_at(reference: Reference, xs: &[i32], i: usize) -> u64
 
 // The squared distance of a reference and the site at a place of the other list.
 fn squared_distance_at(reference: Reference, xs: &[i32], ys: &[i32], i: usize) -> u64
-    requires { ⌜ (within (reference .x) ≡ true) × (within (reference .y) ≡ true) × Coordinates (now xs) (now ys) × (i < length (now xs)) ⌝ }
-    ensures { λ r. ⌜
-        r ≡ squaredDistance (site (reference .x) (reference .y) 0) (site (getD (now (xs .entry)) i (pos 0)) (getD (now (ys .entry)) i (pos 0)) 0)
+    requires { ⌜
+        (within (reference .x) ≡ true) × (within (reference .y) ≡ true)
+        × Coordinates (now xs) (now ys) × (i < length (now xs))
         ⌝ }
+    ensures { λ r.
+        let other = site (getD (now (xs .entry)) i (pos 0)) (getD (now (ys .entry)) i (pos 0)) 0 in
+        ⌜ r ≡ squaredDistance (site (reference .x) (reference .y) 0) other ⌝ }
 {
     site::squared_distance(reference.x, reference.y, xs[i], ys[i])
 }
 
 // The pair of a reference and another site as an entry.
 fn pair_of(reference: Reference, distance: u64, other: u32) -> Entry
-    ensures { λ r. ⌜ r ≡ cond (reference .swapped) (entry distance other (reference .place)) (entry distance (reference .place) other) ⌝ }
+    ensures { λ r.
+        let place = reference .place in
+        ⌜ r ≡ cond (reference .swapped) (entry distance other place) (entry distance place other) ⌝ }
 {
     if reference.swapped {
         return Entry {
@@ -53,8 +58,8 @@ fn pair_of(reference: Reference, distance: u64, other: u32) -> Entry
     }
 }
 
-// A look from a reference at the site of a place of the other list. It stops the scan where the x-difference squared is past the
-// reach; otherwise the distance is worked out, and the pair takes its place by rank.
+// A look from a reference at the site of a place of the other list. It stops the scan where the x-difference squared is
+// past the reach; otherwise the distance is worked out, and the pair takes its place by rank.
 pub(super) fn look(
     reference: Reference,
     xs: &[i32],
@@ -67,11 +72,10 @@ pub(super) fn look(
     second: &mut [u32],
 ) -> Looked
     requires { ⌜ LookAsked reference (now xs) (now ys) i k old (results (now distance) (now first) (now second)) ⌝ }
-    ensures { λ l.
-        let before = results (now (distance .entry)) (now (first .entry)) (now (second .entry)) in
-        let after = results (now (distance .exit)) (now (first .exit)) (now (second .exit)) in
+    ensures { λ r.
+        let l = lentResults distance first second in
         let candidate = lookFrom reference (spot (now (xs .entry)) (now (ys .entry)) i) in
-        ⌜ LookTold k before (old .count) (lookAt k candidate (stateOf old before)) after l ⌝ }
+        ⌜ LookTold k (l .entry) (old .count) (lookAt k candidate (stateOf old (l .entry))) (l .exit) r ⌝ }
 {
     let mut tally = old;
     tally.looks += 1;

@@ -5,8 +5,7 @@ use super::look;
 ghost use mathlib.Core.Path.{_≡_};
 ghost use mathlib.Core.List.{map};
 ghost use Prim.Native.Nat.{_+_, _-_};
-ghost use Rattle.entry.specs.Entry.{entry};
-ghost use Rattle.entry.specs.Results.{results};
+ghost use Rattle.entry.specs.Results.{results, lentResults};
 ghost use Rattle.sweep.specs.Scan.{scan};
 ghost use Rattle.sweep.specs.Terms.{rightward};
 ghost use Rattle.sweep.specs.Internal.{leftward, lookFrom, stateOf, ScanAsked, Tallied};
@@ -24,12 +23,14 @@ pub(super) fn scan_right(
     first: &mut [u32],
     second: &mut [u32],
 ) -> Tally
-    requires { ⌜ ScanAsked reference (now xs) (now ys) from to k old (results (now distance) (now first) (now second)) ⌝ }
+    requires { ⌜
+        ScanAsked reference (now xs) (now ys) from to k old (results (now distance) (now first) (now second))
+        ⌝ }
     ensures { λ r.
-        let before = results (now (distance .entry)) (now (first .entry)) (now (second .entry)) in
-        let after = results (now (distance .exit)) (now (first .exit)) (now (second .exit)) in
+        let l = lentResults distance first second in
         let run = rightward (now (xs .entry)) (now (ys .entry)) from (to - from) in
-        ⌜ Tallied k before (old .count) (scan k (map (lookFrom reference) run) (stateOf old before) .state) after r ⌝ }
+        let scanned = scan k (map (lookFrom reference) run) (stateOf old (l .entry)) in
+        ⌜ Tallied k (l .entry) (old .count) (scanned .state) (l .exit) r ⌝ }
 {
     let mut at = from;
     let mut tally = old;
@@ -44,8 +45,8 @@ pub(super) fn scan_right(
     tally
 }
 
-// A reference against the other list's sites already taken, latest first, down to the left limit. The place where the scan ends
-// is the new left limit: it stops at the site in front of that place, which is never looked at again.
+// A reference against the other list's sites already taken, latest first, down to the left limit. The place where the
+// scan ends is the new left limit: it stops at the site in front of that place, which is never looked at again.
 pub(super) fn scan_left(
     reference: Reference,
     xs: &[i32],
@@ -58,13 +59,14 @@ pub(super) fn scan_left(
     first: &mut [u32],
     second: &mut [u32],
 ) -> Tally
-    requires { ⌜ ScanAsked reference (now xs) (now ys) limit taken k old (results (now distance) (now first) (now second)) ⌝ }
+    requires { ⌜
+        ScanAsked reference (now xs) (now ys) limit taken k old (results (now distance) (now first) (now second))
+        ⌝ }
     ensures { λ r.
-        let before = results (now (distance .entry)) (now (first .entry)) (now (second .entry)) in
-        let after = results (now (distance .exit)) (now (first .exit)) (now (second .exit)) in
+        let l = lentResults distance first second in
         let run = leftward (now (xs .entry)) (now (ys .entry)) limit (taken - limit) in
-        let scanned = scan k (map (lookFrom reference) run) (stateOf old before) in
-        ⌜ Tallied k before (old .count) (scanned .state) after r × (r .at + scanned .passed ≡ taken) ⌝ }
+        let scanned = scan k (map (lookFrom reference) run) (stateOf old (l .entry)) in
+        ⌜ Tallied k (l .entry) (old .count) (scanned .state) (l .exit) r × (r .at + scanned .passed ≡ taken) ⌝ }
 {
     let mut at = taken;
     let mut tally = old;

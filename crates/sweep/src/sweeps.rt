@@ -6,8 +6,7 @@ ghost use mathlib.Core.Path.{_≡_};
 ghost use Prim.Native.Nat.{_-_, _≤_, _<_};
 ghost use lib.ListN.{length};
 ghost use Rattle.site.specs.Terms.{Coordinates};
-ghost use Rattle.entry.specs.Entry.{entry};
-ghost use Rattle.entry.specs.Results.{results, entriesOf};
+ghost use Rattle.entry.specs.Results.{results, lentResults, entriesOf};
 ghost use Rattle.sweep.specs.declared.Way.the-variants.{Classic, ReverseRun};
 ghost use Rattle.sweep.specs.Sweep.{sweep};
 ghost use Rattle.sweep.specs.Terms.{rightward, SweepAsked};
@@ -61,11 +60,10 @@ pub(super) fn classic(
         (results (now distance) (now first) (now second))
         ⌝ }
     ensures { λ r.
-        let before = results (now (distance .entry)) (now (first .entry)) (now (second .entry)) in
-        let after = results (now (distance .exit)) (now (first .exit)) (now (second .exit)) in
+        let l = lentResults distance first second in
         let a = rightward (now (ax .entry)) (now (ay .entry)) «a_from» («a_to» - «a_from») in
         let b = rightward (now (bx .entry)) (now (by .entry)) «b_from» («b_to» - «b_from») in
-        ⌜ Tallied k before count (sweep Classic k a b (entriesOf count before)) after r ⌝ }
+        ⌜ Tallied k (l .entry) count (sweep Classic k a b (entriesOf count (l .entry))) (l .exit) r ⌝ }
 {
     let mut i = a_from;
     let mut j = b_from;
@@ -90,7 +88,7 @@ pub(super) fn classic(
     tally
 }
 
-// References in ascending x, each against the other list's sites already taken, latest first, down to that list's left limit.
+// References in ascending x, each against the other list's sites already taken, latest first, down to its left limit.
 pub(super) fn reverse_run(
     ax: &[i32],
     ay: &[i32],
@@ -111,11 +109,10 @@ pub(super) fn reverse_run(
         (results (now distance) (now first) (now second))
         ⌝ }
     ensures { λ r.
-        let before = results (now (distance .entry)) (now (first .entry)) (now (second .entry)) in
-        let after = results (now (distance .exit)) (now (first .exit)) (now (second .exit)) in
+        let l = lentResults distance first second in
         let a = rightward (now (ax .entry)) (now (ay .entry)) «a_from» («a_to» - «a_from») in
         let b = rightward (now (bx .entry)) (now (by .entry)) «b_from» («b_to» - «b_from») in
-        ⌜ Tallied k before count (sweep ReverseRun k a b (entriesOf count before)) after r ⌝ }
+        ⌜ Tallied k (l .entry) count (sweep ReverseRun k a b (entriesOf count (l .entry))) (l .exit) r ⌝ }
 {
     let mut i = a_from;
     let mut j = b_from;
