@@ -11,7 +11,7 @@ use Rattle.order.proofs.Order.{byTest}
 use Rattle.order.proofs.Best.{length-best}
 use Rattle.site.specs.SiteList.{Columns, sites, siteAt}
 use Rattle.site.specs.Terms.{Level}
-use Rattle.site.specs.Answer.{orElse, unlessRefused}
+use Rattle.site.specs.Answer.{orElse}
 use Rattle.site.specs.Refusal.{listRefusal}
 use Rattle.site.proofs.Answer.{answered-values, refused-number}
 use Rattle.site.proofs.Accepted.{accepted-level, accepted-few, both-accepted}
@@ -28,7 +28,7 @@ use Rattle.sweep.specs.Strip.{allPairs}
 use Rattle.sweep.proofs.PlaceLaws.{length-whole-pairs}
 use Rattle.pairs.specs.declared.Listed.{Listed}
 use Rattle.pairs.specs.declared.Listed.the-variants.{Entries, Refused}
-use Rattle.pairs.specs.KList.{kList, kListRefusal, kListResults, kListAnswer, listedAnswer}
+use Rattle.pairs.specs.KList.{kList, kListRefusal, kListAnswer, listedAnswer}
 use Rattle.listing.specs.Internal.{Put, Lawful}
 use Rattle.listing.specs.Listing.{numberAt, entryLines, entriesText, listingText}
 
@@ -91,36 +91,31 @@ module _ (way : Way) (a b : Columns) (k : ℕ) (r : Results) {buffer : List ℕ}
   second : (length (b .number) ≤ 65_535) × Level b
   second = level b (both-accepted a b (lawful .lists) .1)
 
-  module _ {l : Listed} (told : listedAnswer l ≡ kListAnswer way a b k r) where
+  module _ {l : Listed} (s : Results) (told : listedAnswer l s ≡ kListAnswer way a b k r) where
     pub never-refused : {n : ℕ} → l ≡ Refused n → ⊥
     unfolding listedAnswer kListAnswer
-    never-refused {n} e = refused-number (kListRefusal a b k r) n _ (sym (ap listedAnswer e) ∙ told) .1 none
+    never-refused {n} e = refused-number (kListRefusal a b k r) n _ (sym (ap (λ x. listedAnswer x s) e) ∙ told) .1 none
 
-    entries-count : {count : ℕ} {looks : Looks} {distances : Distances} → l ≡ Entries count looks distances → count ≡ length found
-    unfolding listedAnswer kListAnswer found
-    entries-count e =
-        ap (λ v. v .count) (sym (answered-values (kListRefusal a b k r) _ _ (sym told ∙ ap listedAnswer e) .1))
-
-    module _ {count : ℕ} {looks : Looks} {distances : Distances} (e : l ≡ Entries count looks distances) {s : Results} (held : s ≡ kListResults a b k r) where
-      columns-held : s ≡ holding found r
-      unfolding kListResults unlessRefused found
-      columns-held = rw none at held
+    module _ {count : ℕ} {looks : Looks} {distances : Distances} (e : l ≡ Entries count looks distances) where
+      values : (s ≡ holding found r) × (count ≡ length found)
+      unfolding listedAnswer kListAnswer found
+      values =
+          let v = sym (answered-values (kListRefusal a b k r) _ _ (sym told ∙ ap (λ x. listedAnswer x s) e) .1) in
+          (ap (λ x. x .results) v, ap (λ x. x .count) v)
 
       -- What the text is written from.
       pub text-ready : (roomFor count s ≡ true) × ((length (a .number) ≤ 65_535) × (length (b .number) ≤ 65_535) × (51 + 84 * count ≤ length buffer))
-      text-ready =
-          let size = entries-count e in (
-            rw (columns-held, size) (room-holding (length found) found r (enough (length found) few) (omega arith)),
-            (first .0, second .0, omega (arith, lawful .room, few, size)),
-          )
+      text-ready = (
+        rw (values .0, values .1) (room-holding (length found) found r (enough (length found) few) (omega arith)),
+        (first .0, second .0, omega (arith, lawful .room, few, values .1)),
+      )
 
       pub text-written : {z : ℕ} {before after : List ℕ}
           → Put 0 (entriesText (length (a .number) * length (b .number)) (λ i. getD (a .number) i 0) (λ i. getD (b .number) i 0) (entriesOf count s)) before after z
           → Put 0 (listingText k (sites a) (sites b)) before after z
       unfolding found
       text-written p =
-          let same : entriesOf count s ≡ kList k (sites a) (sites b) =
-          rw (columns-held, entries-count e) (entries-holding found r) in
+          let same : entriesOf count s ≡ kList k (sites a) (sites b) = rw (values .0, values .1) (entries-holding found r) in
           rw (listing-text k a b (first .1) (second .1), ← same) p
 
 -- Result columns of 4,096 zeros have room.

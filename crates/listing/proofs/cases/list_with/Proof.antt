@@ -6,13 +6,23 @@ use Rattle.listing.proofs.cases.list_with.Statement.{statement}
 use Rattle.listing.proofs.cases.list_with.Tie as tie
 
 put-text-requires : tie.Need-put-text-requires
-put-text-requires c κs = text-ready ReverseRun _ _ _ _ (c .before .before .before .before .before .before .before .before .before .before .before .before .before .before .before .before .before .before .before .before .before .before .before .pre .0) (c .before .before .before .before .before .before .before .before .before .before .before .before .before .before .before .before .before .before .before .before .before .before .before .pre .1) (c .before .before .before .before .before .before .before .before .before .before .before .before .before .k-list .ensures .0) (c .before .before .before .before .before .count .given .1) (c .before .before .before .before .before .before .before .before .before .before .before .before .before .k-list .ensures .1)
+put-text-requires c κs =
+    let called = c .before .before .before .before .before .before .before .before .before .before .before .before .before in
+    let pre = called .before .before .before .before .before .before .before .before .before .before .pre in
+    text-ready ReverseRun _ _ _ _ (pre .0) (pre .1) _ (called .k-list .ensures .0) (c .before .before .before .before .before .count .given .1)
 
 returns : tie.Need-returns
-returns c = text-written ReverseRun _ _ _ _ (c .before .before .before .before .before .before .before .before .before .before .before .before .before .before .before .before .before .before .before .before .before .before .before .before .before .before .pre .0) (c .before .before .before .before .before .before .before .before .before .before .before .before .before .before .before .before .before .before .before .before .before .before .before .before .before .before .pre .1) (c .before .before .before .before .before .before .before .before .before .before .before .before .before .before .before .before .k-list .ensures .0) (c .before .before .before .before .before .before .before .before .count .given .1) (c .before .before .before .before .before .before .before .before .before .before .before .before .before .before .before .before .k-list .ensures .1) (c .before .before .put-text .ensures)
+returns c =
+    let called = c .before .before .before .before .before .before .before .before .before .before .before .before .before .before .before .before in
+    let pre = called .before .before .before .before .before .before .before .before .before .before .pre in
+    text-written ReverseRun _ _ _ _ (pre .0) (pre .1) _ (called .k-list .ensures .0) (c .before .before .before .before .before .before .before .before .count .given .1)
+    (c .before .before .put-text .ensures)
 
 returns-2 : tie.Need-returns-2
-returns-2 c = absurd (never-refused ReverseRun _ _ _ _ (c .before .before .before .before .before .before .before .before .before .before .before .before .before .before .before .before .before .before .before .before .before .before .before .pre .0) (c .before .before .before .before .before .before .before .before .before .before .before .before .before .before .before .before .before .before .before .before .before .before .before .pre .1) (c .before .before .before .before .before .before .before .before .before .before .before .before .before .k-list .ensures .0) (c .before .before .before .before .before .number .given .1))
+returns-2 c =
+    let called = c .before .before .before .before .before .before .before .before .before .before .before .before .before in
+    let pre = called .before .before .before .before .before .before .before .before .before .before .pre in
+    absurd (never-refused ReverseRun _ _ _ _ (pre .0) (pre .1) _ (called .k-list .ensures .0) (c .before .before .before .before .before .number .given .1))
 
 pub list-with-spec : {M : Type 1} → statement M
 list-with-spec =
