@@ -80,9 +80,10 @@ jobEntries c a b l j = bestK (c .k) (l ++ jobPairs (firstEnds c) (secondEnds c) 
 -- "Either way it becomes settled." All else of the campaign stays.
 unfoldable pub afterJob : Campaign → ℕ → Job → Campaign
 afterJob c count j =
-    campaignOf (c .k) count (c .«first_strips») (c .«second_strips») (c .«first_ends») (c .«second_ends») (settle (c .marks) j)
+    campaignOf (c .k) count (c .«first_strips») (c .«second_strips») (c .«first_ends») (c .«second_ends»)
+    (settle (c .marks) j)
 
--- "a job, the campaign, whether it was swept or skipped, looks and distances"; the result columns; 1 for swept, 0 for skipped.
+-- "a job, the campaign, whether it was swept or skipped, looks and distances", and the result columns; 1 is swept.
 pub record JobValues : Type 0 where
   pub campaign : Campaign
   pub results : Results
@@ -104,7 +105,8 @@ jobAnswer way c a b r j =
     let second = stripAt (secondEnds c) (sites b) (j .second) in
     let s = sweep way (c .k) first second old in
     answerUnless (jobRefusal c a b r j)
-    (jobValues (afterJob c (length new) j) (holding new r) (cond skip 0 1) (cond skip 0 (s .looks)) (cond skip 0 (s .distances)))
+    (jobValues (afterJob c (length new) j) (holding new r)
+    (cond skip 0 1) (cond skip 0 (s .looks)) (cond skip 0 (s .distances)))
 
 -- "Status gives jobs settled, jobs in all, entries, and K."
 pub record StatusValues : Type 0 where

@@ -5,10 +5,12 @@ use mathlib.Core.List.{List}
 use Prim.Native.Nat.{ℕ, _≤_, _<_}
 use lib.ListN.{length}
 use lib.IntN.{ℤ}
+use denote.Ref.{RefT}
 use Rattle.order.specs.Order.{ascending}
 use Rattle.order.specs.Lists.{all}
+use Rattle.column.specs.Lent.{Lent}
 use Rattle.site.specs.declared.Site.{Site}
-use Rattle.site.specs.Terms.{Numbered}
+use Rattle.site.specs.Terms.{Coordinates, Numbered}
 use Rattle.entry.specs.Entry.{rankBefore, lawfulK}
 use Rattle.entry.specs.Results.{Results, entriesOf, roomFor}
 use Rattle.campaign.specs.declared.Settled.{Settled}
@@ -16,6 +18,16 @@ use Rattle.campaign.specs.declared.Strip.{Strip}
 use Rattle.campaign.specs.declared.Campaign.{Campaign}
 use Rattle.campaign.specs.Grid.{lastEnd, lawfulEnds, stripFrom, stripTo, Job, jobsPairs, lawfulMarks}
 use Rattle.campaign.specs.Keeper.{firstEnds, secondEnds, soundEnds, soundEntry}
+
+-- The coordinate columns of two lawful lists.
+abbrev pub BothCoordinates : RefT (List ℤ) → RefT (List ℤ) → RefT (List ℤ) → RefT (List ℤ) → Type 0
+BothCoordinates ax ay bx by = Coordinates (ax .now) (ay .now) × Coordinates (bx .now) (by .now)
+
+-- What holds of the two lists that were lent, whatever the numbers of their sites.
+abbrev pub NumberedLent :
+    Lent (List ℤ) → Lent (List ℤ) → Lent (List ℤ) → Lent (List ℤ) → (List Site → List Site → Type 0) → Type 0
+NumberedLent ax ay bx by holds =
+    Numbered (ax .entry .now) (ay .entry .now) (bx .entry .now) (by .entry .now) holds
 
 -- Ends that are lawful for some list.
 pub record Cuts (ends : List ℕ) : Type 0 where
@@ -42,7 +54,8 @@ pub record Across (ax bx : List ℤ) (holds : List Site → List Site → Type 0
 
 -- K, the ends and the marks of a campaign have no fault.
 unfoldable pub soundPlan : Campaign → ℕ → ℕ → Bool
-soundPlan c n m = lawfulK (c .k) && (soundEnds c n m && lawfulMarks (c .«first_strips») (c .«second_strips») 0 (c .marks))
+soundPlan c n m =
+    lawfulK (c .k) && (soundEnds c n m && lawfulMarks (c .«first_strips») (c .«second_strips») 0 (c .marks))
 
 -- The columns have room for the entries.
 pub record Room (k count : ℕ) (r : Results) : Type 0 where
@@ -64,4 +77,6 @@ pub record JobAsked (c : Campaign) (n m : ℕ) (j : Job) : Type 0 where
 
 -- The entries of a campaign stand in order and have no fault.
 unfoldable pub entriesSound : Campaign → List Site → List Site → Results → Bool
-entriesSound c a b r = ascending rankBefore (entriesOf (c .entries) r) && all (soundEntry c a b) (entriesOf (c .entries) r)
+entriesSound c a b r =
+    let l = entriesOf (c .entries) r in
+    ascending rankBefore l && all (soundEntry c a b) l

@@ -30,8 +30,7 @@ soundEnds c n m =
     (leb (c .«first_strips») 32 && lawfulEnds n (firstEnds c))
     && (leb (c .«second_strips») 32 && lawfulEnds m (secondEnds c))
 
--- "with a place outside its list, a wrong squared distance or an unsettled job": an entry with no such fault, by the marks
--- and the ends in use.
+-- "with a place outside its list, a wrong squared distance or an unsettled job": an entry with no such fault.
 unfoldable pub fits : List ℕ → List ℕ → List ℕ → List Site → List Site → Entry → Bool
 fits marks ends ends' a b e =
     ltb (e .first) (length a)

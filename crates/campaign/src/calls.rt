@@ -102,7 +102,7 @@ pub fn status(
     }
 }
 
-// Settles one job: swept by the way named, or skipped. The list becomes the first K of its entries and the job's pairs. (01: job.)
+// Settles one job, swept by the way named or skipped: the list becomes the first K of its entries and the job's pairs.
 pub fn job(
     c: Campaign,
     ax: &[i32],

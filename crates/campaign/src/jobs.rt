@@ -11,15 +11,14 @@ ghost use mathlib.Core.Bool.{true};
 ghost use mathlib.Core.List.{List};
 ghost use Prim.Native.Nat.{ℕ, _≤_, _<_};
 ghost use lib.ListN.{length};
-ghost use Rattle.site.specs.SiteList.{columns};
-ghost use Rattle.site.specs.Terms.{Coordinates, Numbered};
+ghost use Rattle.site.specs.SiteList.{lentList};
 ghost use Rattle.entry.specs.Terms.{Ready};
-ghost use Rattle.entry.specs.Results.{results, entriesOf, roomFor};
+ghost use Rattle.entry.specs.Results.{results, entriesOf, roomFor, lentResults};
 ghost use Rattle.sweep.specs.Sweep.{sweep};
 ghost use Rattle.sweep.specs.Terms.{SweptTo};
 ghost use Rattle.campaign.specs.Grid.{stripAt, jobOf};
 ghost use Rattle.campaign.specs.Keeper.{firstEnds, secondEnds};
-ghost use Rattle.campaign.specs.Internal.{Across, JobAsked};
+ghost use Rattle.campaign.specs.Internal.{BothCoordinates, NumberedLent, Across, JobAsked};
 ghost use Rattle.campaign.specs.Calls.{jobRefusal, skips, afterJob};
 
 // The refusal of a job; 0 for none.
@@ -37,11 +36,11 @@ pub fn refusal(
     s: u32,
     t: u32,
 ) -> u32
-    ensures { λ r. ⌜
-        r ≡ jobRefusal c (columns (now (ax .entry)) (now (ay .entry)) (now (an .entry)))
-        (columns (now (bx .entry)) (now (by .entry)) (now (bn .entry)))
-        (results (now (distance .entry)) (now (first .entry)) (now (second .entry))) (jobOf s t)
-        ⌝ }
+    ensures { λ r.
+        let a = lentList ax ay an .entry in
+        let b = lentList bx by bn .entry in
+        let l = lentResults distance first second .entry in
+        ⌜ r ≡ jobRefusal c a b l (jobOf s t) ⌝ }
 {
     let refused = keeper::refusal(c, ax, ay, an, bx, by, bn, distance, first, second);
     if refused != 0 {
@@ -65,11 +64,11 @@ pub fn refusal(
 pub fn skips(c: Campaign, ax: &[i32], bx: &[i32], distance: &[u64], s: u32, t: u32) -> bool
     requires { ⌜ JobAsked c (length (now ax)) (length (now bx)) (jobOf s t) ⌝ }
     requires { ⌜ (c .entries ≤ c .k) × (c .k ≤ length (now distance)) ⌝ }
-    ensures { λ r. ⌜
-        Across (now (ax .entry)) (now (bx .entry)) (λ a b. (first second : List ℕ)
-        → roomFor (c .k) (results (now (distance .entry)) first second) ≡ true
-        → r ≡ skips c a b (entriesOf (c .entries) (results (now (distance .entry)) first second)) (jobOf s t))
-        ⌝ }
+    ensures { λ r.
+        let held = results (now (distance .entry)) in
+        ⌜ Across (now (ax .entry)) (now (bx .entry)) (λ a b. (first second : List ℕ)
+        → roomFor (c .k) (held first second) ≡ true
+        → r ≡ skips c a b (entriesOf (c .entries) (held first second)) (jobOf s t)) ⌝ }
 {
     if c.entries != c.k {
         return false;
@@ -97,16 +96,15 @@ pub fn swept(
     t: u32,
     way: Way,
 ) -> Swept
-    requires { ⌜ Coordinates (now ax) (now ay) × Coordinates (now bx) (now by) ⌝ }
+    requires { ⌜ BothCoordinates ax ay bx by ⌝ }
     requires { ⌜ JobAsked c (length (now ax)) (length (now bx)) (jobOf s t) ⌝ }
     requires { ⌜ Ready (c .k) (c .entries) (results (now distance) (now first) (now second)) ⌝ }
-    ensures { λ r. ⌜
-        Numbered (now (ax .entry)) (now (ay .entry)) (now (bx .entry)) (now (by .entry)) (λ a b.
-        SweptTo (sweep way (c .k) (stripAt (firstEnds c) a s) (stripAt (secondEnds c) b t)
-        (entriesOf (c .entries) (results (now (distance .entry)) (now (first .entry)) (now (second .entry)))))
-        (results (now (distance .entry)) (now (first .entry)) (now (second .entry)))
-        (results (now (distance .exit)) (now (first .exit)) (now (second .exit))) r)
-        ⌝ }
+    ensures { λ r.
+        let l = lentResults distance first second in
+        let old = entriesOf (c .entries) (l .entry) in
+        ⌜ NumberedLent ax ay bx by (λ a b.
+        SweptTo (sweep way (c .k) (stripAt (firstEnds c) a s) (stripAt (secondEnds c) b t) old)
+        (l .entry) (l .exit) r) ⌝ }
 {
     let first_ends = c.first_ends;
     let second_ends = c.second_ends;

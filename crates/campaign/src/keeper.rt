@@ -11,22 +11,27 @@ ghost use lib.ListN.{length};
 ghost use Rattle.order.specs.Order.{ascending};
 ghost use Rattle.order.specs.Lists.{all};
 ghost use Rattle.site.specs.Site.{squaredDistance};
-ghost use Rattle.site.specs.SiteList.{columns, siteAt};
-ghost use Rattle.site.specs.Terms.{Coordinates, Numbered};
+ghost use Rattle.site.specs.SiteList.{siteAt, lentList};
 ghost use Rattle.entry.specs.Entry.{rankBefore};
-ghost use Rattle.entry.specs.Results.{results, entriesOf, roomFor};
+ghost use Rattle.entry.specs.Results.{results, entriesOf, roomFor, lentResults};
 ghost use Rattle.campaign.specs.Grid.{settledJobs};
-ghost use Rattle.campaign.specs.Internal.{Cutting, Tally, Room, SoundPlan, soundPlan, entriesSound};
+ghost use Rattle.campaign.specs.Internal.{
+  BothCoordinates,
+  NumberedLent,
+  Cutting,
+  Tally,
+  Room,
+  SoundPlan,
+  soundPlan,
+  entriesSound,
+};
 ghost use Rattle.campaign.specs.Keeper.{firstEnds, secondEnds, fits, rightCount, sound, campaignRefusal};
 
 // The squared distance of the sites at two places.
 fn distance_at(ax: &[i32], ay: &[i32], bx: &[i32], by: &[i32], i: usize, j: usize) -> u64
-    requires { ⌜ Coordinates (now ax) (now ay) × Coordinates (now bx) (now by) ⌝ }
+    requires { ⌜ BothCoordinates ax ay bx by ⌝ }
     requires { ⌜ (i < length (now ax)) × (j < length (now bx)) ⌝ }
-    ensures { λ r. ⌜
-        Numbered (now (ax .entry)) (now (ay .entry)) (now (bx .entry)) (now (by .entry))
-        (λ a b. r ≡ squaredDistance (siteAt a i) (siteAt b j))
-        ⌝ }
+    ensures { λ r. ⌜ NumberedLent ax ay bx by (λ a b. r ≡ squaredDistance (siteAt a i) (siteAt b j)) ⌝ }
 {
     site::squared_distance(ax[i], ay[i], bx[j], by[j])
 }
@@ -34,10 +39,9 @@ fn distance_at(ax: &[i32], ay: &[i32], bx: &[i32], by: &[i32], i: usize, j: usiz
 // Whether the entries stand in rank order.
 fn in_order(distance: &[u64], first: &[u32], second: &[u32], count: usize) -> bool
     requires { ⌜ roomFor count (results (now distance) (now first) (now second)) ≡ true ⌝ }
-    ensures { λ r. ⌜
-        r ≡ ascending rankBefore
-        (entriesOf count (results (now (distance .entry)) (now (first .entry)) (now (second .entry))))
-        ⌝ }
+    ensures { λ r.
+        let l = lentResults distance first second .entry in
+        ⌜ r ≡ ascending rankBefore (entriesOf count l) ⌝ }
 {
     let mut i = 0;
     while i + 1 < count {
@@ -63,12 +67,11 @@ fn fits(
     second_ends: &[u32],
     marks: &[u8],
 ) -> bool
-    requires { ⌜ Coordinates (now ax) (now ay) × Coordinates (now bx) (now by) ⌝ }
+    requires { ⌜ BothCoordinates ax ay bx by ⌝ }
     requires { ⌜ (length (now «first_ends») ≤ 32) × (length (now «second_ends») ≤ 32) ⌝ }
-    ensures { λ r. ⌜
-        Numbered (now (ax .entry)) (now (ay .entry)) (now (bx .entry)) (now (by .entry))
-        (λ a b. r ≡ fits (now (marks .entry)) (now («first_ends» .entry)) (now («second_ends» .entry)) a b e)
-        ⌝ }
+    ensures { λ r.
+        let faultless = fits (now (marks .entry)) (now («first_ends» .entry)) (now («second_ends» .entry)) in
+        ⌜ NumberedLent ax ay bx by (λ a b. r ≡ faultless a b e) ⌝ }
 {
     let i = e.first as usize;
     let j = e.second as usize;
@@ -103,13 +106,12 @@ fn all_fit(
     marks: &[u8],
 ) -> bool
     requires { ⌜ roomFor count (results (now distance) (now first) (now second)) ≡ true ⌝ }
-    requires { ⌜ Coordinates (now ax) (now ay) × Coordinates (now bx) (now by) ⌝ }
+    requires { ⌜ BothCoordinates ax ay bx by ⌝ }
     requires { ⌜ (length (now «first_ends») ≤ 32) × (length (now «second_ends») ≤ 32) ⌝ }
-    ensures { λ r. ⌜
-        Numbered (now (ax .entry)) (now (ay .entry)) (now (bx .entry)) (now (by .entry)) (λ a b.
-        r ≡ all (fits (now (marks .entry)) (now («first_ends» .entry)) (now («second_ends» .entry)) a b)
-        (entriesOf count (results (now (distance .entry)) (now (first .entry)) (now (second .entry)))))
-        ⌝ }
+    ensures { λ r.
+        let l = lentResults distance first second .entry in
+        let faultless = fits (now (marks .entry)) (now («first_ends» .entry)) (now («second_ends» .entry)) in
+        ⌜ NumberedLent ax ay bx by (λ a b. r ≡ all (faultless a b) (entriesOf count l)) ⌝ }
 {
     let mut i = 0;
     while i < count {
@@ -144,9 +146,9 @@ fn sound_plan(c: Campaign, n: usize, m: usize) -> bool
 // How many jobs of a sound plan are settled, and how many pairs they have.
 pub fn settled(c: Campaign) -> Settled
     requires { ⌜ SoundPlan c ⌝ }
-    ensures { λ r. ⌜
-        Tally (firstEnds c) (secondEnds c) (settledJobs (c .marks) (c .«first_strips») (c .«second_strips»)) r
-        ⌝ }
+    ensures { λ r.
+        let jobs = settledJobs (c .marks) (c .«first_strips») (c .«second_strips») in
+        ⌜ Tally (firstEnds c) (secondEnds c) jobs r ⌝ }
 {
     let rows = c.first_strips as usize;
     let cols = c.second_strips as usize;
@@ -180,13 +182,12 @@ fn sound_entries(
     first: &[u32],
     second: &[u32],
 ) -> bool
-    requires { ⌜ Coordinates (now ax) (now ay) × Coordinates (now bx) (now by) ⌝ }
+    requires { ⌜ BothCoordinates ax ay bx by ⌝ }
     requires { ⌜ SoundPlan c ⌝ }
     requires { ⌜ Room (c .k) (c .entries) (results (now distance) (now first) (now second)) ⌝ }
-    ensures { λ r. ⌜
-        Numbered (now (ax .entry)) (now (ay .entry)) (now (bx .entry)) (now (by .entry)) (λ a b.
-        r ≡ entriesSound c a b (results (now (distance .entry)) (now (first .entry)) (now (second .entry))))
-        ⌝ }
+    ensures { λ r.
+        let l = lentResults distance first second .entry in
+        ⌜ NumberedLent ax ay bx by (λ a b. r ≡ entriesSound c a b l) ⌝ }
 {
     let count = c.entries as usize;
     let rows = c.first_strips as usize;
@@ -226,11 +227,10 @@ fn sound(
     first: &[u32],
     second: &[u32],
 ) -> bool
-    requires { ⌜ Coordinates (now ax) (now ay) × Coordinates (now bx) (now by) ⌝ }
-    ensures { λ r. ⌜
-        Numbered (now (ax .entry)) (now (ay .entry)) (now (bx .entry)) (now (by .entry)) (λ a b.
-        r ≡ sound c a b (results (now (distance .entry)) (now (first .entry)) (now (second .entry))))
-        ⌝ }
+    requires { ⌜ BothCoordinates ax ay bx by ⌝ }
+    ensures { λ r.
+        let l = lentResults distance first second .entry in
+        ⌜ NumberedLent ax ay bx by (λ a b. r ≡ sound c a b l) ⌝ }
 {
     if !sound_plan(c, ax.len(), bx.len()) {
         return false;
@@ -257,11 +257,11 @@ pub fn refusal(
     first: &[u32],
     second: &[u32],
 ) -> u32
-    ensures { λ r. ⌜
-        r ≡ campaignRefusal c (columns (now (ax .entry)) (now (ay .entry)) (now (an .entry)))
-        (columns (now (bx .entry)) (now (by .entry)) (now (bn .entry)))
-        (results (now (distance .entry)) (now (first .entry)) (now (second .entry)))
-        ⌝ }
+    ensures { λ r.
+        let a = lentList ax ay an .entry in
+        let b = lentList bx by bn .entry in
+        let l = lentResults distance first second .entry in
+        ⌜ r ≡ campaignRefusal c a b l ⌝ }
 {
     let refused = site::lists_refusal(ax, ay, an, bx, by, bn);
     if refused != 0 {

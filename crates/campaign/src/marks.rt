@@ -65,10 +65,11 @@ pub fn settle(marks: [u8; 1024], a: usize, b: usize) -> [u8; 1024]
 // The settled jobs of a strip of the first list.
 fn row(marks: &[u8], first_ends: &[u32], a: usize, second_ends: &[u32]) -> Settled
     requires { ⌜ Cuts (now «first_ends») × Cuts (now «second_ends») × (a < length (now «first_ends»)) ⌝ }
-    ensures { λ r. ⌜
-        Tally (now («first_ends» .entry)) (now («second_ends» .entry))
-        (keep (settled (now (marks .entry))) (map (jobOf a) (countFrom 0 (length (now («second_ends» .entry)))))) r
-        ⌝ }
+    ensures { λ r.
+        let first = now («first_ends» .entry) in
+        let second = now («second_ends» .entry) in
+        let jobs = keep (settled (now (marks .entry))) (map (jobOf a) (countFrom 0 (length second))) in
+        ⌜ Tally first second jobs r ⌝ }
 {
     let width = ends::width(first_ends, a);
     let mut jobs: u32 = 0;
@@ -87,11 +88,10 @@ fn row(marks: &[u8], first_ends: &[u32], a: usize, second_ends: &[u32]) -> Settl
 // The settled jobs.
 pub fn tally(marks: &[u8], first_ends: &[u32], second_ends: &[u32]) -> Settled
     requires { ⌜ Cuts (now «first_ends») × Cuts (now «second_ends») ⌝ }
-    ensures { λ r. ⌜
-        Tally (now («first_ends» .entry)) (now («second_ends» .entry))
-        (settledJobs (now (marks .entry)) (length (now («first_ends» .entry))) (length (now («second_ends» .entry))))
-        r
-        ⌝ }
+    ensures { λ r.
+        let first = now («first_ends» .entry) in
+        let second = now («second_ends» .entry) in
+        ⌜ Tally first second (settledJobs (now (marks .entry)) (length first) (length second)) r ⌝ }
 {
     let mut jobs: u32 = 0;
     let mut pairs: u64 = 0;

@@ -4,8 +4,8 @@ use super::ends;
 ghost use mathlib.Core.Path.{_≡_};
 ghost use Prim.Native.Nat.{_≤_};
 ghost use lib.ListN.{length};
-ghost use Rattle.site.specs.SiteList.{columns};
-ghost use Rattle.entry.specs.Results.{results};
+ghost use Rattle.site.specs.SiteList.{lentList};
+ghost use Rattle.entry.specs.Results.{lentResults};
 ghost use Rattle.campaign.specs.Calls.{openRefusal, newCampaign, noCampaign};
 
 // The refusal of an opening; 0 for none.
@@ -23,11 +23,11 @@ pub fn refusal(
     first: &[u32],
     second: &[u32],
 ) -> u32
-    ensures { λ r. ⌜
-        r ≡ openRefusal (columns (now (ax .entry)) (now (ay .entry)) (now (an .entry)))
-        (columns (now (bx .entry)) (now (by .entry)) (now (bn .entry))) k (now («first_ends» .entry))
-        (now («second_ends» .entry)) (results (now (distance .entry)) (now (first .entry)) (now (second .entry)))
-        ⌝ }
+    ensures { λ r.
+        let a = lentList ax ay an .entry in
+        let b = lentList bx by bn .entry in
+        let l = lentResults distance first second .entry in
+        ⌜ r ≡ openRefusal a b k (now («first_ends» .entry)) (now («second_ends» .entry)) l ⌝ }
 {
     let refused = site::lists_refusal(ax, ay, an, bx, by, bn);
     if refused != 0 {
