@@ -1,7 +1,7 @@
 -- Sites written and read again, and bytes read and written again.
 use mathlib.Core.Path.{_≡_, refl, sym, ap, ap₂, _∙_}
 use mathlib.Core.Bool.{true, _&&_}
-use mathlib.Core.List.{List, [], _∷_, _++_, append-assoc}
+use mathlib.Core.List.{List, [], _∷_, _++_, flatMap, append-assoc}
 use Prim.Native.Nat.{ℕ, zero, suc, _+_, _*_, _≤_, _<_}
 use native.Mathlib.Nat.{add-zero}
 use native.Mathlib.Omega.{arith}
@@ -18,7 +18,7 @@ use Rattle.site.proofs.Columns.{sites-numbered, columns-sites, columns-length, 
 use Rattle.site.proofs.Accepted.{accepted-lawful}
 use Rattle.site_file.specs.declared.Which.{Which}
 use Rattle.site_file.specs.Bytes.{bytes4, word, unsigned}
-use Rattle.site_file.specs.File.{siteBytes, bodyBytes, siteIn, sitesFrom, sitesIn}
+use Rattle.site_file.specs.File.{siteBytes, siteIn, sitesFrom, sitesIn}
 use Rattle.site_file.specs.Calls.{readRefusal}
 use Rattle.site_file.specs.RoundTrip.{Bytes, Numbers}
 use Rattle.site_file.proofs.File.{list-length}
@@ -57,18 +57,18 @@ site-read : (p q : List ℕ) (s : Site) (at : ℕ) → length p ≡ at → Fit s
 site-read p q s at e h = rw (← e) (site-past p (siteBytes s ++ q) ∙ site-first q s h)
 
 -- A list that was written is read.
-pub sites-read : (l : List Site) (p q : List ℕ) (at : ℕ) → length p ≡ at → All Fit l → sitesFrom (p ++ (bodyBytes l ++ q)) at (length l) ≡ l
-unfolding sitesFrom bodyBytes All
+pub sites-read : (l : List Site) (p q : List ℕ) (at : ℕ) → length p ≡ at → All Fit l → sitesFrom (p ++ (flatMap siteBytes l ++ q)) at (length l) ≡ l
+unfolding sitesFrom flatMap All
 sites-read [] p q at e h = refl
 sites-read (s ∷ l) p q at e h =
-    let head : p ++ ((siteBytes s ++ bodyBytes l) ++ q) ≡ p ++ (siteBytes s ++ (bodyBytes l ++ q)) =
-    rw (append-assoc (siteBytes s) (bodyBytes l) q) in
-    let rest : p ++ (siteBytes s ++ (bodyBytes l ++ q)) ≡ (p ++ siteBytes s) ++ (bodyBytes l ++ q) =
-    sym (append-assoc p (siteBytes s) (bodyBytes l ++ q)) in
+    let head : p ++ ((siteBytes s ++ flatMap siteBytes l) ++ q) ≡ p ++ (siteBytes s ++ (flatMap siteBytes l ++ q)) =
+    rw (append-assoc (siteBytes s) (flatMap siteBytes l) q) in
+    let rest : p ++ (siteBytes s ++ (flatMap siteBytes l ++ q)) ≡ (p ++ siteBytes s) ++ (flatMap siteBytes l ++ q) =
+    sym (append-assoc p (siteBytes s) (flatMap siteBytes l ++ q)) in
     let next : length (p ++ siteBytes s) ≡ at + 12 =
     omega (arith, length-append p (siteBytes s), site-length s) in
     rw head
-    (ap₂ _∷_ (site-read p (bodyBytes l ++ q) s at e (h .0))
+    (ap₂ _∷_ (site-read p (flatMap siteBytes l ++ q) s at e (h .0))
     (rw rest (sites-read l (p ++ siteBytes s) q (at + 12) next (h .1))))
 
 -- Bytes that were read as a site are written.
@@ -93,8 +93,8 @@ site-back l at h k =
     (sym parts)
 
 -- Bytes that were read as a list are written.
-pub body-back : (l : List ℕ) (at n : ℕ) → Bytes l → at + 12 * n ≤ length l → bodyBytes (sitesFrom l at n) ≡ take (12 * n) (drop at l)
-unfolding bodyBytes sitesFrom
+pub body-back : (l : List ℕ) (at n : ℕ) → Bytes l → at + 12 * n ≤ length l → flatMap siteBytes (sitesFrom l at n) ≡ take (12 * n) (drop at l)
+unfolding flatMap sitesFrom
 body-back l at zero h k = refl
 body-back l at (suc n) h k =
     let e : 12 * suc n ≡ 12 + 12 * n = omega arith in

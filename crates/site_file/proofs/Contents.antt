@@ -1,6 +1,6 @@
 -- The refusals of a file, one test after another.
 use mathlib.Core.Path.{_≡_, sym, _∙_}
-use mathlib.Core.Bool.{Bool, true, false, _||_}
+use mathlib.Core.Bool.{Bool, true, false, not, _&&_, _||_}
 use mathlib.Core.List.{List}
 use Prim.Native.Nat.{ℕ, _+_, _*_, _-_, _≤_, _<_}
 use native.Mathlib.Omega.{arith}
@@ -19,8 +19,8 @@ use Rattle.site.proofs.Answer.{answer-values, answer-refused, first-refused, ne
 use Rattle.site_file.specs.Bytes.{word}
 use Rattle.site_file.specs.declared.Which.{Which}
 use Rattle.site_file.specs.declared.Which.the-variants.{First, Second}
-use Rattle.site_file.specs.File.{secondStart, fileLength, startIn, countIn, sitesFrom, sitesIn}
-use Rattle.site_file.specs.Calls.{layoutFault, contentsRefusal, readRefusal, readAnswer, siteRefusal, siteAnswer}
+use Rattle.site_file.specs.File.{startIn, countIn, siteIn, sitesFrom, sitesIn}
+use Rattle.site_file.specs.Calls.{contentsRefusal, readRefusal, readAnswer, siteRefusal, siteAnswer}
 use Rattle.site_file.proofs.File.{from-at}
 
 -- The tests of a file's contents, in their order.
@@ -41,21 +41,18 @@ module _ (file : List ℕ) where
 
   -- What is left to test where the counts are lawful.
   module _ (h : 16 ≤ length file) (k : word file 4 ≤ 65_535) (j : word file 12 ≤ 65_535) where
-    counts-lawful : contentsRefusal file ≡ refuseIf (layoutFault file) 10
-    unfolding contentsRefusal orElse countIn
+    counts-lawful : contentsRefusal file ≡ refuseIf (not (eqb (word file 0) 16 && eqb (word file 8) (16 + 12 * word file 4) && eqb (length file) (16 + 12 * word file 4 + 12 * word file 12))) 10
+    unfolding contentsRefusal orElse startIn countIn
     counts-lawful = rw (le-ltb (length file) 16 h, le-ltb 65_535 (word file 4) k, le-ltb 65_535 (word file 12) j)
 
     pub first-start-wrong : (word file 0 ≡ 16 → ⊥) → 10 ≡ contentsRefusal file
-    unfolding layoutFault startIn countIn
     first-start-wrong ne = rw (counts-lawful, ne-eqb (word file 0) 16 ne)
 
     pub second-start-wrong : word file 0 ≡ 16 → (word file 8 ≡ 16 + 12 * word file 4 → ⊥) → 10 ≡ contentsRefusal file
-    unfolding layoutFault startIn countIn secondStart
     second-start-wrong e ne =
         rw (counts-lawful, eq-eqb (word file 0) 16 e, ne-eqb (word file 8) (16 + 12 * word file 4) ne)
 
     pub length-wrong : word file 0 ≡ 16 → word file 8 ≡ 16 + 12 * word file 4 → (length file ≡ 16 + 12 * word file 4 + 12 * word file 12 → ⊥) → 10 ≡ contentsRefusal file
-    unfolding layoutFault startIn countIn secondStart fileLength
     length-wrong e g ne =
         rw (
           counts-lawful,
@@ -65,7 +62,6 @@ module _ (file : List ℕ) where
         )
 
     pub contents-right : word file 0 ≡ 16 → word file 8 ≡ 16 + 12 * word file 4 → length file ≡ 16 + 12 * word file 4 + 12 * word file 12 → 0 ≡ contentsRefusal file
-    unfolding layoutFault startIn countIn secondStart fileLength
     contents-right e g l =
         rw (
           counts-lawful,
@@ -84,19 +80,20 @@ pub record Laid (file : List ℕ) : Type 0 where
   pub size : length file ≡ 16 + 12 * word file 4 + 12 * word file 12
 
 pub laid : (file : List ℕ) → contentsRefusal file ≡ 0 → Laid file
-unfolding contentsRefusal layoutFault startIn countIn secondStart fileLength
+unfolding contentsRefusal startIn countIn
 laid file e =
     let later = orElse-second (refuseIf (ltb (length file) 16) 10) _ e in
     let few = no-fault _ 0 (orElse-first (refuseIf (ltb 65_535 (word file 4) || ltb 65_535 (word file 12)) 1) _ later) in
-    let starts = fault-none _ 9 (orElse-second (refuseIf (ltb 65_535 (word file 4) || ltb 65_535 (word file 12)) 1) _ later) in
-    let rest = and-second (eqb (word file 0) 16) _ starts in
+    let right = fault-none _ 9 (orElse-second (refuseIf (ltb 65_535 (word file 4) || ltb 65_535 (word file 12)) 1) _ later) in
+    let second = eqb (word file 8) (16 + 12 * word file 4) in
+    let starts = and-first (eqb (word file 0) 16 && second) _ right in
     record {
       room = ltb-false _ _ (no-fault (ltb (length file) 16) 9 (orElse-first _ _ e));
       n = ltb-false _ _ (or-first (ltb 65_535 (word file 4)) (ltb 65_535 (word file 12)) few);
       m = ltb-false _ _ (or-second (ltb 65_535 (word file 4)) (ltb 65_535 (word file 12)) few);
-      first = eqb-true _ _ (and-first (eqb (word file 0) 16) _ starts);
-      second = eqb-true _ _ (and-first (eqb (word file 8) (16 + 12 * word file 4)) _ rest);
-      size = eqb-true _ _ (and-second (eqb (word file 8) (16 + 12 * word file 4)) _ rest);
+      first = eqb-true _ _ (and-first (eqb (word file 0) 16) second starts);
+      second = eqb-true _ _ (and-second (eqb (word file 0) 16) second starts);
+      size = eqb-true _ _ (and-second (eqb (word file 0) 16 && second) _ right);
     }
 
 -- The tests of a list's sites.
@@ -170,6 +167,10 @@ inside file Second g = record { start = omega arith; count = omega arith; body =
 
 -- Consulting an accepted file finds the site of its list.
 pub site-found : (file : List ℕ) (w : Which) (place : ℕ) → contentsRefusal file ≡ 0 → place < countIn file w → siteAnswer file w place ≡ answered (siteAt (sitesIn file w) place)
-unfolding siteAnswer siteRefusal answerUnless orElse sitesIn siteAt
-site-found file w place none h =
-    rw (none, lt-leb (countIn file w) place h, from-at file (startIn file w) (countIn file w) place _ h)
+unfolding siteAnswer siteRefusal answerUnless orElse
+site-found file w place none h = rw (none, lt-leb (countIn file w) place h)
+
+-- That site, by its position.
+pub site-position : (file : List ℕ) (w : Which) (place : ℕ) → place < countIn file w → siteAt (sitesIn file w) place ≡ siteIn file (startIn file w + 12 * place)
+unfolding sitesIn siteAt
+site-position file w place h = from-at file (startIn file w) (countIn file w) place _ h

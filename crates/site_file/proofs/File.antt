@@ -1,7 +1,7 @@
 -- The sites in a file's bytes, one after another.
 use mathlib.Core.Path.{_≡_, refl, sym, ap, _∙_}
 use mathlib.Core.Bool.{Bool, true, false, and-true}
-use mathlib.Core.List.{List, _++_}
+use mathlib.Core.List.{List, _++_, flatMap}
 use Prim.Native.Nat.{ℕ, zero, suc, _+_, _-_, _*_, _≤_, _<_}
 use native.Mathlib.Nat.{add-zero}
 use native.Mathlib.Numerals.{add-one}
@@ -23,7 +23,7 @@ use Rattle.site_file.specs.declared.Which.{Which}
 use Rattle.site_file.specs.declared.Which.the-variants.{First, Second}
 use Rattle.site_file.specs.Bytes.{bytes4, word, unsigned, signed}
 use Rattle.column.specs.Column.{stored}
-use Rattle.site_file.specs.File.{siteBytes, bodyBytes, startIn, countIn, siteIn, sitesFrom, sitesIn}
+use Rattle.site_file.specs.File.{siteBytes, startIn, countIn, siteIn, sitesFrom, sitesIn}
 use Rattle.column.proofs.Stored.{stored-none, stored-after}
 
 -- What the contents say of each list.
@@ -121,12 +121,12 @@ site-stored l at n x y h hx hy pa e pb f g =
 
 -- One site stored, and then the rest of the list.
 module _ (c : Columns) (level : Level c) where
-  pub sites-step : (l : List ℕ) (at i : ℕ) {m : List ℕ} → at + 12 ≤ length l → i < length (c .x) → SFits w32 (getD (c .x) i (pos 0)) → SFits w32 (getD (c .y) i (pos 0)) → m ≡ stored at (siteBytes (site (toZ w32 (ofZ w32 (getD (c .x) i (pos 0)))) (toZ w32 (ofZ w32 (getD (c .y) i (pos 0)))) (getD (c .number) i 0))) l → stored (at + 12) (bodyBytes (drop (i + 1) (sites c))) m ≡ stored at (bodyBytes (drop i (sites c))) l
-  unfolding bodyBytes siteBytes bytes4
+  pub sites-step : (l : List ℕ) (at i : ℕ) {m : List ℕ} → at + 12 ≤ length l → i < length (c .x) → SFits w32 (getD (c .x) i (pos 0)) → SFits w32 (getD (c .y) i (pos 0)) → m ≡ stored at (siteBytes (site (toZ w32 (ofZ w32 (getD (c .x) i (pos 0)))) (toZ w32 (ofZ w32 (getD (c .y) i (pos 0)))) (getD (c .number) i 0))) l → stored (at + 12) (flatMap siteBytes (drop (i + 1) (sites c))) m ≡ stored at (flatMap siteBytes (drop i (sites c))) l
+  unfolding flatMap siteBytes bytes4
   sites-step l at i h lt hx hy e =
       let left = drop-cons (sites c) i nowhere (omega (arith, sites-length c level)) in
       rw (e, toZ-ofZ hx, toZ-ofZ hy, left, sites-at c level i nowhere lt, add-one) (stored-after at (at + 12) _ _ l refl h)
 
-  pub sites-end : (l : List ℕ) (at i : ℕ) → length (c .x) ≤ i → l ≡ stored at (bodyBytes (drop i (sites c))) l
-  unfolding bodyBytes
+  pub sites-end : (l : List ℕ) (at i : ℕ) → length (c .x) ≤ i → l ≡ stored at (flatMap siteBytes (drop i (sites c))) l
+  unfolding flatMap
   sites-end l at i h = rw (drop-of-length-le (sites c) {i = i} (omega (arith, sites-length c level))) (sym (stored-none at l))

@@ -1,6 +1,6 @@
 -- The reader accepts exactly what the writer can write, and yields the lists that were written.
 use mathlib.Core.Path.{_≡_, refl, sym, ap, _∙_}
-use mathlib.Core.List.{List, [], _++_, append-assoc, append-nil}
+use mathlib.Core.List.{List, [], _++_, flatMap, append-assoc, append-nil}
 use Prim.Native.Nat.{ℕ, _+_, _*_, _≤_, _<_}
 use native.Mathlib.Omega.{arith}
 use lib.ListN.{length, take, drop, length-append, length-drop, take-append-drop}
@@ -8,46 +8,39 @@ use lib.Seq.{take-add, take-all, take-at, drop-drop}
 use Rattle.order.specs.Lists.{All}
 use Rattle.column.specs.Column.{overwritten}
 use Rattle.site.specs.declared.Site.{Site}
-use Rattle.site.specs.Answer.{answered, unlessRefused, orElse}
+use Rattle.site.specs.Answer.{answered, orElse}
 use Rattle.site.specs.SiteList.{Columns, sites, siteAt, columnsOf}
 use Rattle.site.specs.Refusal.{contentRefusal, listRefusal, listsRefusal}
-use Rattle.site.proofs.Answer.{or-none}
+use Rattle.site.proofs.Answer.{answer-values, answered-values, or-none}
 use Rattle.site.proofs.Columns.{columns-sites, columns-length}
 use Rattle.site.proofs.Accepted.{accepted-length, accepted-content}
 use Rattle.site_file.specs.declared.Which.{Which}
 use Rattle.site_file.specs.declared.Which.the-variants.{First, Second}
 use Rattle.site_file.specs.Bytes.{bytes4, word}
-use Rattle.site_file.specs.File.{secondStart, fileLength, bodyBytes, contentsBytes, fileBytes, startIn, countIn, sitesFrom, sitesIn}
-use Rattle.site_file.specs.Calls.{writeRefusal, writeBuffer, contentsRefusal, readRefusal, siteAnswer}
-use Rattle.site_file.specs.RoundTrip.{Bytes, output, EveryOutputAccepted, EveryAcceptedIsOutput}
+use Rattle.site_file.specs.File.{siteBytes, contentsBytes, fileBytes, startIn, countIn, sitesFrom, sitesIn}
+use Rattle.site_file.specs.Calls.{WriteValues, writeValues, writeRefusal, writeAnswer, contentsRefusal, readRefusal, siteAnswer}
+use Rattle.site_file.specs.RoundTrip.{Bytes, EveryOutputAccepted, EveryAcceptedIsOutput}
 use Rattle.site_file.proofs.Words.{digits, bytes-back}
 use Rattle.site_file.proofs.File.{from-length, list-length}
 use Rattle.site_file.proofs.Contents.{Laid, contents-right, read-laid, read-answered, site-found}
-use Rattle.site_file.proofs.WriteAnswer.{Ready, ready, body-length, contents-length, write-ready, write-answered}
+use Rattle.site_file.proofs.WriteAnswer.{Ready, ready, contents-length, body-end, file-length, write-ready}
 use Rattle.site_file.proofs.Bodies.{Fit, sites-read, body-back, sites-fit, columns-numbers, columns-accepted}
 
 -- The four words of a file's contents.
 contents-words : (n m : ℕ) → n ≤ 65_535 → m ≤ 65_535 → (r : List ℕ) → (word (contentsBytes n m ++ r) 0 ≡ 16) × (word (contentsBytes n m ++ r) 4 ≡ n) × (word (contentsBytes n m ++ r) 8 ≡ 16 + 12 * n) × (word (contentsBytes n m ++ r) 12 ≡ m)
-unfolding contentsBytes secondStart bytes4 word
+unfolding contentsBytes bytes4 word
 contents-words n m hn hm r =
     (refl, digits n (omega arith), digits (16 + 12 * n) (omega arith), digits m (omega arith))
 
 -- What a file of two lists says.
 module _ (a b : List Site) (hn : length a ≤ 65_535) (hm : length b ≤ 65_535) where
-  file-length : length (fileBytes a b) ≡ 16 + 12 * length a + 12 * length b
-  unfolding fileBytes
-  file-length =
-      let c : List ℕ = contentsBytes (length a) (length b) in
-      omega
-      (arith, length-append c (bodyBytes a ++ bodyBytes b), length-append (bodyBytes a) (bodyBytes b), contents-length (length a) (length b), body-length a, body-length b)
-
   file-words : (word (fileBytes a b) 0 ≡ 16) × (word (fileBytes a b) 4 ≡ length a) × (word (fileBytes a b) 8 ≡ 16 + 12 * length a) × (word (fileBytes a b) 12 ≡ length b)
   unfolding fileBytes
-  file-words = contents-words (length a) (length b) hn hm (bodyBytes a ++ bodyBytes b)
+  file-words = contents-words (length a) (length b) hn hm (flatMap siteBytes a ++ flatMap siteBytes b)
 
   file-contents : 0 ≡ contentsRefusal (fileBytes a b)
   file-contents =
-      let size = file-length in
+      let size = file-length a b in
       let w = file-words in
       contents-right (fileBytes a b) (omega arith) (omega arith) (omega arith) (w .0) (omega arith) (omega arith)
 
@@ -55,12 +48,10 @@ module _ (a b : List Site) (hn : length a ≤ 65_535) (hm : length b ≤ 65_535)
   unfolding fileBytes
   file-bodies h k =
       let c : List ℕ = contentsBytes (length a) (length b) in
-      let e : c ++ (bodyBytes a ++ bodyBytes b) ≡ (c ++ bodyBytes a) ++ (bodyBytes b ++ []) =
-      rw (append-nil (bodyBytes b), append-assoc c (bodyBytes a) (bodyBytes b)) in
-      let at : length (c ++ bodyBytes a) ≡ 16 + 12 * length a =
-      omega (arith, length-append c (bodyBytes a), contents-length (length a) (length b), body-length a) in (
-        sites-read a c (bodyBytes b) 16 (contents-length (length a) (length b)) h,
-        rw e (sites-read b (c ++ bodyBytes a) [] (16 + 12 * length a) at k),
+      let e : c ++ (flatMap siteBytes a ++ flatMap siteBytes b) ≡ (c ++ flatMap siteBytes a) ++ (flatMap siteBytes b ++ []) =
+      rw (append-nil (flatMap siteBytes b), append-assoc c (flatMap siteBytes a) (flatMap siteBytes b)) in (
+        sites-read a c (flatMap siteBytes b) 16 (contents-length (length a) (length b)) h,
+        rw e (sites-read b (c ++ flatMap siteBytes a) [] (16 + 12 * length a) (body-end a b) k),
       )
 
   module _ (fa : All Fit a) (fb : All Fit b) where
@@ -77,14 +68,12 @@ module _ (a b : List Site) (hn : length a ≤ 65_535) (hm : length b ≤ 65_535)
     file-accepted ha hb = rw (← file-contents, file-first, file-second, ha, hb)
 
 -- The writer's output is the bytes of the two lists.
-output-bytes : (a b : Columns) (buffer : List ℕ) → Ready a b (length buffer) → writeRefusal a b (length buffer) ≡ 0 → output a b buffer ≡ fileBytes (sites a) (sites b)
-unfolding output writeBuffer unlessRefused overwritten fileLength
-output-bytes a b buffer k h =
-    let na = accepted-length a (k .first) in
-    let nb = accepted-length b (k .second) in
-    let size : length (fileBytes (sites a) (sites b)) ≡ 16 + 12 * length (a .x) + 12 * length (b .x) =
-    omega (arith, file-length (sites a) (sites b) (omega arith) (omega arith)) in
-    rw h (take-at (fileBytes (sites a) (sites b)) (drop (length (fileBytes (sites a) (sites b))) buffer) _ size)
+output-bytes : (a b : Columns) (buffer : List ℕ) (v : WriteValues) → writeAnswer a b buffer ≡ answered v → (writeRefusal a b (length buffer) ≡ 0) × (take (v .length) (v .buffer) ≡ fileBytes (sites a) (sites b))
+unfolding writeAnswer overwritten
+output-bytes a b buffer v h =
+    let told = answered-values (writeRefusal a b (length buffer)) _ v h in
+    let file : List ℕ = fileBytes (sites a) (sites b) in
+    (told .0, rw (← told .1) (take-at file (drop (length file) buffer) _ refl))
 
 -- A site of the file, by place.
 yields-site : (file : List ℕ) (w : Which) (c : Columns) (place : ℕ) → 0 ≡ contentsRefusal file → sitesIn file w ≡ sites c → countIn file w ≡ length (c .x) → place < length (c .x) → siteAnswer file w place ≡ answered (siteAt (sites c) place)
@@ -93,8 +82,9 @@ yields-site file w c place ok same count h =
 
 pub every-output-accepted : EveryOutputAccepted
 unfolding countIn
-every-output-accepted a b buffer ha hb h =
-    let k = ready a b (length buffer) h in
+every-output-accepted a b buffer v ha hb h =
+    let out = output-bytes a b buffer v h in
+    let k = ready a b (length buffer) (out .0) in
     let na = accepted-length a (k .first) in
     let nb = accepted-length b (k .second) in
     let la : length (sites a) ≤ 65_535 = omega arith in
@@ -109,7 +99,7 @@ every-output-accepted a b buffer ha hb h =
     let second : sitesIn file Second ≡ sites b = file-second (sites a) (sites b) la lb fa fb in
     let accepted : 0 ≡ readRefusal file =
     file-accepted (sites a) (sites b) la lb fa fb (accepted-content a (k .first)) (accepted-content b (k .second)) in
-    rw (output-bytes a b buffer k h)
+    rw (out .1)
     (record {
       accepted = sym (read-answered file accepted refl (sym n) (sym m));
       first = first;
@@ -137,13 +127,13 @@ contents-back file h k =
 
 -- An accepted file, written again.
 file-back : (file : List ℕ) → Bytes file → Laid file → fileBytes (sitesIn file First) (sitesIn file Second) ≡ file
-unfolding fileBytes contentsBytes secondStart sitesIn startIn countIn
+unfolding fileBytes contentsBytes sitesIn startIn countIn
 file-back file h g =
     let n : ℕ = word file 4 in
     let m : ℕ = word file 12 in
-    let first : bodyBytes (sitesFrom file 16 n) ≡ take (12 * n) (drop 16 file) =
+    let first : flatMap siteBytes (sitesFrom file 16 n) ≡ take (12 * n) (drop 16 file) =
     body-back file 16 n h (omega (arith, g .size)) in
-    let second : bodyBytes (sitesFrom file (16 + 12 * n) m) ≡ drop (16 + 12 * n) file =
+    let second : flatMap siteBytes (sitesFrom file (16 + 12 * n) m) ≡ drop (16 + 12 * n) file =
     body-back file (16 + 12 * n) m h (omega (arith, g .size))
     ∙ take-all (12 * m) (drop (16 + 12 * n) file) (omega (arith, g .size, length-drop (16 + 12 * n) file)) in
     let bodies : take (12 * n) (drop 16 file) ++ drop (16 + 12 * n) file ≡ drop 16 file =
@@ -153,28 +143,21 @@ file-back file h g =
     rw (from-length, from-length, g .first, g .second, first, second, bodies, head) (take-append-drop 16 file)
 
 pub every-accepted-is-output : EveryAcceptedIsOutput
-unfolding sitesIn countIn listsRefusal
+unfolding sitesIn countIn listsRefusal writeAnswer
 every-accepted-is-output file h ok =
     let g = read-laid file ok in
     let a : Columns = columnsOf (sitesIn file First) in
     let b : Columns = columnsOf (sitesIn file Second) in
     let na : length (a .x) ≡ word file 4 = columns-length (sitesIn file First) ∙ list-length file First in
     let nb : length (b .x) ≡ word file 12 = columns-length (sitesIn file Second) ∙ list-length file Second in
-    let la : listRefusal a ≡ 0 = columns-accepted file ok First in
-    let lb : listRefusal b ≡ 0 = columns-accepted file ok Second in
-    let size : 16 + 12 * length (a .x) + 12 * length (b .x) ≡ length file = omega (arith, g .size) in
-    let none : (buffer : List ℕ) → length file ≤ length buffer → 0 ≡ writeRefusal a b (length buffer) =
-    λ buffer room. write-ready a b (length buffer) refl (or-none _ _ la ∙ lb) (omega arith) in
+    let lists : listsRefusal a b ≡ 0 = or-none _ _ (columns-accepted file ok First) ∙ columns-accepted file ok Second in
     let bytes : fileBytes (sites a) (sites b) ≡ file =
     rw (columns-sites (sitesIn file First), columns-sites (sitesIn file Second)) (file-back file h g) in (
       a,
       b,
-      record {
-        first-numbers = columns-numbers file (startIn file First) (word file 4) h;
-        second-numbers = columns-numbers file (startIn file Second) (word file 12) h;
-        told = λ buffer room. sym (write-answered a b buffer (none buffer room) refl) ∙ ap answered size;
-        same =
-            λ buffer room.
-            output-bytes a b buffer (ready a b (length buffer) (sym (none buffer room))) (sym (none buffer room)) ∙ bytes;
-      },
+      columns-numbers file (startIn file First) (word file 4) h,
+      columns-numbers file (startIn file Second) (word file 12) h,
+      λ buffer room.
+          let none = write-ready a b (length buffer) refl lists (omega (arith, g .size)) in
+          sym (answer-values (sym none)) ∙ ap (λ (l : List ℕ). answered (writeValues (overwritten l buffer) (length l))) bytes,
     )

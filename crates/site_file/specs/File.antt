@@ -1,5 +1,5 @@
 -- The bytes of a site file, and the sites in a file's bytes.
-use mathlib.Core.List.{List, [], _∷_, _++_}
+use mathlib.Core.List.{List, [], _∷_, _++_, flatMap}
 use Prim.Native.Nat.{ℕ, zero, suc, _+_, _*_}
 use lib.ListN.{length}
 use Rattle.site.specs.declared.Site.{Site}
@@ -12,27 +12,13 @@ use Rattle.site_file.specs.Bytes.{bytes4, word, unsigned, signed}
 unfoldable pub siteBytes : Site → List ℕ
 siteBytes s = bytes4 (unsigned (s .x)) ++ (bytes4 (unsigned (s .y)) ++ bytes4 (s .number))
 
-unfoldable pub bodyBytes : List Site → List ℕ
-bodyBytes [] = []
-bodyBytes (s ∷ l) = siteBytes s ++ bodyBytes l
-
--- "The first start is 16, the second 16 + 12 × n, the file's length 16 + 12 × n + 12 × m exactly."
-abbrev pub firstStart : ℕ
-firstStart = 16
-
-unfoldable pub secondStart : ℕ → ℕ
-secondStart n = 16 + 12 * n
-
-unfoldable pub fileLength : ℕ → ℕ → ℕ
-fileLength n m = 16 + 12 * n + 12 * m
-
--- "Contents: for each list, start (4 bytes) and site count (4 bytes)."
+-- "Contents: for each list, start and site count. The first start is 16, the second 16 + 12 × n."
 unfoldable pub contentsBytes : ℕ → ℕ → List ℕ
-contentsBytes n m = bytes4 firstStart ++ (bytes4 n ++ (bytes4 (secondStart n) ++ bytes4 m))
+contentsBytes n m = bytes4 16 ++ (bytes4 n ++ (bytes4 (16 + 12 * n) ++ bytes4 m))
 
 -- "A table of contents, then the bodies."
 unfoldable pub fileBytes : List Site → List Site → List ℕ
-fileBytes a b = contentsBytes (length a) (length b) ++ (bodyBytes a ++ bodyBytes b)
+fileBytes a b = contentsBytes (length a) (length b) ++ (flatMap siteBytes a ++ flatMap siteBytes b)
 
 -- What a file's contents say of a list: its start and its site count.
 unfoldable pub startIn : List ℕ → Which → ℕ

@@ -2,13 +2,15 @@
 use super::Written;
 use super::numbers;
 ghost use mathlib.Core.Path.{_≡_};
+ghost use mathlib.Core.List.{flatMap};
 ghost use Prim.Native.Nat.{_+_, _*_, _≤_};
 ghost use lib.ListN.{length};
-ghost use Rattle.site.specs.SiteList.{site, columns, sites};
+ghost use Rattle.site.specs.Answer.{afterwards};
+ghost use Rattle.site.specs.SiteList.{site, columns, lentList, sites};
 ghost use Rattle.site.specs.Terms.{Level};
 ghost use Rattle.column.specs.Column.{stored};
-ghost use Rattle.site_file.specs.File.{siteBytes, bodyBytes, contentsBytes};
-ghost use Rattle.site_file.specs.Calls.{writeRefusal, writeAnswer, writeBuffer, writtenAnswer};
+ghost use Rattle.site_file.specs.File.{siteBytes, contentsBytes};
+ghost use Rattle.site_file.specs.Calls.{writeRefusal, writeAnswer, writtenAnswer};
 
 // A site stored as twelve bytes.
 fn put_site(buffer: &mut [u8], at: usize, x: i32, y: i32, number: u32)
@@ -25,8 +27,8 @@ fn put_sites(buffer: &mut [u8], start: usize, x: &[i32], y: &[i32], number: &[u3
     requires { ⌜ start + 12 * length (now x) ≤ length (now buffer) ⌝ }
     requires { ⌜ Level (columns (now x) (now y) (now number)) ⌝ }
     ensures { λ _.
-        let c = columns (now (x .entry)) (now (y .entry)) (now (number .entry)) in
-        ⌜ now (buffer .exit) ≡ stored start (bodyBytes (sites c)) (now (buffer .entry)) ⌝ }
+        let c = lentList x y number .entry in
+        ⌜ now (buffer .exit) ≡ stored start (flatMap siteBytes (sites c)) (now (buffer .entry)) ⌝ }
 {
     let mut at = start;
     let mut i = 0;
@@ -59,8 +61,8 @@ fn write_refusal(
     room: usize,
 ) -> u32
     ensures { λ r.
-        let a = columns (now (ax .entry)) (now (ay .entry)) (now (an .entry)) in
-        let b = columns (now (bx .entry)) (now (by .entry)) (now (bn .entry)) in
+        let a = lentList ax ay an .entry in
+        let b = lentList bx by bn .entry in
         ⌜ r ≡ writeRefusal a b room ⌝ }
 {
     let lists = site::lists_refusal(ax, ay, an, bx, by, bn);
@@ -84,10 +86,11 @@ pub fn write(
     buffer: &mut [u8],
 ) -> Written
     ensures { λ r.
-        let a = columns (now (ax .entry)) (now (ay .entry)) (now (an .entry)) in
-        let b = columns (now (bx .entry)) (now (by .entry)) (now (bn .entry)) in
-        ⌜ (writtenAnswer r ≡ writeAnswer a b (length (now (buffer .entry))))
-        × (now (buffer .exit) ≡ writeBuffer a b (now (buffer .entry))) ⌝ }
+        let a = lentList ax ay an .entry in
+        let b = lentList bx by bn .entry in
+        let answer = writeAnswer a b (now (buffer .entry)) in
+        ⌜ (writtenAnswer r (now (buffer .exit)) ≡ answer)
+        × (now (buffer .exit) ≡ afterwards (λ v. v .buffer) answer (now (buffer .entry))) ⌝ }
 {
     let refusal = write_refusal(ax, ay, an, bx, by, bn, buffer.len());
     if refusal != 0 {

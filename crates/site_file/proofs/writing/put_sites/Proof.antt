@@ -1,12 +1,13 @@
 -- `site_file::put_sites` meets its contract: what is left to store, stored after what was, is the whole body.
 use mathlib.Core.Path.{_≡_, refl, _∙_}
+use mathlib.Core.List.{flatMap}
 use Prim.Native.Nat.{_+_, _-_, _*_, _≤_}
 use native.Mathlib.Omega.{arith}
 use borrow.Author.Needs.{needs}
 use lib.ListN.{length, drop}
 use Rattle.site.specs.SiteList.{columns, sites}
 use Rattle.column.specs.Column.{stored}
-use Rattle.site_file.specs.File.{bodyBytes}
+use Rattle.site_file.specs.File.{siteBytes}
 use Rattle.site_file.proofs.File.{sites-step, sites-end}
 use Rattle.site_file.proofs.writing.put_sites.Statement.{statement}
 use Rattle.site_file.proofs.writing.put_sites.Tie as tie
@@ -16,8 +17,8 @@ Inv-loop buffer₀ start x y number at₀ i₀ buffer at i =
     (at ≡ start + 12 * i)
     × (i ≤ length x)
     × (length buffer ≡ length buffer₀)
-    × (stored at (bodyBytes (drop i (sites (columns x y number)))) buffer
-    ≡ stored start (bodyBytes (sites (columns x y number))) buffer₀)
+    × (stored at (flatMap siteBytes (drop i (sites (columns x y number)))) buffer
+    ≡ stored start (flatMap siteBytes (sites (columns x y number))) buffer₀)
 
 abbrev μ-loop : tie.MeasureT-loop
 μ-loop buffer₀ start x y number at₀ i₀ buffer at i = length x - i

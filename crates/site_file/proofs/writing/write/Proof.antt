@@ -2,7 +2,7 @@
 use mathlib.Core.Path.{sym, _∙_}
 use native.Mathlib.Omega.{arith}
 use Rattle.site.proofs.Accepted.{accepted-level}
-use Rattle.site_file.proofs.WriteAnswer.{ready, write-refused, write-answered, write-untouched, write-stored}
+use Rattle.site_file.proofs.WriteAnswer.{ready, write-refused, write-answered}
 use Rattle.site_file.specs.Calls.{writtenAnswer}
 use borrow.Author.Needs.{needs}
 use Rattle.site_file.proofs.writing.write.Statement.{statement}
@@ -11,7 +11,7 @@ use Rattle.site_file.proofs.writing.write.Tie as tie
 returns : tie.Need-returns
 unfolding writtenAnswer
 returns c =
-    (write-refused _ _ (c .before .before .before .before .before .args .buffer .now) (c .before .write-refusal .ensures) (c .if1 .taken), write-untouched _ _ (c .before .before .before .before .before .args .buffer .now) (c .before .write-refusal .ensures) (c .if1 .taken))
+    write-refused _ _ (c .before .before .before .before .before .args .buffer .now) (c .before .write-refusal .ensures) (c .if1 .taken)
 
 cast-put-contents : tie.Need-cast-put-contents
 cast-put-contents c =
@@ -64,7 +64,11 @@ cast-t16 c =
 returns-2 : tie.Need-returns-2
 unfolding writtenAnswer
 returns-2 c =
-    (write-answered _ _ (c .before .before .before .before .before .before .before .before .before .before .before .before .before .before .before .before .before .args .buffer .now) (c .before .before .before .before .before .before .before .before .before .before .before .before .before .write-refusal .ensures) (c .before .before .before .before .before .before .before .before .before .before .before .before .if1 .left), write-stored _ _ (c .before .before .before .before .before .before .before .before .before .before .before .before .before .before .before .before .before .args .buffer .now) (c .before .before .before .before .before .before .before .before .before .before .before .before .before .write-refusal .ensures) (c .before .before .before .before .before .before .before .before .before .before .before .before .if1 .left) (c .before .before .before .before .before .before .before .before .before .before .put-contents .ensures) (c .before .before .before .before .before .before .put-sites .ensures) (c .before .before .put-sites2 .ensures))
+    let sites = c .before .before in
+    let contents = sites .before .before .before .before .before .before .before .before in
+    let test = contents .before .before in
+    let start = test .before .before .before .before .before in
+    write-answered _ _ (start .args .buffer .now) (test .before .write-refusal .ensures) (test .if1 .left) (contents .put-contents .ensures) (sites .before .before .before .before .put-sites .ensures) (sites .put-sites2 .ensures)
 
 pub write-spec : {M : Type 1} → statement M
 write-spec =
