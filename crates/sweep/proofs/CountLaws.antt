@@ -10,8 +10,9 @@ use Rattle.entry.specs.declared.Entry.{Entry}
 use Rattle.sweep.specs.declared.Way.{Way}
 use Rattle.sweep.specs.declared.Way.the-variants.{Classic, ReverseRun}
 use Rattle.sweep.specs.Strip.{Placed}
-use Rattle.sweep.specs.Scan.{Candidate, State, beyond, looked, offered, scan}
-use Rattle.sweep.specs.Sweep.{classicOver, reverseOver, leads, look, start, sweep}
+use Rattle.sweep.specs.Scan.{Candidate, State, state, beyond, lookAt, scan}
+use Rattle.sweep.specs.Sweep.{classicOver, reverseOver, leads, look, sweep}
+use Rattle.sweep.proofs.StepLaws.{scan-nil, scan-stop, scan-on}
 
 -- From state `s` to state `t` with at most `n` looks.
 pub record Counted (n : ℕ) (s t : State) : Type 0 where
@@ -29,30 +30,24 @@ counted-more m h c = omega arith
 counted-then : {n m : ℕ} {s t r : State} → Counted n s t → Counted m t r → Counted (n + m) s r
 counted-then c d = omega arith
 
-counted-looked : (s : State) → Counted 1 s (looked s)
-unfolding looked
-counted-looked s = omega arith
-
-counted-offered : (k : ℕ) (c : Candidate) (s : State) → Counted 1 s (offered k c s)
-unfolding offered
-counted-offered k c s = omega arith
+counted-look : (k : ℕ) (c : Candidate) (s : State) → Counted 1 s (lookAt k c s)
+counted-look k c s = byTest (beyond k (s .entries) (c .gap)) (λ t. rw t (omega arith)) (λ f. rw f (omega arith))
 
 pub scan-counted : (k : ℕ) (l : List Candidate) (s : State) → Counted (length l) s (scan k l s .state)
-unfolding scan
-scan-counted k [] s = counted-none s
+scan-counted k [] s = rw (scan-nil k s) (counted-none s)
 scan-counted k (c ∷ l) s =
     byTest (beyond k (s .entries) (c .gap))
-    (λ t. rw t (counted-more (suc (length l)) (omega arith) (counted-looked s)))
-    (λ f. rw f (counted-more (suc (length l)) (omega arith) (counted-then (counted-offered k c s) (scan-counted k l (offered k c s)))))
+    (λ t. rw (scan-stop k c l s t) (counted-more (suc (length l)) (omega arith) (counted-look k c s)))
+    (λ f. rw (scan-on k c l s f)
+    (counted-more (suc (length l)) (omega arith) (counted-then (counted-look k c s) (scan-counted k l (lookAt k c s)))))
 
 -- A scan passes no more than there is.
 pub scan-passed : (k : ℕ) (l : List Candidate) (s : State) → scan k l s .passed ≤ length l
-unfolding scan
-scan-passed k [] s = omega arith
+scan-passed k [] s = rw (scan-nil k s) (omega arith)
 scan-passed k (c ∷ l) s =
     byTest (beyond k (s .entries) (c .gap))
-    (λ t. rw t (omega arith))
-    (λ f. rw f (omega (arith, scan-passed k l (offered k c s))))
+    (λ t. rw (scan-stop k c l s t) (omega arith))
+    (λ f. rw (scan-on k c l s f) (omega (arith, scan-passed k l (lookAt k c s))))
 
 first-fits : (p q u v w : ℕ) → w ≤ v → v + (suc u * q + (p * w + p * q)) ≤ u * q + (suc p * v + suc p * q)
 first-fits p q u v w h = omega (arith, suc-mul u q, suc-mul p v, suc-mul p q, mul-le-mul-left p h)
@@ -116,18 +111,16 @@ module _ {A B : Type 0} (leads : A → B → Bool) (look : A → B → Candidate
   run-counted p q s =
       counted-more (length p * length q) (omega (arith, zero-mul (length q), mul-zero (length p))) (reverse-counted p q [] [] s)
 
-pub sweep-counted : (w : Way) (k : ℕ) (p q : List Placed) (l : List Entry) → Counted (length p * length q) (start l) (sweep w k p q l)
+pub sweep-counted : (w : Way) (k : ℕ) (p q : List Placed) (l : List Entry) → Counted (length p * length q) (state l 0 0) (sweep w k p q l)
 unfolding sweep
-sweep-counted Classic k p q l = classic-counted leads look k p q (start l)
-sweep-counted ReverseRun k p q l = run-counted leads look k p q (start l)
+sweep-counted Classic k p q l = classic-counted leads look k p q (state l 0 0)
+sweep-counted ReverseRun k p q l = run-counted leads look k p q (state l 0 0)
 
 -- A sweep makes at most one look for each pair, and works out no distance without a look.
 pub sweep-looks-bound : (w : Way) (k : ℕ) (p q : List Placed) (l : List Entry) → sweep w k p q l .looks ≤ length p * length q
-unfolding start
 sweep-looks-bound w k p q l = omega (arith, sweep-counted w k p q l .looks-to)
 
 pub sweep-distances-bound : (w : Way) (k : ℕ) (p q : List Placed) (l : List Entry) → sweep w k p q l .distances ≤ sweep w k p q l .looks
-unfolding start
 sweep-distances-bound w k p q l = omega (arith, sweep-counted w k p q l .distances-to)
 
 -- Over lists of a lawful length both counters fit 32 bits.

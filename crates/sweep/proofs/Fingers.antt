@@ -12,7 +12,7 @@ use Rattle.sweep.specs.declared.Reference.{Reference}
 use Rattle.sweep.specs.declared.Tally.{Tally}
 use Rattle.sweep.specs.declared.Way.the-variants.{Classic}
 use Rattle.sweep.specs.Scan.{scan}
-use Rattle.sweep.specs.Sweep.{classicOver, leads, look, start, sweep}
+use Rattle.sweep.specs.Sweep.{classicOver, leads, look, sweep}
 use Rattle.sweep.specs.Terms.{spot, rightward, SweepAsked}
 use Rattle.sweep.specs.Internal.{referenceAt, lookFrom, firstNext, stateOf, TallyReady, ScanAsked, Held, Tallied}
 use Rattle.sweep.proofs.StepLaws.{classic-nil, classic-nil-right, classic-first, classic-second}
@@ -31,7 +31,7 @@ pub record Fingers (ax ay bx by : List ℤ) (aFrom aTo bFrom bTo k old : ℕ) (b
 module _ {ax ay bx by : List ℤ} {aFrom aTo bFrom bTo k old : ℕ} {before : Results} (asked : SweepAsked ax ay bx by aFrom aTo bFrom bTo k old before) where
   pub fingers-start : {reach : ℕ} → reach ≡ reachOf k (entriesOf old before)
       → Fingers ax ay bx by aFrom aTo bFrom bTo k old before before aFrom bFrom (record { at = 0; count = old; looks = 0; distances = 0; reach = reach })
-  unfolding sweep start stateOf
+  unfolding sweep stateOf
   fingers-start is = record { held = held-starts k old before (asked .ready); reach = is; whole = refl }
 
   module _ {r : Results} {i j : ℕ} {t : Tally} (f : Fingers ax ay bx by aFrom aTo bFrom bTo k old before r i j t) where

@@ -20,10 +20,10 @@ use Rattle.entry.specs.Terms.{Holds, reachOf}
 use Rattle.sweep.specs.declared.Reference.{Reference}
 use Rattle.sweep.specs.declared.Tally.{Tally}
 use Rattle.sweep.specs.Strip.{pair}
-use Rattle.sweep.specs.Scan.{Candidate, beyond, looked, offered, lookAt}
+use Rattle.sweep.specs.Scan.{Candidate, beyond}
 use Rattle.sweep.specs.Sweep.{look}
 use Rattle.sweep.specs.Terms.{spotOf, spot}
-use Rattle.sweep.specs.Internal.{lookFrom, stateOf, TallyReady, LookAsked, Held, LookTold}
+use Rattle.sweep.specs.Internal.{lookFrom, stateOf, TallyReady, LookAsked, Held, LookDone}
 use Rattle.sweep.proofs.HeldLaws.{holds-entries, held-starts, offered-held, reach-is, beyond-reach, reach-past}
 
 -- ---- any candidate
@@ -34,9 +34,9 @@ module _ (k : ℕ) (c : Candidate) (old : Tally) (r : Results) (t : TallyReady k
 
   -- It stops the scan.
   stopped : old .reach < c .gap
-      → LookTold k r (old .count) (lookAt k c (stateOf old r)) r
+      → LookDone k c old r r
       (record { stopped = true; tally = record { at = old .at; count = old .count; looks = old .looks + 1; distances = old .distances; reach = old .reach } })
-  unfolding stateOf looked
+  unfolding stateOf
   stopped h =
       let stop : beyond k (entriesOf (old .count) r) (c .gap) ≡ true = stop-is ∙ lt-ltb (old .reach) (c .gap) h in
       record {
@@ -47,9 +47,9 @@ module _ (k : ℕ) (c : Candidate) (old : Tally) (r : Results) (t : TallyReady k
   -- It goes on, with the columns as they are after the offer.
   gone-on : (after : Results) (new reach : ℕ) → c .gap ≤ old .reach → Held k r (old .count) after new
       → entriesOf new after ≡ offer k (c .entry) (entriesOf (old .count) r) → reach ≡ reachOf k (entriesOf new after)
-      → LookTold k r (old .count) (lookAt k c (stateOf old r)) after
+      → LookDone k c old r after
       (record { stopped = false; tally = record { at = old .at; count = new; looks = old .looks + 1; distances = old .distances + 1; reach = reach } })
-  unfolding stateOf offered
+  unfolding stateOf
   gone-on after new reach h held is reaches =
       let on : beyond k (entriesOf (old .count) r) (c .gap) ≡ false = stop-is ∙ le-ltb (old .reach) (c .gap) h in
       record {
@@ -100,14 +100,14 @@ module _ (o : Reference) (xs ys : List ℤ) (i k : ℕ) (old : Tally) (r : Resul
 
   -- The x-difference squared is past the reach.
   pub look-stops : old .reach < g
-      → LookTold k r (old .count) (lookAt k (lookFrom o (spot xs ys i)) (stateOf old r)) r
+      → LookDone k (lookFrom o (spot xs ys i)) old r r
       (record { stopped = true; tally = record { at = old .at; count = old .count; looks = old .looks + 1; distances = old .distances; reach = old .reach } })
   look-stops h = stopped k (lookFrom o (spot xs ys i)) old r (asked .tally) gap-fits (omega (arith, same-gap))
 
   module _ (d : ℕ) (is : d ≡ squaredDistance (site (o .x) (o .y) 0) (site (getD xs i (pos 0)) (getD ys i (pos 0)) 0)) (on : g ≤ old .reach) where
     -- The pair is past the reach.
     pub look-passes : old .reach < d
-        → LookTold k r (old .count) (lookAt k (lookFrom o (spot xs ys i)) (stateOf old r)) r
+        → LookDone k (lookFrom o (spot xs ys i)) old r r
         (record { stopped = false; tally = record { at = old .at; count = old .count; looks = old .looks + 1; distances = old .distances + 1; reach = old .reach } })
     look-passes h =
         let t = asked .tally in
@@ -121,7 +121,7 @@ module _ (o : Reference) (xs ys : List ℤ) (i k : ℕ) (old : Tally) (r : Resul
     pub look-offers : (e : Entry) (after : Results) (new reach : ℕ) → e ≡ cond (o .swapped) (entry d i (o .place)) (entry d (o .place) i)
         → Holds (offer k e (entriesOf (old .count) r)) r after new
         → reach ≡ cond (eqb new k) (getD (after .distance) (new - 1) 0) (2 ^ 64 - 1)
-        → LookTold k r (old .count) (lookAt k (lookFrom o (spot xs ys i)) (stateOf old r)) after
+        → LookDone k (lookFrom o (spot xs ys i)) old r after
         (record { stopped = false; tally = record { at = old .at; count = new; looks = old .looks + 1; distances = old .distances + 1; reach = reach } })
     look-offers e after new reach made holds reaches =
         let t = asked .tally in

@@ -21,8 +21,8 @@ use Rattle.entry.specs.declared.Entry.{Entry}
 use Rattle.sweep.specs.declared.Way.{Way}
 use Rattle.sweep.specs.declared.Way.the-variants.{Classic, ReverseRun}
 use Rattle.sweep.specs.Strip.{Placed, placedFrom, strip, pair}
-use Rattle.sweep.specs.Scan.{Candidate, State, scan}
-use Rattle.sweep.specs.Sweep.{classicOver, reverseOver, leads, look, start, sweep}
+use Rattle.sweep.specs.Scan.{Candidate, State, state, scan}
+use Rattle.sweep.specs.Sweep.{classicOver, reverseOver, leads, look, sweep}
 use Rattle.sweep.specs.Terms.{spotOf, spot, rightward}
 use Rattle.sweep.proofs.PlaceLaws.{strip-is}
 
@@ -96,9 +96,9 @@ look-bare = λ i p q.
 pub sweep-bare : (way : Way) (k : ℕ) (p q : List Placed) (l : List Entry) → sweep way k p q l ≡ sweep way k (map bare p) (map bare q) l
 unfolding sweep leads
 sweep-bare Classic k p q l =
-    ap (λ (f : Placed → Placed → Candidate). classicOver leads f k p q (start l)) look-bare ∙ classic-map bare bare leads look k p q (start l)
+    ap (λ (f : Placed → Placed → Candidate). classicOver leads f k p q (state l 0 0)) look-bare ∙ classic-map bare bare leads look k p q (state l 0 0)
 sweep-bare ReverseRun k p q l =
-    ap (λ (f : Placed → Placed → Candidate). reverseOver leads f k p q [] [] (start l)) look-bare ∙ reverse-map bare bare leads look k p q [] [] (start l)
+    ap (λ (f : Placed → Placed → Candidate). reverseOver leads f k p q [] [] (state l 0 0)) look-bare ∙ reverse-map bare bare leads look k p q [] [] (state l 0 0)
 
 -- The sites of three columns, counted from a place, with their numbers left out.
 module _ (c : Columns) (level : Level c) where

@@ -17,7 +17,7 @@ use Rattle.entry.specs.declared.Entry.{Entry}
 use Rattle.entry.specs.Entry.{rankBefore, bestK, offer, lastDistance}
 use Rattle.entry.proofs.Rank.{rank-order, rank-farther, last-distance}
 use Rattle.sweep.proofs.StepLaws.{scan-nil, scan-stop, scan-on}
-use Rattle.sweep.specs.Scan.{Candidate, State, beyond, looked, offered, scan}
+use Rattle.sweep.specs.Scan.{Candidate, State, beyond, lookAt, scan}
 
 -- ---- the best K of entries
 
@@ -123,28 +123,33 @@ module _ {X : Type 0} (f : X → Candidate) where
         (λ x. beyond-more k (bestK k m) (f x .gap) (f x .entry .distance)) l b h))
 
     -- A look that offers gives the best K with the pair.
-    offered-best : (x : X) (s : State) (m : List Entry) → s .entries ≡ bestK k m
-        → offered k (f x) s .entries ≡ bestK k (m ++ (f x .entry ∷ []))
-    unfolding offered offer bestK
-    offered-best x s m e = rw (e, best-snoc rankBefore k m (f x .entry))
+    offered-best : (x : X) (s : State) (m : List Entry) → s .entries ≡ bestK k m → beyond k (s .entries) (f x .gap) ≡ false
+        → lookAt k (f x) s .entries ≡ bestK k (m ++ (f x .entry ∷ []))
+    unfolding offer bestK
+    offered-best x s m e n = rw n (rw (e, best-snoc rankBefore k m (f x .entry)))
+
+    -- A look that stops leaves the list.
+    stopped-list : (x : X) (s : State) → beyond k (s .entries) (f x .gap) ≡ true → lookAt k (f x) s .entries ≡ s .entries
+    stopped-list x s t = rw t
 
     -- A scan finds the best K of what there was and all its candidates.
     pub scan-best : (l : List X) (s : State) (m : List Entry) → Widening l → Bounding l → s .entries ≡ bestK k m
         → scan k (map f l) s .state .entries ≡ bestK k (m ++ map (λ x. f x .entry) l)
-    unfolding Widening Bounding All looked
+    unfolding Widening Bounding All
     scan-best [] s m w b e = rw (scan-nil k s, append-nil) e
     scan-best (x ∷ l) s m w b e =
         byTest (beyond k (s .entries) (f x .gap))
-        (λ t. rw (scan-stop k (f x) (map f l) s t) (e ∙ sym (beyond-rest m (x ∷ l) b (beyond-all (bestK k m) x l w (rw e at t)))))
+        (λ t. rw (scan-stop k (f x) (map f l) s t)
+        (stopped-list x s t ∙ e ∙ sym (beyond-rest m (x ∷ l) b (beyond-all (bestK k m) x l w (rw e at t)))))
         (λ n. rw (scan-on k (f x) (map f l) s n)
-        (scan-best l (offered k (f x) s) (m ++ (f x .entry ∷ [])) (w .1) (b .1) (offered-best x s m e) ∙ simp append-assoc))
+        (scan-best l (lookAt k (f x) s) (m ++ (f x .entry ∷ [])) (w .1) (b .1) (offered-best x s m e n) ∙ simp append-assoc))
 
     -- What a scan did not pass is beyond the list that it leaves.
     pub scan-rest : (l : List X) (s : State) → Widening l
         → All (λ x. beyond k (scan k (map f l) s .state .entries) (f x .gap) ≡ true) (drop (scan k (map f l) s .passed) l)
-    unfolding Widening All looked
+    unfolding Widening All
     scan-rest [] s w = rw (scan-nil k s) tt
     scan-rest (x ∷ l) s w =
         byTest (beyond k (s .entries) (f x .gap))
-        (λ t. rw (scan-stop k (f x) (map f l) s t) (beyond-all (s .entries) x l w t))
-        (λ n. rw (scan-on k (f x) (map f l) s n) (scan-rest l (offered k (f x) s) (w .1)))
+        (λ t. rw (scan-stop k (f x) (map f l) s t) (rw (stopped-list x s t) (beyond-all (s .entries) x l w t)))
+        (λ n. rw (scan-on k (f x) (map f l) s n) (scan-rest l (lookAt k (f x) s) (w .1)))

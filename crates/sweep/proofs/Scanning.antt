@@ -6,15 +6,16 @@ use Prim.Native.Nat.{ℕ, suc, _+_, _≤_, _<_, _^_}
 use native.Mathlib.Omega.{arith}
 use lib.IntN.{ℤ}
 use lib.ListN.{length}
+use Rattle.entry.specs.Entry.{offer}
 use Rattle.entry.specs.Results.{Results, entriesOf}
 use Rattle.entry.specs.Terms.{reachOf}
 use Rattle.sweep.specs.declared.Looked.{Looked}
 use Rattle.sweep.specs.declared.Reference.{Reference}
 use Rattle.sweep.specs.declared.Tally.{Tally}
 use Rattle.sweep.specs.Strip.{Placed}
-use Rattle.sweep.specs.Scan.{State, Scanned, beyond, looked, offered, lookAt, scan}
+use Rattle.sweep.specs.Scan.{State, state, Scanned, beyond, lookAt, scan}
 use Rattle.sweep.specs.Terms.{spot}
-use Rattle.sweep.specs.Internal.{lookFrom, stateOf, LookAsked, ScanAsked, Held, Tallied, LookTold}
+use Rattle.sweep.specs.Internal.{lookFrom, stateOf, LookAsked, ScanAsked, Held, Tallied, LookDone}
 use Rattle.sweep.proofs.StepLaws.{scan-nil, scan-stop, scan-on}
 use Rattle.sweep.proofs.HeldLaws.{held-starts, held-joins}
 
@@ -81,31 +82,31 @@ module _ {o : Reference} {xs ys : List ℤ} {from to k : ℕ} {before : Results}
         }
 
     module _ {x : Placed} {rest : List Placed} (is : left ≡ x ∷ rest) {after : Results} {l : Looked}
-        (told : LookTold k r (t .count) (lookAt k (lookFrom o x) (stateOf t r)) after l) where
+        (told : LookDone k (lookFrom o x) t r after l) where
       joined : Held k before (old .count) after (l .tally .count)
       joined = held-joins k before (old .count) r (t .count) (p .held) after (l .tally .count) (told .tally .held)
 
       -- The look stopped the scan.
       pub scanning-stops : l .stopped ≡ true → Ended k before old o all (length left) after (l .tally)
+      unfolding stateOf
       scanning-stops h =
-          let stop : beyond k (stateOf t r .entries) (lookFrom o x .gap) ≡ true = sym (told .stopped) ∙ h in
-          let now : stateOf (l .tally) after ≡ looked (stateOf t r) = rw stop at (told .tally .state) in
-          let whole : scanned k o left r t ≡ record { state = looked (stateOf t r); passed = 0 }
-          = rw is (scan-stop k (lookFrom o x) (map (lookFrom o) rest) (stateOf t r) stop) in
+          let whole : scanned k o left r t ≡ record { state = lookAt k (lookFrom o x) (stateOf t r); passed = 0 }
+          = rw is (scan-stop k (lookFrom o x) (map (lookFrom o) rest) (stateOf t r) (sym (told .stopped) ∙ h)) in
           record {
-            tallied = record { held = joined; reach = told .tally .reach; state = now ∙ ap (λ (s : Scanned). s .state) (sym whole) ∙ p .state };
+            tallied = record { held = joined; reach = told .tally .reach; state = told .tally .state ∙ ap (λ (s : Scanned). s .state) (sym whole) ∙ p .state };
             passed = omega (arith, p .passed, ap (λ (s : Scanned). s .passed) whole);
           }
 
       -- The look went on.
       pub scanning-goes : l .stopped ≡ false → Scanning k before old o all rest after (l .tally)
-      unfolding stateOf offered
+      unfolding stateOf
       scanning-goes h =
-          let on : beyond k (stateOf t r .entries) (lookFrom o x .gap) ≡ false = sym (told .stopped) ∙ h in
-          let now : stateOf (l .tally) after ≡ offered k (lookFrom o x) (stateOf t r) = rw on at (told .tally .state) in
+          let on : beyond k (entriesOf (t .count) r) (lookFrom o x .gap) ≡ false = sym (told .stopped) ∙ h in
+          let now : stateOf (l .tally) after ≡ state (offer k (lookFrom o x .entry) (entriesOf (t .count) r)) (suc (t .looks)) (suc (t .distances))
+          = rw on at (told .tally .state) in
           let then = scan-on k (lookFrom o x) (map (lookFrom o) rest) (stateOf t r) on in
           let whole : scanned k o left r t ≡ record { state = scanned k o rest after (l .tally) .state; passed = suc (scanned k o rest after (l .tally) .passed) }
-          = rw (is, now) then in
+          = rw (is, told .tally .state) then in
           let n = ap length is in
           record {
             held = joined;

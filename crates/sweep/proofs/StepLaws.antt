@@ -4,7 +4,7 @@ use mathlib.Core.Bool.{Bool, true, false}
 use mathlib.Core.List.{List, [], _∷_, map}
 use Prim.Native.Nat.{ℕ, suc}
 use lib.ListN.{take}
-use Rattle.sweep.specs.Scan.{Candidate, State, beyond, looked, offered, scan}
+use Rattle.sweep.specs.Scan.{Candidate, State, beyond, lookAt, scan}
 use Rattle.sweep.specs.Sweep.{classicOver, reverseOver}
 
 module _ (k : ℕ) where
@@ -13,12 +13,12 @@ module _ (k : ℕ) where
   scan-nil s = refl
 
   pub scan-stop : (c : Candidate) (l : List Candidate) (s : State) → beyond k (s .entries) (c .gap) ≡ true
-      → scan k (c ∷ l) s ≡ record { state = looked s; passed = 0 }
+      → scan k (c ∷ l) s ≡ record { state = lookAt k c s; passed = 0 }
   unfolding scan
   scan-stop c l s b = rw b
 
   pub scan-on : (c : Candidate) (l : List Candidate) (s : State) → beyond k (s .entries) (c .gap) ≡ false
-      → scan k (c ∷ l) s ≡ record { state = scan k l (offered k c s) .state; passed = suc (scan k l (offered k c s) .passed) }
+      → scan k (c ∷ l) s ≡ record { state = scan k l (lookAt k c s) .state; passed = suc (scan k l (lookAt k c s) .passed) }
   unfolding scan
   scan-on c l s b = rw b
 

@@ -13,7 +13,8 @@ use Rattle.entry.specs.Entry.{bestK}
 use Rattle.sweep.specs.declared.Way.{Way}
 use Rattle.sweep.specs.declared.Way.the-variants.{Classic, ReverseRun}
 use Rattle.sweep.specs.Strip.{Placed, whole, strip, pair, pairs}
-use Rattle.sweep.specs.Sweep.{leads, look, start, sweep}
+use Rattle.sweep.specs.Scan.{state}
+use Rattle.sweep.specs.Sweep.{leads, look, sweep}
 use Rattle.sweep.proofs.Geometry.{Geometry, by-keys}
 use Rattle.sweep.proofs.ClassicLaws.{classic-best}
 use Rattle.sweep.proofs.ReverseLaws.{reverse-best}
@@ -27,9 +28,9 @@ plane-geometry =
 
 pub sweep-sorted : (w : Way) (k : ℕ) (p q : List Placed) (l m : List Entry) → Sorted leftOf p → Sorted leftOf q → l ≡ bestK k m
     → sweep w k p q l .entries ≡ bestK k (m ++ pairs p q)
-unfolding sweep start pairs look
-sweep-sorted Classic k p q l m sp sq e = classic-best plane-geometry k p q (start l) m sp sq e
-sweep-sorted ReverseRun k p q l m sp sq e = reverse-best plane-geometry k p q (start l) m sp sq e
+unfolding sweep pairs look
+sweep-sorted Classic k p q l m sp sq e = classic-best plane-geometry k p q (state l 0 0) m sp sq e
+sweep-sorted ReverseRun k p q l m sp sq e = reverse-best plane-geometry k p q (state l 0 0) m sp sq e
 
 -- Over two strips.
 pub sweep-best : (w : Way) (k f t g h : ℕ) (a b : List Site) (l m : List Entry)

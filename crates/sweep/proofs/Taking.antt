@@ -16,7 +16,7 @@ use Rattle.sweep.specs.declared.Tally.{Tally}
 use Rattle.sweep.specs.declared.Way.the-variants.{ReverseRun}
 use Rattle.sweep.specs.Strip.{Placed}
 use Rattle.sweep.specs.Scan.{Candidate, State, scan}
-use Rattle.sweep.specs.Sweep.{reverseOver, leads, look, start, sweep}
+use Rattle.sweep.specs.Sweep.{reverseOver, leads, look, sweep}
 use Rattle.sweep.specs.Terms.{spot, rightward, SweepAsked}
 use Rattle.sweep.specs.Internal.{leftward, referenceAt, lookFrom, firstNext, stateOf, TallyReady, ScanAsked, Held, Tallied}
 use Rattle.sweep.proofs.StepLaws.{reverse-nil, reverse-first, reverse-first-last, reverse-second, reverse-second-last}
@@ -104,7 +104,7 @@ passed-run xs ys {limit} {stop} {at} k f s h is =
 module _ {ax ay bx by : List ℤ} {aFrom aTo bFrom bTo k old : ℕ} {before : Results} (asked : SweepAsked ax ay bx by aFrom aTo bFrom bTo k old before) where
   pub taking-start : {reach : ℕ} → reach ≡ reachOf k (entriesOf old before)
       → Taking ax ay bx by aFrom aTo bFrom bTo k old before before aFrom bFrom aFrom bFrom (record { at = 0; count = old; looks = 0; distances = 0; reach = reach })
-  unfolding sweep start stateOf
+  unfolding sweep stateOf
   taking-start is = record {
     a-limit = omega arith;
     a-most = asked .a-range;

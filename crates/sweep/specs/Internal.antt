@@ -16,7 +16,7 @@ use Rattle.sweep.specs.declared.Reference.{Reference}
 use Rattle.sweep.specs.declared.Tally.{Tally}
 use Rattle.sweep.specs.declared.Looked.{Looked}
 use Rattle.sweep.specs.Strip.{Placed}
-use Rattle.sweep.specs.Scan.{Candidate, State, LookDone}
+use Rattle.sweep.specs.Scan.{Candidate, State, state, beyond, lookAt}
 use Rattle.sweep.specs.Sweep.{look}
 use Rattle.sweep.specs.Terms.{spotOf, spot}
 
@@ -42,7 +42,7 @@ firstNext ax i aTo bx j bTo = ltb i aTo && (leb bTo j || leZ (getD ax i (pos 0))
 
 -- The state that a tally and the columns hold.
 unfoldable pub stateOf : Tally → Results → State
-stateOf t r = record { entries = entriesOf (t .count) r; looks = t .looks; distances = t .distances }
+stateOf t r = state (entriesOf (t .count) r) (t .looks) (t .distances)
 
 -- The tally is that of the columns, which are ready for up to `k` entries: they hold its entries, its reach is theirs.
 pub record TallyReady (k : ℕ) (t : Tally) (r : Results) : Type 0 where
@@ -85,6 +85,6 @@ pub record Tallied (k : ℕ) (before : Results) (old : ℕ) (s : State) (r : Res
   pub state : stateOf t r ≡ s
 
 -- A look promises whether it stopped the scan, and the state that it leaves.
-pub record LookTold (k : ℕ) (before : Results) (old : ℕ) (d : LookDone) (r : Results) (l : Looked) : Type 0 where
-  pub stopped : l .stopped ≡ d .stopped
-  pub tally : Tallied k before old (d .state) r (l .tally)
+pub record LookDone (k : ℕ) (c : Candidate) (old : Tally) (before after : Results) (l : Looked) : Type 0 where
+  pub stopped : l .stopped ≡ beyond k (entriesOf (old .count) before) (c .gap)
+  pub tally : Tallied k before (old .count) (lookAt k c (stateOf old before)) after (l .tally)

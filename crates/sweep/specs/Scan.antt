@@ -18,35 +18,18 @@ pub record State : Type 0 where
   pub looks : ℕ
   pub distances : ℕ
 
--- "if the list has K entries and the x-difference squared is greater than the last entry's squared distance":
--- no pair at this gap or a larger one can enter.
+abbrev pub state : List Entry → ℕ → ℕ → State
+state entries looks distances = record { entries = entries; looks = looks; distances = distances }
+
+-- "if the list has K entries and the x-difference squared is greater than the last entry's squared distance"
 unfoldable pub beyond : ℕ → List Entry → ℕ → Bool
 beyond k l gap = eqb (length l) k && ltb (lastDistance l) gap
 
--- A look that stops the scan.
-unfoldable pub looked : State → State
-looked s = record { entries = s .entries; looks = suc (s .looks); distances = s .distances }
-
--- "Otherwise the distance is worked out and the pair takes its place by rank."
-unfoldable pub offered : ℕ → Candidate → State → State
-offered k c s =
-    record {
-      entries = offer k (c .entry) (s .entries);
-      looks = suc (s .looks);
-      distances = suc (s .distances);
-    }
-
--- What a look leaves: whether it stopped the scan, and the state.
-pub record LookDone : Type 0 where
-  pub stopped : Bool
-  pub state : State
-
--- "At a look, if the list has K entries and the x-difference squared is greater than the last entry's squared distance, the
--- scan stops. Otherwise the distance is worked out and the pair takes its place by rank, the entry past K dropping out."
-abbrev pub lookAt : ℕ → Candidate → State → LookDone
+-- What a look leaves. It stops the scan, or "the distance is worked out and the pair takes its place by rank".
+abbrev pub lookAt : ℕ → Candidate → State → State
 lookAt k c s =
-    let stop = beyond k (s .entries) (c .gap) in
-    record { stopped = stop; state = cond stop (looked s) (offered k c s) }
+    let offered = state (offer k (c .entry) (s .entries)) (suc (s .looks)) (suc (s .distances)) in
+    cond (beyond k (s .entries) (c .gap)) (state (s .entries) (suc (s .looks)) (s .distances)) offered
 
 -- The state after a scan, and how many candidates it passed before it stopped or ran out.
 pub record Scanned : Type 0 where
@@ -56,7 +39,6 @@ pub record Scanned : Type 0 where
 unfoldable pub scan : ℕ → List Candidate → State → Scanned
 scan k [] s = record { state = s; passed = 0 }
 scan k (c ∷ l) s =
-    let d = lookAt k c s in
-    let r = scan k l (d .state) in
+    let r = scan k l (lookAt k c s) in
     let on : Scanned = record { state = r .state; passed = suc (r .passed) } in
-    cond (d .stopped) (record { state = d .state; passed = 0 }) on
+    cond (beyond k (s .entries) (c .gap)) (record { state = lookAt k c s; passed = 0 }) on

@@ -9,14 +9,11 @@ use Rattle.entry.specs.declared.Entry.{Entry}
 use Rattle.sweep.specs.declared.Way.{Way}
 use Rattle.sweep.specs.declared.Way.the-variants.{Classic, ReverseRun}
 use Rattle.sweep.specs.Strip.{Placed, pair}
-use Rattle.sweep.specs.Scan.{Candidate, State, Scanned, scan}
+use Rattle.sweep.specs.Scan.{Candidate, State, state, scan}
 
 -- `leads a b`: the reference is the first list's `a` and not the second list's `b`.
--- `look a b`: what a look at the two tests and offers.
 module _ {A B : Type 0} (leads : A → B → Bool) (look : A → B → Candidate) (k : ℕ) where
-  -- "Two fingers start at the strips' first sites. While both are inside, the reference is the first list's site if its x is
-  -- at most the other's, else the second's. It is scanned against the other list from that finger to the right. Then the
-  -- reference's finger moves one on."
+  -- The reference "is scanned against the other list from that finger to the right", and its finger moves one on.
   unfoldable pub classicOver : List A → List B → State → State
   classicOver [] q s = s
   classicOver (a ∷ p) [] s = s
@@ -25,10 +22,8 @@ module _ {A B : Type 0} (leads : A → B → Bool) (look : A → B → Candidate
       let bySecond = classicOver (a ∷ p) q (scan k (map (λ c. look c b) (a ∷ p)) s .state) in
       cond (leads a b) byFirst bySecond
 
-  -- "References are taken in ascending x, a first-list site before a second-list site at equal x, otherwise by place. Each is
-  -- scanned against the other list's sites already taken, latest first, down to that list's left limit. The place where the
-  -- scan stopped becomes the new left limit: it and all before it are never looked at again."
-  -- `u` and `v` are the sites already taken and past their list's left limit, latest first: a scan leaves those that it passed.
+  -- Each reference "is scanned against the other list's sites already taken, latest first", down to the left limit.
+  -- These sites are `u` and `v`: a scan leaves those that it passed, and the rest "are never looked at again".
   unfoldable pub reverseOver : List A → List B → List A → List B → State → State
   reverseOver [] [] u v s = s
   reverseOver [] (b ∷ q) u v s =
@@ -52,11 +47,7 @@ leads p q = leZ (p .site .x) (q .site .x)
 unfoldable pub look : Placed → Placed → Candidate
 look p q = record { gap = square (gap (p .site .x) (q .site .x)); entry = pair p q }
 
--- A list before a sweep, with both counters at 0.
-unfoldable pub start : List Entry → State
-start l = record { entries = l; looks = 0; distances = 0 }
-
 -- The sweep named, over two strips, on a list that may hold entries already. (01: classic, Reverse Run.)
 unfoldable pub sweep : Way → ℕ → List Placed → List Placed → List Entry → State
-sweep Classic k p q l = classicOver leads look k p q (start l)
-sweep ReverseRun k p q l = reverseOver leads look k p q [] [] (start l)
+sweep Classic k p q l = classicOver leads look k p q (state l 0 0)
+sweep ReverseRun k p q l = reverseOver leads look k p q [] [] (state l 0 0)

@@ -13,9 +13,8 @@ ghost use Rattle.site.specs.SiteList.{site};
 ghost use Rattle.site.specs.Terms.{Coordinates};
 ghost use Rattle.entry.specs.Entry.{entry};
 ghost use Rattle.entry.specs.Results.{results, lentResults};
-ghost use Rattle.sweep.specs.Scan.{lookAt};
 ghost use Rattle.sweep.specs.Terms.{spot};
-ghost use Rattle.sweep.specs.Internal.{lookFrom, stateOf, LookAsked, LookTold};
+ghost use Rattle.sweep.specs.Internal.{lookFrom, LookAsked, LookDone};
 
 // The squared x-difference of a reference and the site at a place of the other list.
 fn squared_gap_at(reference: Reference, xs: &[i32], i: usize) -> u64
@@ -75,7 +74,7 @@ pub(super) fn look(
     ensures { λ r.
         let l = lentResults distance first second in
         let candidate = lookFrom reference (spot (now (xs .entry)) (now (ys .entry)) i) in
-        ⌜ LookTold k (l .entry) (old .count) (lookAt k candidate (stateOf old (l .entry))) (l .exit) r ⌝ }
+        ⌜ LookDone k candidate old (l .entry) (l .exit) r ⌝ }
 {
     let mut tally = old;
     tally.looks += 1;
