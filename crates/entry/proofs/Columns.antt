@@ -1,18 +1,19 @@
 -- Laws of the three result columns and the entries that they hold.
 use mathlib.Core.Path.{_≡_, refl, ap, _∙_}
 use mathlib.Core.Bool.{true, false, _&&_, and-eq-true-iff}
-use mathlib.Core.List.{List, [], _∷_, _++_, map}
+use mathlib.Core.List.{List, [], _∷_, _++_, map, zipWith}
 use Prim.Native.Nat.{ℕ, zero, suc, _+_, _-_, _≤_, _<_}
 use native.Mathlib.Omega.{arith}
 use lib.Dec.{leb}
-use lib.ListN.{length, take, drop, getD, length-map}
-use lib.Seq.{take-append-seam, length-take-le, getD-take}
+use lib.ListN.{length, take, drop, getD, length-take, length-map}
+use lib.Seq.{take-append-seam, take-take, length-take-le, getD-take}
 use borrow.Author.Tests.{leb-true, le-leb, lt-leb}
+use Rattle.order.proofs.Lists.{length-zip, zip-at, zip-take}
 use Rattle.column.specs.Column.{overwritten}
 use Rattle.column.proofs.Overwritten.{length-overwritten, overwritten-again, overwritten-self}
 use Rattle.entry.specs.declared.Entry.{Entry}
 use Rattle.entry.specs.Entry.{entry, lastDistance}
-use Rattle.entry.specs.Results.{Results, results, zipEntries, entriesOf, holding, roomFor}
+use Rattle.entry.specs.Results.{Results, results, entriesOf, holding, roomFor}
 use Rattle.entry.proofs.Rank.{last-distance}
 
 -- ---- room
@@ -45,9 +46,13 @@ module _ (k : ℕ) (r : Results) where
 
 -- ---- entries of columns
 
+-- The entries of three columns, as many as the shortest has.
+abbrev zipEntries : List ℕ → List ℕ → List ℕ → List Entry
+zipEntries ds is js = zipWith (λ make j. make j) (zipWith entry ds is) js
+
 zip-append : (l : List Entry) (ds is js : List ℕ)
     → zipEntries (map (λ e. e .distance) l ++ ds) (map (λ e. e .first) l ++ is) (map (λ e. e .second) l ++ js) ≡ l ++ zipEntries ds is js
-unfolding zipEntries
+unfolding zipWith
 zip-append [] ds is js = refl
 zip-append (e ∷ l) ds is js = ap (λ (r : List Entry). e ∷ r) (zip-append l ds is js)
 
@@ -58,20 +63,12 @@ entries-holding l r =
     rw (zip-append l (drop (length (map (λ e. e .distance) l)) (r .distance)) (drop (length (map (λ e. e .first) l)) (r .first)) (drop (length (map (λ e. e .second) l)) (r .second)))
     (take-append-seam l _)
 
-length-zip : (n : ℕ) (ds is js : List ℕ) → n ≤ length ds → n ≤ length is → n ≤ length js → length (take n (zipEntries ds is js)) ≡ n
-unfolding zipEntries
-length-zip zero ds is js p q t = refl
-length-zip (suc n) [] is js p q t = absurd (omega arith)
-length-zip (suc n) (d ∷ ds) [] js p q t = absurd (omega arith)
-length-zip (suc n) (d ∷ ds) (i ∷ is) [] p q t = absurd (omega arith)
-length-zip (suc n) (d ∷ ds) (i ∷ is) (j ∷ js) p q t = ap suc (length-zip n ds is js (omega arith) (omega arith) (omega arith))
-
 -- The entries' numbers stand in the columns.
 zip-columns : (n : ℕ) (ds is js : List ℕ) → n ≤ length ds → n ≤ length is → n ≤ length js
     → (map (λ e. e .distance) (take n (zipEntries ds is js)) ≡ take n ds)
     × (map (λ e. e .first) (take n (zipEntries ds is js)) ≡ take n is)
     × (map (λ e. e .second) (take n (zipEntries ds is js)) ≡ take n js)
-unfolding zipEntries
+unfolding zipWith
 zip-columns zero ds is js p q t = (refl, refl, refl)
 zip-columns (suc n) [] is js p q t = absurd (omega arith)
 zip-columns (suc n) (d ∷ ds) [] js p q t = absurd (omega arith)
@@ -80,30 +77,16 @@ zip-columns (suc n) (d ∷ ds) (i ∷ is) (j ∷ js) p q t =
     let h = zip-columns n ds is js (omega arith) (omega arith) (omega arith) in
     (ap (λ (r : List ℕ). d ∷ r) (h .0), ap (λ (r : List ℕ). i ∷ r) (h .1), ap (λ (r : List ℕ). j ∷ r) (h .2))
 
-zip-at : (i : ℕ) (ds is js : List ℕ) (e : Entry) → i < length ds → i < length is → i < length js
-    → getD (zipEntries ds is js) i e ≡ entry (getD ds i 0) (getD is i 0) (getD js i 0)
-unfolding zipEntries
-zip-at i [] is js e p q t = absurd (omega arith)
-zip-at i (d ∷ ds) [] js e p q t = absurd (omega arith)
-zip-at i (d ∷ ds) (f ∷ is) [] e p q t = absurd (omega arith)
-zip-at zero (d ∷ ds) (f ∷ is) (s ∷ js) e p q t = refl
-zip-at (suc i) (d ∷ ds) (f ∷ is) (s ∷ js) e p q t = zip-at i ds is js e (omega arith) (omega arith) (omega arith)
-
--- The first `count` entries stand in the first `count` elements of each column.
-zip-take : (n : ℕ) (ds is js : List ℕ) → take n (zipEntries (take n ds) (take n is) (take n js)) ≡ take n (zipEntries ds is js)
-unfolding zipEntries
-zip-take zero ds is js = refl
-zip-take (suc n) [] is js = refl
-zip-take (suc n) (d ∷ ds) [] js = refl
-zip-take (suc n) (d ∷ ds) (i ∷ is) [] = refl
-zip-take (suc n) (d ∷ ds) (i ∷ is) (j ∷ js) = ap (λ (r : List Entry). entry d i j ∷ r) (zip-take n ds is js)
-
 abbrev pub firstOf : ℕ → Results → Results
 firstOf n r = results (take n (r .distance)) (take n (r .first)) (take n (r .second))
 
 pub entries-first : (n : ℕ) (r : Results) → entriesOf n (firstOf n r) ≡ entriesOf n r
 unfolding entriesOf
-entries-first n r = zip-take n (r .distance) (r .first) (r .second)
+entries-first n r =
+    let pairs = zipWith entry (r .distance) (r .first) in
+    ap (λ (l : List (ℕ → Entry)). take n (zipWith (λ make j. make j) l (take n (r .second)))) (zip-take entry n (r .distance) (r .first))
+    ∙ ap (take n) (zip-take (λ make j. make j) n pairs (r .second))
+    ∙ take-take n n (zipEntries (r .distance) (r .first) (r .second)) (omega arith)
 
 pub room-first : (k n : ℕ) (r : Results) → roomFor k r ≡ true → n ≤ k → roomFor n (firstOf n r) ≡ true
 room-first k n r room h =
@@ -117,9 +100,7 @@ room-first k n r room h =
 module _ (k count : ℕ) (r : Results) (room : roomFor k r ≡ true) (most : count ≤ k) where
   pub length-entries : length (entriesOf count r) ≡ count
   unfolding entriesOf
-  length-entries =
-      let h = room-lengths k r room in
-      length-zip count (r .distance) (r .first) (r .second) (omega arith) (omega arith) (omega arith)
+  length-entries = simp (length-take, length-zip) (omega (arith, room-lengths k r room))
 
   -- Each column begins with its numbers of the entries.
   pub entries-columns : (map (λ e. e .distance) (entriesOf count r) ≡ take count (r .distance))
@@ -136,8 +117,10 @@ module _ (k count : ℕ) (r : Results) (room : roomFor k r ≡ true) (most : cou
   unfolding entriesOf
   entry-at i e h =
       let n = room-lengths k r room in
+      let pairs = zipWith entry (r .distance) (r .first) in
       getD-take count (zipEntries (r .distance) (r .first) (r .second)) i e h
-      ∙ zip-at i (r .distance) (r .first) (r .second) e (omega arith) (omega arith) (omega arith)
+      ∙ zip-at (λ make j. make j) pairs (r .second) i (entry 0 0) 0 e (simp length-zip (omega arith)) (omega arith)
+      ∙ ap (λ (make : ℕ → Entry). make (getD (r .second) i 0)) (zip-at entry (r .distance) (r .first) i 0 0 (entry 0 0) (omega arith) (omega arith))
 
   -- The last squared distance stands in its column.
   pub last-distance-column : 0 < count → lastDistance (entriesOf count r) ≡ getD (r .distance) (count - 1) 0

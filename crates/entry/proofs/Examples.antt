@@ -1,17 +1,17 @@
 -- Examples of the rank: what M1 to M10 do not tell apart.
 use mathlib.Core.Path.{_≡_, refl}
 use mathlib.Core.List.{[], _∷_}
-use Rattle.order.specs.Best.{insert, inserts, sort, best}
+use Rattle.order.specs.Best.{insert, sort}
 use Rattle.order.specs.Order.{lex}
 use Rattle.entry.specs.Entry.{entry, rankBefore, bestK, offer}
 
 -- At equal distance the smaller first place comes first, and only then the smaller second place.
 ties : bestK 4 (entry 9 1 0 ∷ entry 1 1 1 ∷ entry 9 0 1 ∷ entry 1 0 0 ∷ []) ≡ entry 1 0 0 ∷ entry 1 1 1 ∷ entry 9 0 1 ∷ entry 9 1 0 ∷ []
-unfolding lex insert inserts sort best rankBefore bestK
+unfolding lex insert sort rankBefore bestK
 ties = refl
 
 second-places : bestK 2 (entry 9 0 2 ∷ entry 9 0 1 ∷ entry 9 0 3 ∷ []) ≡ entry 9 0 1 ∷ entry 9 0 2 ∷ []
-unfolding lex insert inserts sort best rankBefore bestK
+unfolding lex insert sort rankBefore bestK
 second-places = refl
 
 -- The entry past K drops out.

@@ -6,7 +6,7 @@ use lib.Dec.{leb, ltb}
 use lib.ListN.{take}
 use Rattle.order.specs.Order.{on, lex}
 use Rattle.order.specs.Lists.{last}
-use Rattle.order.specs.Best.{insert, best}
+use Rattle.order.specs.Best.{insert, sort}
 use Rattle.entry.specs.declared.Entry.{Entry}
 
 abbrev pub entry : ℕ → ℕ → ℕ → Entry
@@ -22,7 +22,7 @@ lawfulK k = leb 1 k && leb k 4_096
 
 -- "The first K pairs by rank, or all when that is fewer."
 unfoldable pub bestK : ℕ → List Entry → List Entry
-bestK k l = best rankBefore k l
+bestK k l = take k (sort rankBefore l)
 
 -- "the pair takes its place by rank, the entry past K dropping out."
 unfoldable pub offer : ℕ → Entry → List Entry → List Entry

@@ -1,6 +1,6 @@
 -- Entries in three lent columns.
 use mathlib.Core.Bool.{Bool, _&&_}
-use mathlib.Core.List.{List, [], _∷_, map}
+use mathlib.Core.List.{List, map, zipWith}
 use Prim.Native.Nat.{ℕ}
 use lib.Dec.{leb}
 use lib.ListN.{length, take}
@@ -22,15 +22,9 @@ results distance first second = record { distance = distance; first = first; sec
 abbrev pub lentResults : Lent (List ℕ) → Lent (List ℕ) → Lent (List ℕ) → Held Results
 lentResults distance first second = the results of distance of first of second
 
-unfoldable pub zipEntries : List ℕ → List ℕ → List ℕ → List Entry
-zipEntries [] is js = []
-zipEntries (d ∷ ds) [] js = []
-zipEntries (d ∷ ds) (i ∷ is) [] = []
-zipEntries (d ∷ ds) (i ∷ is) (j ∷ js) = entry d i j ∷ zipEntries ds is js
-
 -- The first `count` entries of the columns.
 unfoldable pub entriesOf : ℕ → Results → List Entry
-entriesOf count r = take count (zipEntries (r .distance) (r .first) (r .second))
+entriesOf count r = take count (zipWith (λ make j. make j) (zipWith entry (r .distance) (r .first)) (r .second))
 
 -- The columns with the entries written from the start on. "Column elements past the entry count are untouched."
 unfoldable pub holding : List Entry → Results → Results

@@ -1,14 +1,18 @@
 -- Laws of insertion and of the best K that need no sortedness.
 use mathlib.Core.Path.{_≡_, refl, sym, ap, _∙_}
 use mathlib.Core.Bool.{Bool, true, false}
-use mathlib.Core.List.{List, [], _∷_, _++_, List·Permᴰ, List·Permᴰ·nil, List·Permᴰ·cons, List·Permᴰ·swap, List·Permᴰ·trans}
+use mathlib.Core.List.{List, [], _∷_, _++_, foldl, List·Permᴰ, List·Permᴰ·nil, List·Permᴰ·cons, List·Permᴰ·swap, List·Permᴰ·trans}
 use Prim.Native.Nat.{ℕ, zero, suc, _+_, min}
 use native.Mathlib.Omega.{arith}
 use lib.ListN.{length, take, length-take}
 use lib.Seq.{take-take}
 use Rattle.order.specs.Terms.{StrictOrder}
-use Rattle.order.specs.Best.{insert, inserts, sort, best}
+use Rattle.order.specs.Best.{insert, sort, best}
 use Rattle.order.proofs.Order.{byTest}
+
+-- Each element of the first list inserted into the second.
+unfoldable pub inserts : {A : Type 0} → (A → A → Bool) → List A → List A → List A
+inserts before l s = foldl (λ sorted e. insert before e sorted) s l
 
 module _ {A : Type 0} (before : A → A → Bool) where
   pub insert-nil : (e : A) → insert before e [] ≡ e ∷ []
@@ -44,12 +48,14 @@ module _ {A : Type 0} (before : A → A → Bool) where
   length-inserts [] s = rw inserts-nil (omega arith)
   length-inserts (e ∷ l) s = rw (inserts-cons, length-inserts l (insert before e s), length-insert) (omega arith)
 
+  pub sort-inserts : (l : List A) → sort before l ≡ inserts before l []
+  unfolding sort inserts
+  sort-inserts l = refl
+
   pub length-sort : (l : List A) → length (sort before l) ≡ length l
-  unfolding sort
-  length-sort l = rw length-inserts (omega arith)
+  length-sort l = rw (sort-inserts, length-inserts) (omega arith)
 
   pub length-best : (k : ℕ) (l : List A) → length (best before k l) ≡ min k (length l)
-  unfolding best
   length-best k l = rw (length-take, length-sort)
 
   pub inserts-append : (l m s : List A) → inserts before (l ++ m) s ≡ inserts before m (inserts before l s)
@@ -79,11 +85,10 @@ module _ {A : Type 0} (before : A → A → Bool) where
 
   -- The best of a list and more: the more inserted into the best.
   pub best-append : (k : ℕ) (l m : List A) → best before k (l ++ m) ≡ take k (inserts before m (best before k l))
-  unfolding best sort
-  best-append k l m = rw (inserts-append, take-inserts)
+  best-append k l m = rw (sort-inserts (l ++ m), sort-inserts l, inserts-append, take-inserts)
 
   pub best-nil : (k : ℕ) → best before k [] ≡ []
-  unfolding best sort inserts
+  unfolding sort
   best-nil zero = refl
   best-nil (suc k) = refl
 
@@ -116,11 +121,9 @@ module _ {A : Type 0} {before : A → A → Bool} (o : StrictOrder before) where
   insert-inserts e (a ∷ l) s = rw (insert-comm a e s) (insert-inserts e l (insert before a s))
 
   pub sort-cons : (e : A) (l : List A) → sort before (e ∷ l) ≡ insert before e (sort before l)
-  unfolding sort
-  sort-cons e l = rw inserts-cons (insert-inserts e l [])
+  sort-cons e l = rw (sort-inserts before (e ∷ l), sort-inserts before l, inserts-cons) (insert-inserts e l [])
 
   pub best-cons : (k : ℕ) (e : A) (l : List A) → best before k (e ∷ l) ≡ take k (insert before e (best before k l))
-  unfolding best
   best-cons k e l = rw (sort-cons, take-insert)
 
   pub inserts-perm : {l m : List A} → List·Permᴰ l m → (s : List A) → inserts before l s ≡ inserts before m s
@@ -132,9 +135,8 @@ module _ {A : Type 0} {before : A → A → Bool} (o : StrictOrder before) where
 
   -- The order in which elements come is free.
   pub sort-perm : {l m : List A} → List·Permᴰ l m → sort before l ≡ sort before m
-  unfolding sort
+  unfolding sort inserts
   sort-perm p = inserts-perm p []
 
   pub best-perm : (k : ℕ) {l m : List A} → List·Permᴰ l m → best before k l ≡ best before k m
-  unfolding best
   best-perm k p = rw (sort-perm p)

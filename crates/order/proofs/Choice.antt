@@ -106,7 +106,6 @@ module _ {A : Type 0} {before : A → A → Bool} (o : StrictOrder before) where
     -- No choice of at most `k` distinct elements has a smaller weight at any place, the weights in ascending order and repeats kept.
     pub no-choice-better : (k : ℕ) (l c : List A) → Distinct l → Distinct c → ((x : A) → List·Memᴰ x c → List·Memᴰ x l) → length c ≤ k
         → (i : ℕ) → i < length c → getD (map weight (best before k l)) i 0 ≤ getD (sortNumbers (map weight c)) i 0
-    unfolding best
     no-choice-better k l c d e f n i lt =
         rw (sort-weights c)
         (dominates-weights (take k (sort before l)) (sort before c) i
@@ -124,7 +123,6 @@ module _ {A : Type 0} {before : A → A → Bool} (o : StrictOrder before) where
   -- Each of the best comes before what is left out, and the list of the best is full.
   pub best-none-better : (k : ℕ) (l : List A) → Distinct l → (e : A) → List·Memᴰ e l → (List·Memᴰ e (best before k l) → ⊥)
       → All (λ h. before h e ≡ true) (best before k l) × (length (best before k l) ≡ k)
-  unfolding best
   best-none-better k l d e m out =
       let s = sort before l in
       let rest : List·Memᴰ e (drop k s) = ⊎-elim (λ (u : List·Memᴰ e (take k s)). absurd (out u)) (λ (u : List·Memᴰ e (drop k s)). u) (mem-parts k s (sort-mem before l m)) in

@@ -1,9 +1,9 @@
--- Small laws of lists: statements and tests of each element, members, permutations, distinct lists, parts, the last, sums.
+-- Small laws of lists: statements and tests of each element, members, permutations, distinct lists, parts, the last, sums, joined lists.
 use mathlib.Core.Path.{_≡_, refl, sym, ap, _∙_, subst⁻¹}
 use mathlib.Core.Logic.{_⊎_, ⊎-elim, _↔_}
 use mathlib.Core.Bool.{Bool, true, false}
-use mathlib.Core.List.{List, [], _∷_, _++_, map, List·Memᴰ, List·Memᴰ·head, List·Memᴰ·tail, List·Memᴰ·not-nil, List·Memᴰ·cases-cons, List·Memᴰ·append-cases, Memᴰ·append-left, Memᴰ·append-right, Memᴰ·cast, List·Permᴰ, List·Permᴰ·nil, List·Permᴰ·cons, List·Permᴰ·swap, List·Permᴰ·trans, Permᴰ·symm}
-use Prim.Native.Nat.{ℕ, zero, suc, _+_, _-_, _≤_, _<_}
+use mathlib.Core.List.{List, [], _∷_, _++_, map, zipWith, List·Memᴰ, List·Memᴰ·head, List·Memᴰ·tail, List·Memᴰ·not-nil, List·Memᴰ·cases-cons, List·Memᴰ·append-cases, Memᴰ·append-left, Memᴰ·append-right, Memᴰ·cast, List·Permᴰ, List·Permᴰ·nil, List·Permᴰ·cons, List·Permᴰ·swap, List·Permᴰ·trans, Permᴰ·symm}
+use Prim.Native.Nat.{ℕ, zero, suc, _+_, _-_, _≤_, _<_, min}
 use native.Mathlib.Omega.{arith}
 use lib.ListN.{length, take, drop, getD, take-append-drop}
 use Rattle.order.specs.Lists.{all, keep, All, Distinct, last, sum}
@@ -321,3 +321,27 @@ sum-perm List·Permᴰ·nil = refl
 sum-perm (List·Permᴰ·cons e p) = omega (arith, sum-perm p)
 sum-perm (List·Permᴰ·swap e f) = omega arith
 sum-perm (List·Permᴰ·trans p q) = sum-perm p ∙ sum-perm q
+
+-- ---- two lists joined place by place
+
+module _ {A B C : Type 0} (f : A → B → C) where
+  pub length-zip : (l : List A) (m : List B) → length (zipWith f l m) ≡ min (length l) (length m)
+  unfolding zipWith
+  length-zip [] m = omega arith
+  length-zip (a ∷ l) [] = omega arith
+  length-zip (a ∷ l) (b ∷ m) = omega (arith, length-zip l m)
+
+  pub zip-at : (l : List A) (m : List B) (i : ℕ) (a : A) (b : B) (c : C) → i < length l → i < length m
+      → getD (zipWith f l m) i c ≡ f (getD l i a) (getD m i b)
+  unfolding zipWith
+  zip-at [] m i a b c p q = absurd (omega arith)
+  zip-at (x ∷ l) [] i a b c p q = absurd (omega arith)
+  zip-at (x ∷ l) (y ∷ m) zero a b c p q = refl
+  zip-at (x ∷ l) (y ∷ m) (suc i) a b c p q = zip-at l m i a b c (omega arith) (omega arith)
+
+  pub zip-take : (n : ℕ) (l : List A) (m : List B) → zipWith f (take n l) (take n m) ≡ take n (zipWith f l m)
+  unfolding zipWith
+  zip-take zero l m = refl
+  zip-take (suc n) [] m = refl
+  zip-take (suc n) (a ∷ l) [] = refl
+  zip-take (suc n) (a ∷ l) (b ∷ m) = ap (λ (r : List C). f a b ∷ r) (zip-take n l m)

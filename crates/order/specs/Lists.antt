@@ -1,7 +1,7 @@
 -- Small definitions on lists, for any element.
 use mathlib.Core.Path.{_≡_}
 use mathlib.Core.Bool.{Bool, true, false, cond, _&&_}
-use mathlib.Core.List.{List, [], _∷_}
+use mathlib.Core.List.{List, [], _∷_, foldr}
 use Prim.Native.Nat.{ℕ, _+_}
 
 -- The test holds of each element.
@@ -30,5 +30,4 @@ last d [] = d
 last d (a ∷ l) = last a l
 
 unfoldable pub sum : List ℕ → ℕ
-sum [] = 0
-sum (n ∷ l) = n + sum l
+sum l = foldr _+_ 0 l

@@ -1,7 +1,6 @@
 -- The laws of gaps and squared distances.
-use mathlib.Core.Path.{_≡_, refl, ap, ap₂}
+use mathlib.Core.Path.{_≡_, refl, ap}
 use mathlib.Core.Bool.{true}
-use mathlib.Core.List.{List, [], _∷_}
 use Prim.Native.Nat.{ℕ, _+_, _≤_}
 use native.Mathlib.Nat.{mul-le-mul, add-zero}
 use native.Mathlib.Omega.{arith}
@@ -12,7 +11,7 @@ use lib.Signed.{leZ}
 use Rattle.order.specs.Lists.{sum}
 use Rattle.site.specs.declared.Site.{Site}
 use Rattle.site.specs.SiteList.{site}
-use Rattle.site.specs.Site.{within, plane, gap, square, squaredOver, squaredDistance}
+use Rattle.site.specs.Site.{within, gap, square, squaredDistance}
 use Rattle.order.proofs.Order.{byTest}
 use Rattle.site.proofs.Cases.{and-first, and-second}
 use Rattle.site.proofs.Integers.{up, down, le-sides, le-total, le-trans as leZ-trans, size-up, size-down}
@@ -72,7 +71,7 @@ squared-gap-within a b h k = mul-le-mul (gap-within a b h k) (gap-within a b h k
 
 -- The squared distance, written out.
 pub squared-distance-is : (s t : Site) → squaredDistance s t ≡ square (gap (s .x) (t .x)) + square (gap (s .y) (t .y))
-unfolding squaredDistance squaredOver sum
+unfolding squaredDistance sum
 squared-distance-is s t = ap (λ (n : ℕ). square (gap (s .x) (t .x)) + n) (add-zero (square (gap (s .y) (t .y))))
 
 pub squared-distance-within : (s t : Site) → within (s .x) ≡ true → within (s .y) ≡ true → within (t .x) ≡ true → within (t .y) ≡ true → squaredDistance s t ≤ 8_000_000_000_000_000_000
@@ -81,27 +80,12 @@ squared-distance-within s t p q r u =
 
 -- A squared distance looks at the positions and not at the numbers.
 pub numberless : (x y u v : ℤ) (n m : ℕ) → squaredDistance (site x y n) (site u v m) ≡ squaredDistance (site x y 0) (site u v 0)
-unfolding squaredDistance squaredOver
+unfolding squaredDistance
 numberless x y u v n m = refl
 
--- Over any coordinates: the squared distance is symmetric,
-pub squared-over-sym : (l : List (Site → ℤ)) (s t : Site) → squaredOver l s t ≡ squaredOver l t s
-unfolding squaredOver sum
-squared-over-sym [] s t = refl
-squared-over-sym (c ∷ l) s t = ap₂ _+_ (ap square (gap-sym (c s) (c t))) (squared-over-sym l s t)
-
 pub squared-distance-sym : (s t : Site) → squaredDistance s t ≡ squaredDistance t s
-unfolding squaredDistance
-squared-distance-sym s t = squared-over-sym plane s t
-
--- and at least the squared gap of the first.
-pub squared-gap-under : (c : Site → ℤ) (l : List (Site → ℤ)) (s t : Site) → square (gap (c s) (c t)) ≤ squaredOver (c ∷ l) s t
-unfolding squaredOver sum
-squared-gap-under c l s t = omega arith
-
-pub squared-rest-under : (c : Site → ℤ) (l : List (Site → ℤ)) (s t : Site) → squaredOver l s t ≤ squaredOver (c ∷ l) s t
-unfolding squaredOver sum
-squared-rest-under c l s t = omega arith
+squared-distance-sym s t =
+    omega (arith, squared-distance-is s t, squared-distance-is t s, ap square (gap-sym (s .x) (t .x)), ap square (gap-sym (s .y) (t .y)))
 
 pub squared-gap-x : (s t : Site) → square (gap (s .x) (t .x)) ≤ squaredDistance s t
 squared-gap-x s t = omega (arith, squared-distance-is s t)

@@ -1,6 +1,6 @@
 -- Examples of refusals and their order: what M1 to M10 do not tell apart.
 use mathlib.Core.Path.{_≡_, refl}
-use mathlib.Core.List.{List, [], _∷_, map}
+use mathlib.Core.List.{List, [], _∷_, map, zipWith}
 use Prim.Native.Nat.{ℕ}
 use lib.IntN.{pos, negsuc}
 use Rattle.order.specs.Lists.{all, keep}
@@ -8,7 +8,7 @@ use Rattle.order.specs.Order.{lex, ascending}
 use Rattle.site.specs.Addition.{useFault, placeOf, present, noRoom, addRefusal}
 use Rattle.site.specs.Refusal.{equalLengths, sizeFault, contentRefusal, listRefusal, listsRefusal}
 use Rattle.site.specs.Site.{within, lawfulSite, siteBefore}
-use Rattle.site.specs.SiteList.{Columns, columns, site, sites, zipSites, inUse}
+use Rattle.site.specs.SiteList.{Columns, columns, site, sites, inUse}
 use Rattle.site.specs.Answer.{orElse}
 
 -- Columns of one site each place, by x alone.
@@ -29,19 +29,19 @@ lists :
     ∷ columns (pos 1 ∷ pos 1 ∷ pos 1 ∷ []) (pos 1 ∷ pos 1 ∷ pos 2 ∷ []) (1 ∷ 2 ∷ 1 ∷ [])
     ∷ [])
     ≡ 2 ∷ 1 ∷ 3 ∷ 3 ∷ 0 ∷ 0 ∷ 2 ∷ 0 ∷ []
-unfolding byX lex ascending all sites zipSites orElse within lawfulSite siteBefore equalLengths sizeFault contentRefusal listRefusal
+unfolding byX lex ascending all sites zipWith orElse within lawfulSite siteBefore equalLengths sizeFault contentRefusal listRefusal
 lists = refl
 
 two-lists : listsRefusal (byX (5 ∷ 4 ∷ [])) (columns [] (pos 0 ∷ []) []) ≡ 3
-unfolding byX lex ascending all sites zipSites orElse within lawfulSite siteBefore equalLengths sizeFault contentRefusal listRefusal listsRefusal
+unfolding byX lex ascending all sites zipWith orElse within lawfulSite siteBefore equalLengths sizeFault contentRefusal listRefusal listsRefusal
 two-lists = refl
 
 -- Adding (6, 0) to three columns of which so many are in use: full before already there; the site's 2 before both.
 adding :
     map (λ n. addRefusal (byX (4 ∷ 6 ∷ 9 ∷ [])) n (site (pos 6) (pos 0) 6)) (0 ∷ 1 ∷ 2 ∷ 3 ∷ 4 ∷ []) ≡ 0 ∷ 0 ∷ 11 ∷ 6 ∷ 1 ∷ []
-unfolding byX lex ascending all keep sites zipSites inUse orElse within lawfulSite siteBefore equalLengths contentRefusal useFault placeOf present noRoom addRefusal
+unfolding byX lex ascending all keep sites zipWith inUse orElse within lawfulSite siteBefore equalLengths contentRefusal useFault placeOf present noRoom addRefusal
 adding = refl
 
 outside : addRefusal (byX (4 ∷ [])) 1 (site (pos 1_000_000_001) (pos 0) 6) ≡ 2
-unfolding byX lex ascending all keep sites zipSites inUse orElse within lawfulSite siteBefore equalLengths contentRefusal useFault placeOf present noRoom addRefusal
+unfolding byX lex ascending all keep sites zipWith inUse orElse within lawfulSite siteBefore equalLengths contentRefusal useFault placeOf present noRoom addRefusal
 outside = refl

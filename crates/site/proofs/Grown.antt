@@ -1,7 +1,7 @@
 -- After an addition: the sites in use are those there were with the new one at its place, and they are a lawful list.
 use mathlib.Core.Path.{_≡_, refl, sym, ap, ap₂, _∙_}
 use mathlib.Core.Bool.{Bool, true, false, _||_}
-use mathlib.Core.List.{List, [], _∷_, _++_, Permᴰ·symm}
+use mathlib.Core.List.{List, [], _∷_, _++_, zipWith, Permᴰ·symm}
 use Prim.Native.Nat.{ℕ, zero, suc, _+_, _-_, _≤_, _<_}
 use native.Mathlib.Nat.{le-of-suc-le-suc}
 use native.Mathlib.Omega.{arith}
@@ -21,7 +21,7 @@ use Rattle.order.proofs.Sorted.{insert-is-perm, sorted-insert, ascends-sorted, 
 use Rattle.site.specs.declared.Site.{Site}
 use Rattle.site.specs.Answer.{afterwards}
 use Rattle.site.specs.Site.{lawfulSite, siteBefore}
-use Rattle.site.specs.SiteList.{Columns, site, zipSites, sites, inUse}
+use Rattle.site.specs.SiteList.{Columns, columns, site, sites, inUse}
 use Rattle.site.specs.Terms.{Level}
 use Rattle.site.specs.Refusal.{listRefusal, LawfulList}
 use Rattle.site.specs.Addition.{placeOf, present, addRefusal, insertSite, addAnswer}
@@ -83,8 +83,8 @@ module _ {A : Type 0} (p n : ℕ) (v : A) (l : List A) (low : p ≤ n) (room : n
   inserted-in-use =
       take-at (take p l ++ (v ∷ take (n - p) (drop p l))) (drop (n + 1) l) (n + 1) (simp (length-append, length-take, length-drop) (omega arith)) ∙ sym part-put
 
-zip-put : (p : ℕ) (x y : ℤ) (m : ℕ) (xs ys : List ℤ) (ns : List ℕ) → length ys ≡ length xs → length ns ≡ length xs → p ≤ length xs → zipSites (put p x xs) (put p y ys) (put p m ns) ≡ put p (site x y m) (zipSites xs ys ns)
-unfolding zipSites
+zip-put : (p : ℕ) (x y : ℤ) (m : ℕ) (xs ys : List ℤ) (ns : List ℕ) → length ys ≡ length xs → length ns ≡ length xs → p ≤ length xs → sites (columns (put p x xs) (put p y ys) (put p m ns)) ≡ put p (site x y m) (sites (columns xs ys ns))
+unfolding sites zipWith
 zip-put zero x y m xs ys ns e f h = refl
 zip-put (suc p) x y m [] ys ns e f h = absurd (omega arith)
 zip-put (suc p) x y m (a ∷ xs) [] ns e f h = absurd (omega arith)
@@ -130,7 +130,7 @@ module _ (c : Columns) (n : ℕ) (s : Site) (ok : addRefusal c n s ≡ 0) where
   grown-put : sites (inUse (n + 1) grown) ≡ put spot s old
   unfolding sites inUse insertSite grown old
   grown-put =
-      (λ i. zipSites (inserted-in-use spot n (s .x) (c .x) spot-low (added-room c n s ok) i) (inserted-in-use spot n (s .y) (c .y) spot-low room-y i) (inserted-in-use spot n (s .number) (c .number) spot-low room-number i))
+      (λ i. sites (columns (inserted-in-use spot n (s .x) (c .x) spot-low (added-room c n s ok) i) (inserted-in-use spot n (s .y) (c .y) spot-low room-y i) (inserted-in-use spot n (s .number) (c .number) spot-low room-number i)))
       ∙ zip-put spot (s .x) (s .y) (s .number) (take n (c .x)) (take n (c .y)) (take n (c .number)) (level .y) (level .number) (simp length-take (omega (arith, spot-low, added-room c n s ok)))
 
   old-ascends : Ascends siteBefore old

@@ -1,7 +1,7 @@
 -- The refusal of a list, by the tests in their order.
 use mathlib.Core.Path.{_≡_, refl, sym, ap, ap₂, _∙_}
 use mathlib.Core.Bool.{Bool, true, false, _&&_, and-true, and-false}
-use mathlib.Core.List.{List, [], _∷_}
+use mathlib.Core.List.{List, [], _∷_, zipWith}
 use Prim.Native.Nat.{ℕ, _≤_, _<_}
 use native.Mathlib.Omega.{arith}
 use borrow.Author.Tests.{ne-eqb, eq-eqb, lt-leb, le-leb, eqb-true}
@@ -13,7 +13,7 @@ use Rattle.order.specs.Lists.{all}
 use Rattle.site.specs.declared.Site.{Site}
 use Rattle.site.specs.Answer.{orElse}
 use Rattle.site.specs.Site.{within, lawfulSite, siteBefore}
-use Rattle.site.specs.SiteList.{Columns, zipSites, sites}
+use Rattle.site.specs.SiteList.{Columns, columns, sites}
 use Rattle.site.specs.Terms.{Level}
 use Rattle.site.specs.Refusal.{equalLengths, sizeFault, contentRefusal, listRefusal}
 use Rattle.site.proofs.Cases.{and-first, and-second}
@@ -29,8 +29,8 @@ pair-up true true p q = refl
 pair-up true false p q = sym (and-false p)
 pair-up false b p q = refl
 
-zip-lawful : (xs ys : List ℤ) (ns : List ℕ) → length ys ≡ length xs → length ns ≡ length xs → all lawfulSite (zipSites xs ys ns) ≡ (all within xs && all within ys)
-unfolding zipSites all
+zip-lawful : (xs ys : List ℤ) (ns : List ℕ) → length ys ≡ length xs → length ns ≡ length xs → all lawfulSite (sites (columns xs ys ns)) ≡ (all within xs && all within ys)
+unfolding sites zipWith all
 zip-lawful [] [] ns p q = refl
 zip-lawful [] (y ∷ ys) ns p q = absurd (omega arith)
 zip-lawful (x ∷ xs) [] ns p q = absurd (omega arith)

@@ -28,13 +28,9 @@ gap a b = natAbs (a -ℤ b)
 unfoldable pub square : ℕ → ℕ
 square n = n * n
 
--- The sum of the squared differences over some coordinates.
-unfoldable pub squaredOver : List (Site → ℤ) → Site → Site → ℕ
-squaredOver coordinates s t = sum (map (λ c. square (gap (c s) (c t))) coordinates)
-
 -- "The squared distance is (difference of x)² + (difference of y)²."
 unfoldable pub squaredDistance : Site → Site → ℕ
-squaredDistance s t = squaredOver plane s t
+squaredDistance s t = sum (map (λ c. square (gap (c s) (c t))) plane)
 
 -- "strictly ascending by x, then y, then number": the order of a list's sites.
 unfoldable pub siteBefore : Site → Site → Bool

@@ -1,5 +1,5 @@
 -- A list of sites in three lent columns.
-use mathlib.Core.List.{List, [], _∷_, map}
+use mathlib.Core.List.{List, map, zipWith}
 use Prim.Native.Nat.{ℕ}
 use lib.IntN.{ℤ, pos}
 use lib.ListN.{take, getD}
@@ -22,15 +22,9 @@ lentList x y number = the columns of x of y of number
 abbrev pub site : ℤ → ℤ → ℕ → Site
 site x y number = record { x = x; y = y; number = number }
 
-unfoldable pub zipSites : List ℤ → List ℤ → List ℕ → List Site
-zipSites [] ys ns = []
-zipSites (x ∷ xs) [] ns = []
-zipSites (x ∷ xs) (y ∷ ys) [] = []
-zipSites (x ∷ xs) (y ∷ ys) (n ∷ ns) = site x y n ∷ zipSites xs ys ns
-
 -- The sites of three columns, by place.
 unfoldable pub sites : Columns → List Site
-sites c = zipSites (c .x) (c .y) (c .number)
+sites c = zipWith (λ make n. make n) (zipWith site (c .x) (c .y)) (c .number)
 
 -- The site at a place; at the origin, with number 0, where there is none. (01: place.)
 unfoldable pub siteAt : List Site → ℕ → Site
