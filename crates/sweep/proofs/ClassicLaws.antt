@@ -1,6 +1,6 @@
--- The classic sweep finds the best K of all pairs.
-use mathlib.Core.Path.{_≡_, sym, ap, _∙_}
-use mathlib.Core.Bool.{Bool}
+-- The classic sweep: its steps; it finds the best K of all pairs.
+use mathlib.Core.Path.{_≡_, refl, sym, ap, _∙_}
+use mathlib.Core.Bool.{Bool, true, false}
 use mathlib.Core.List.{List, [], _∷_, _++_, map, append-assoc, append-nil, Permᴰ·append-left}
 use Prim.Native.Nat.{ℕ}
 use Rattle.order.specs.Terms.{Sorted}
@@ -10,10 +10,35 @@ use Rattle.entry.specs.Entry.{bestK}
 use Rattle.sweep.specs.Strip.{product}
 use Rattle.sweep.specs.Scan.{Candidate, State, scan}
 use Rattle.sweep.specs.Sweep.{classicOver}
-use Rattle.sweep.proofs.StepLaws.{classic-nil, classic-nil-right, classic-first, classic-second}
 use Rattle.sweep.proofs.ScanLaws.{scan-best, bestK-perm}
 use Rattle.sweep.proofs.ProductLaws.{product-nil, product-cons, product-nil-right, product-cons-right}
 use Rattle.sweep.proofs.Geometry.{Geometry, leads-all, follows-all, row-widening, column-widening, row-bounding, column-bounding}
+
+-- ---- one step
+
+module _ {A B : Type 0} (leads : A → B → Bool) (look : A → B → Candidate) (k : ℕ) where
+  pub classic-nil : (q : List B) (s : State) → classicOver leads look k [] q s ≡ s
+  unfolding classicOver
+  classic-nil q s = refl
+
+  pub classic-nil-right : (p : List A) (s : State) → classicOver leads look k p [] s ≡ s
+  unfolding classicOver
+  classic-nil-right [] s = refl
+  classic-nil-right (a ∷ p) s = refl
+
+  -- The reference is the first list's.
+  pub classic-first : (a : A) (p : List A) (b : B) (q : List B) (s : State) → leads a b ≡ true
+      → classicOver leads look k (a ∷ p) (b ∷ q) s ≡ classicOver leads look k p (b ∷ q) (scan k (map (look a) (b ∷ q)) s .state)
+  unfolding classicOver
+  classic-first a p b q s h = rw h
+
+  -- The reference is the second list's.
+  pub classic-second : (a : A) (p : List A) (b : B) (q : List B) (s : State) → leads a b ≡ false
+      → classicOver leads look k (a ∷ p) (b ∷ q) s ≡ classicOver leads look k (a ∷ p) q (scan k (map (λ c. look c b) (a ∷ p)) s .state)
+  unfolding classicOver
+  classic-second a p b q s h = rw h
+
+-- ---- all of it
 
 module _ {A B : Type 0} {leftA : A → A → Bool} {leftB : B → B → Bool} {leads : A → B → Bool} {look : A → B → Candidate}
     (G : Geometry leftA leftB leads look) (k : ℕ) where

@@ -1,6 +1,5 @@
 -- The laws of strips and sweeps.
 pub mod Examples
-pub mod StepLaws
 pub mod ScanLaws
 pub mod ProductLaws
 pub mod Geometry
@@ -8,13 +7,16 @@ pub mod ClassicLaws
 pub mod ReverseLaws
 pub mod StripLaws
 pub mod SweepLaws
-pub mod CountLaws
+pub mod Counted
 pub mod PlaceLaws
 pub mod RunLaws
-pub mod HeldLaws
+pub mod Updated
+pub mod Reach
 pub mod LookLaws
-pub mod Scanning
+pub mod ScanInvariant
 pub mod NumberLaws
-pub mod References
-pub mod Fingers
-pub mod Taking
+pub mod FirstNext
+pub mod ReferenceLaws
+pub mod SweptStrips
+pub mod ClassicInvariant
+pub mod ReverseInvariant

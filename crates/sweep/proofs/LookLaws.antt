@@ -23,8 +23,9 @@ use Rattle.sweep.specs.Strip.{pair}
 use Rattle.sweep.specs.Scan.{Candidate, beyond}
 use Rattle.sweep.specs.Sweep.{look}
 use Rattle.sweep.specs.Terms.{spotOf, spot}
-use Rattle.sweep.specs.Internal.{lookFrom, stateOf, TallyReady, LookAsked, Held, LookDone}
-use Rattle.sweep.proofs.HeldLaws.{holds-entries, held-starts, offered-held, reach-is, beyond-reach, reach-past}
+use Rattle.sweep.specs.Internal.{lookFrom, stateOf, TallyReady, LookAsked, Updated, LookDone}
+use Rattle.sweep.proofs.Updated.{holds-entries, updated-none, updated-offer}
+use Rattle.sweep.proofs.Reach.{reach-is, beyond-reach, reach-past}
 
 -- ---- any candidate
 
@@ -41,20 +42,20 @@ module _ (k : ℕ) (c : Candidate) (old : Tally) (r : Results) (t : TallyReady k
       let stop : beyond k (entriesOf (old .count) r) (c .gap) ≡ true = stop-is ∙ lt-ltb (old .reach) (c .gap) h in
       record {
         stopped = sym stop;
-        tally = record { held = held-starts k (old .count) r (t .ready); reach = t .reach; state = rw (stop, add-one (old .looks)) };
+        tally = record { updated = updated-none k (old .count) r (t .ready); reach = t .reach; state = rw (stop, add-one (old .looks)) };
       }
 
   -- It goes on, with the columns as they are after the offer.
-  gone-on : (after : Results) (new reach : ℕ) → c .gap ≤ old .reach → Held k r (old .count) after new
+  gone-on : (after : Results) (new reach : ℕ) → c .gap ≤ old .reach → Updated k r (old .count) after new
       → entriesOf new after ≡ offer k (c .entry) (entriesOf (old .count) r) → reach ≡ reachOf k (entriesOf new after)
       → LookDone k c old r after
       (record { stopped = false; tally = record { at = old .at; count = new; looks = old .looks + 1; distances = old .distances + 1; reach = reach } })
   unfolding stateOf
-  gone-on after new reach h held is reaches =
+  gone-on after new reach h updated is reaches =
       let on : beyond k (entriesOf (old .count) r) (c .gap) ≡ false = stop-is ∙ le-ltb (old .reach) (c .gap) h in
       record {
         stopped = sym on;
-        tally = record { held = held; reach = reaches; state = rw (on, is, add-one (old .looks), add-one (old .distances)) };
+        tally = record { updated = updated; reach = reaches; state = rw (on, is, add-one (old .looks), add-one (old .distances)) };
       }
 
 -- ---- the candidate that a reference meets
@@ -114,7 +115,7 @@ module _ (o : Reference) (xs ys : List ℤ) (i k : ℕ) (old : Tally) (r : Resul
         let same = look-distance o xs ys i d is in
         let most = squared-distance-within (site (o .x) (o .y) 0) (site (getD xs i (pos 0)) (getD ys i (pos 0)) 0) (asked .across) (asked .up)
         (coordinate-x (asked .others) i (asked .inside)) (coordinate-y (asked .others) i (asked .inside)) in
-        gone-on k (lookFrom o (spot xs ys i)) old r t gap-fits r (old .count) (old .reach) (omega (arith, same-gap)) (held-starts k (old .count) r (t .ready))
+        gone-on k (lookFrom o (spot xs ys i)) old r t gap-fits r (old .count) (old .reach) (omega (arith, same-gap)) (updated-none k (old .count) r (t .ready))
         (sym (reach-past k (lookFrom o (spot xs ys i) .entry) (old .count) r (t .some) (t .ready) (omega arith) (omega (arith, t .reach)))) (t .reach)
 
     -- The pair takes its place.
@@ -126,7 +127,7 @@ module _ (o : Reference) (xs ys : List ℤ) (i k : ℕ) (old : Tally) (r : Resul
     look-offers e after new reach made holds reaches =
         let t = asked .tally in
         let same : e ≡ lookFrom o (spot xs ys i) .entry = made ∙ sym (look-entry o xs ys i d is) in
-        let held = offered-held k e (old .count) r after new (t .ready) holds in
-        gone-on k (lookFrom o (spot xs ys i)) old r t gap-fits after new reach (omega (arith, same-gap)) held
+        let updated = updated-offer k e (old .count) r after new (t .ready) holds in
+        gone-on k (lookFrom o (spot xs ys i)) old r t gap-fits after new reach (omega (arith, same-gap)) updated
         (holds-entries (offer k e (entriesOf (old .count) r)) r after new holds ∙ ap (λ (f : Entry). offer k f (entriesOf (old .count) r)) same)
-        (reach-is k new after reach (t .some) (held .ready) reaches)
+        (reach-is k new after reach (t .some) (updated .ready) reaches)

@@ -1,5 +1,5 @@
--- Reverse Run finds the best K of all pairs.
-use mathlib.Core.Path.{_≡_, sym, ap, _∙_}
+-- Reverse Run: its steps; it finds the best K of all pairs.
+use mathlib.Core.Path.{_≡_, refl, sym, ap, _∙_}
 use mathlib.Core.Bool.{Bool, true, false}
 use mathlib.Core.List.{List, [], _∷_, _++_, map, append-assoc, append-nil, List·Permᴰ, List·Permᴰ·trans, Permᴰ·symm, Permᴰ·append-left, Permᴰ·append-right}
 use Prim.Native.Nat.{ℕ}
@@ -17,6 +17,41 @@ use Rattle.sweep.specs.Sweep.{reverseOver}
 use Rattle.sweep.proofs.ScanLaws.{bestK-perm, bestK-left, beyond-more, beyond-drop, all-zip, scan-best, scan-rest}
 use Rattle.sweep.proofs.ProductLaws.{perm-append, perm-exchange, perm-past, product-nil, product-cons, product-nil-right, product-cons-right, product-append-left, product-append-right, all-product}
 use Rattle.sweep.proofs.Geometry.{Geometry, leads-all, follows-all, row-widening-back, column-widening-back, row-bounding, column-bounding}
+
+-- ---- one step
+
+module _ {A B : Type 0} (leads : A → B → Bool) (look : A → B → Candidate) (k : ℕ) where
+  pub reverse-nil : (u : List A) (v : List B) (s : State) → reverseOver leads look k [] [] u v s ≡ s
+  unfolding reverseOver
+  reverse-nil u v s = refl
+
+  -- The reference is the first list's: it leads the second list's next, or there is none.
+  pub reverse-first : (a : A) (p : List A) (b : B) (q : List B) (u : List A) (v : List B) (s : State) → leads a b ≡ true
+      → reverseOver leads look k (a ∷ p) (b ∷ q) u v s
+      ≡ reverseOver leads look k p (b ∷ q) (a ∷ u) (take (scan k (map (look a) v) s .passed) v) (scan k (map (look a) v) s .state)
+  unfolding reverseOver
+  reverse-first a p b q u v s h = rw h
+
+  pub reverse-first-last : (a : A) (p : List A) (u : List A) (v : List B) (s : State)
+      → reverseOver leads look k (a ∷ p) [] u v s
+      ≡ reverseOver leads look k p [] (a ∷ u) (take (scan k (map (look a) v) s .passed) v) (scan k (map (look a) v) s .state)
+  unfolding reverseOver
+  reverse-first-last a p u v s = refl
+
+  -- The reference is the second list's.
+  pub reverse-second : (a : A) (p : List A) (b : B) (q : List B) (u : List A) (v : List B) (s : State) → leads a b ≡ false
+      → reverseOver leads look k (a ∷ p) (b ∷ q) u v s
+      ≡ reverseOver leads look k (a ∷ p) q (take (scan k (map (λ c. look c b) u) s .passed) u) (b ∷ v) (scan k (map (λ c. look c b) u) s .state)
+  unfolding reverseOver
+  reverse-second a p b q u v s h = rw h
+
+  pub reverse-second-last : (b : B) (q : List B) (u : List A) (v : List B) (s : State)
+      → reverseOver leads look k [] (b ∷ q) u v s
+      ≡ reverseOver leads look k [] q (take (scan k (map (λ c. look c b) u) s .passed) u) (b ∷ v) (scan k (map (λ c. look c b) u) s .state)
+  unfolding reverseOver
+  reverse-second-last b q u v s = refl
+
+-- ---- all of it
 
 -- Pairs `x` offered and pairs `d` left out as beyond: with the rest `r` they are all the pairs `t`.
 step-best : (k : ℕ) (m x d r t : List Entry) → All (λ e. beyond k (bestK k (m ++ x)) (e .distance) ≡ true) d

@@ -2,7 +2,7 @@
 use mathlib.Core.Path.{_≡_, refl, sym, _∙_}
 use mathlib.Core.Bool.{true, false}
 use mathlib.Core.List.{List, [], _∷_, _++_, map, append-assoc, append-nil, List·Permᴰ}
-use Prim.Native.Nat.{ℕ, _≤_, _<_}
+use Prim.Native.Nat.{ℕ, suc, _≤_, _<_}
 use native.Mathlib.Omega.{arith}
 use lib.Dec.{eqb}
 use lib.ListN.{length, drop, getD}
@@ -16,8 +16,24 @@ use Rattle.order.proofs.Sorted.{sorted-best, best-drop, last-weak}
 use Rattle.entry.specs.declared.Entry.{Entry}
 use Rattle.entry.specs.Entry.{rankBefore, bestK, offer, lastDistance}
 use Rattle.entry.proofs.Rank.{rank-order, rank-farther, last-distance}
-use Rattle.sweep.proofs.StepLaws.{scan-nil, scan-stop, scan-on}
 use Rattle.sweep.specs.Scan.{Candidate, State, beyond, lookAt, scan}
+
+-- ---- one step
+
+module _ (k : ℕ) where
+  pub scan-nil : (s : State) → scan k [] s ≡ record { state = s; passed = 0 }
+  unfolding scan
+  scan-nil s = refl
+
+  pub scan-stop : (c : Candidate) (l : List Candidate) (s : State) → beyond k (s .entries) (c .gap) ≡ true
+      → scan k (c ∷ l) s ≡ record { state = lookAt k c s; passed = 0 }
+  unfolding scan
+  scan-stop c l s b = rw b
+
+  pub scan-on : (c : Candidate) (l : List Candidate) (s : State) → beyond k (s .entries) (c .gap) ≡ false
+      → scan k (c ∷ l) s ≡ record { state = scan k l (lookAt k c s) .state; passed = suc (scan k l (lookAt k c s) .passed) }
+  unfolding scan
+  scan-on c l s b = rw b
 
 -- ---- the best K of entries
 

@@ -72,7 +72,7 @@ pub record ScanAsked (o : Reference) (xs ys : List ℤ) (from to k : ℕ) (old :
   pub distances-fit : old .distances ≤ 2 ^ 62
 
 -- The columns went from `before` with `old` entries to `r` with `count`, and hold nothing else that is new.
-pub record Held (k : ℕ) (before : Results) (old : ℕ) (r : Results) (count : ℕ) : Type 0 where
+pub record Updated (k : ℕ) (before : Results) (old : ℕ) (r : Results) (count : ℕ) : Type 0 where
   pub room : roomFor k before ≡ true
   pub ready : Ready k count r
   pub least : old ≤ count
@@ -80,7 +80,7 @@ pub record Held (k : ℕ) (before : Results) (old : ℕ) (r : Results) (count : 
 
 -- The columns went from `before` with `old` entries to `r`, and with the tally they hold the state `s`.
 pub record Tallied (k : ℕ) (before : Results) (old : ℕ) (s : State) (r : Results) (t : Tally) : Type 0 where
-  pub held : Held k before old r (t .count)
+  pub updated : Updated k before old r (t .count)
   pub reach : t .reach ≡ reachOf k (entriesOf (t .count) r)
   pub state : stateOf t r ≡ s
 

@@ -1,7 +1,7 @@
 -- Each way by its own function, and the answer from what it leaves.
 use borrow.Author.Needs.{needs}
 use Rattle.sweep.specs.declared.Way.the-variants.{Classic, ReverseRun}
-use Rattle.sweep.proofs.References.{swept-strips}
+use Rattle.sweep.proofs.SweptStrips.{swept-strips}
 use Rattle.sweep.proofs.run.Statement.{statement}
 use Rattle.sweep.proofs.run.Tie as tie
 

@@ -5,8 +5,8 @@ use borrow.Author.Needs.{needs}
 use Rattle.entry.specs.Results.{results}
 use Rattle.sweep.specs.Terms.{rightward}
 use Rattle.sweep.proofs.RunLaws.{rightward-nil, rightward-cons, length-rightward}
-use Rattle.sweep.proofs.HeldLaws.{SameLengths, held-lengths}
-use Rattle.sweep.proofs.Scanning.{Scanning, scanning-starts, scanning-asks, scanning-ends, scanning-stops, scanning-goes}
+use Rattle.sweep.proofs.Updated.{SameLengths, updated-lengths}
+use Rattle.sweep.proofs.ScanInvariant.{ScanInvariant, invariant-starts, invariant-asks, invariant-ends, invariant-stops, invariant-goes}
 use Rattle.sweep.proofs.scan.scan_right.Statement.{statement}
 use Rattle.sweep.proofs.scan.scan_right.Tie as tie
 
@@ -14,7 +14,7 @@ abbrev Inv-loop : tie.InvT-loop
 Inv-loop reference xs ys from to k distance₀ first₀ second₀ at₀ tally₀ distance first second at tally =
     SameLengths (results distance₀ first₀ second₀) (results distance first second)
     × (at ≤ to)
-    × Scanning k (results distance₀ first₀ second₀) tally₀ reference (rightward xs ys from (to - from)) (rightward xs ys at (to - at)) (results distance first second) tally
+    × ScanInvariant k (results distance₀ first₀ second₀) tally₀ reference (rightward xs ys from (to - from)) (rightward xs ys at (to - at)) (results distance first second) tally
 
 abbrev μ-loop : tie.MeasureT-loop
 μ-loop reference xs ys from to k distance₀ first₀ second₀ at₀ tally₀ distance first second at tally =
@@ -24,33 +24,33 @@ loop-holds : tie.Need-loop-holds Inv-loop μ-loop
 loop-holds c =
     let s = c .before .before .before in
     let n = length-rightward (s .args .xs .now) (s .args .ys .now) (s .args .from) (s .args .to - s .args .from) in
-    (search needs, s .pre .range, scanning-starts (s .pre) _ (omega arith))
+    (search needs, s .pre .range, invariant-starts (s .pre) _ (omega arith))
 
 look-requires : tie.Need-look-requires Inv-loop μ-loop
 look-requires c κs =
     let t = c .before .before .before in
     let l = t .before in
-    scanning-asks (l .before .before .before .before .pre) (l .loop .inv .2) _ (rightward-cons _ _ _ _ (t .loop-test .taken)) (t .loop-test .taken)
+    invariant-asks (l .before .before .before .before .pre) (l .loop .inv .2) _ (rightward-cons _ _ _ _ (t .loop-test .taken)) (t .loop-test .taken)
 
 returns : tie.Need-returns Inv-loop μ-loop
 returns c =
     let l = c .before in
-    scanning-ends (l .before .before .before .before .pre) (l .loop .inv .2) (rightward-nil _ _ _ _ (c .loop-test .left)) .tallied
+    invariant-ends (l .before .before .before .before .pre) (l .loop .inv .2) (rightward-nil _ _ _ _ (c .loop-test .left)) .tallied
 
 loop-again : tie.Need-loop-again Inv-loop μ-loop
 loop-again c =
     let d = c .before .before .before .before .before .before .before .before in
     let t = d .before .before .before .before in
     let l = t .before in
-    let p = scanning-goes (l .before .before .before .before .pre) (l .loop .inv .2) (rightward-cons _ _ _ _ (t .loop-test .taken)) (d .look .ensures) (c .if1 .left) in
-    (held-lengths _ _ _ _ _ (p .held), search needs, p)
+    let p = invariant-goes (l .before .before .before .before .pre) (l .loop .inv .2) (rightward-cons _ _ _ _ (t .loop-test .taken)) (d .look .ensures) (c .if1 .left) in
+    (updated-lengths _ _ _ _ _ (p .updated), search needs, p)
 
 returns-2 : tie.Need-returns-2 Inv-loop μ-loop
 returns-2 c =
     let d = c .before .before .before .before .before .before .before .before in
     let t = d .before .before .before .before in
     let l = t .before in
-    scanning-stops (l .before .before .before .before .pre) (l .loop .inv .2) (rightward-cons _ _ _ _ (t .loop-test .taken)) (d .look .ensures) (c .if1 .taken) .tallied
+    invariant-stops (l .before .before .before .before .pre) (l .loop .inv .2) (rightward-cons _ _ _ _ (t .loop-test .taken)) (d .look .ensures) (c .if1 .taken) .tallied
 
 pub scan-right-spec : {M : Type 1} → statement M
 scan-right-spec =

@@ -5,15 +5,16 @@ use native.Mathlib.Omega.{arith}
 use borrow.Author.Needs.{needs}
 use borrow.Author.Tests.{ltb-true, ltb-false}
 use Rattle.entry.specs.Results.{results}
-use Rattle.sweep.proofs.HeldLaws.{SameLengths, held-lengths, reach-is}
-use Rattle.sweep.proofs.Fingers.{Fingers, fingers-start, fingers-ask-first, fingers-ask-second, fingers-first, fingers-second, fingers-end}
+use Rattle.sweep.proofs.Updated.{SameLengths, updated-lengths}
+use Rattle.sweep.proofs.Reach.{reach-is}
+use Rattle.sweep.proofs.ClassicInvariant.{ClassicInvariant, invariant-start, invariant-ask-first, invariant-ask-second, invariant-first, invariant-second, invariant-end}
 use Rattle.sweep.proofs.sweeps.classic.Statement.{statement}
 use Rattle.sweep.proofs.sweeps.classic.Tie as tie
 
 abbrev Inv-loop : tie.InvT-loop
 Inv-loop ax ay bx by a-from a-to b-from b-to k count distance₀ first₀ second₀ i₀ j₀ tally₀ distance first second i j tally =
     SameLengths (results distance₀ first₀ second₀) (results distance first second)
-    × Fingers ax ay bx by a-from a-to b-from b-to k count (results distance₀ first₀ second₀) (results distance first second) i j tally
+    × ClassicInvariant ax ay bx by a-from a-to b-from b-to k count (results distance₀ first₀ second₀) (results distance first second) i j tally
 
 abbrev μ-loop : tie.MeasureT-loop
 μ-loop ax ay bx by a-from a-to b-from b-to k count distance₀ first₀ second₀ i₀ j₀ tally₀ distance first second i j tally =
@@ -22,7 +23,7 @@ abbrev μ-loop : tie.MeasureT-loop
 loop-holds : tie.Need-loop-holds Inv-loop μ-loop
 loop-holds c =
     let s = c .before .before .before .before .before .pre in
-    (search needs, fingers-start s (reach-is _ _ _ _ (s .some) (s .ready) (c .reach .ensures)))
+    (search needs, invariant-start s (reach-is _ _ _ _ (s .some) (s .ready) (c .reach .ensures)))
 
 -- The second list's finger is inside.
 below : (u : tie.Then1 Inv-loop μ-loop) → u .before .before .loop .j < u .before .before .before .before .before .before .before .before .args .b-to
@@ -42,7 +43,7 @@ scan-right-requires c κs =
     let a = c .before .before .before in
     let u = a .before .before .before in
     let l = u .before .before in
-    fingers-ask-first (l .before .before .before .before .before .before .pre) (l .loop .inv .1) (u .before .loop-test .taken) (below u) (a .reference-at .ensures)
+    invariant-ask-first (l .before .before .before .before .before .before .pre) (l .loop .inv .1) (u .before .loop-test .taken) (below u) (a .reference-at .ensures)
 
 add-i : tie.Need-add-i Inv-loop μ-loop
 add-i c =
@@ -60,9 +61,9 @@ loop-again c =
     let u = w .before .before in
     let l = u .before .before in
     let p =
-    fingers-first (l .before .before .before .before .before .before .pre) (l .loop .inv .1) (u .before .loop-test .taken) (below u) (w .before .first-next .ensures)
+    invariant-first (l .before .before .before .before .before .before .pre) (l .loop .inv .1) (u .before .loop-test .taken) (below u) (w .before .first-next .ensures)
     (w .if2 .taken) (a .reference-at .ensures) (d .scan-right .ensures) in
-    (held-lengths _ _ _ _ _ (p .held), p)
+    (updated-lengths _ _ _ _ _ (p .updated), p)
 
 reference-at-requires-2 : tie.Need-reference-at-requires-2 Inv-loop μ-loop
 reference-at-requires-2 c κs =
@@ -75,7 +76,7 @@ scan-right-requires-2 c κs =
     let a = c .before .before .before in
     let u = a .before .before .before in
     let l = u .before .before in
-    fingers-ask-second (l .before .before .before .before .before .before .pre) (l .loop .inv .1) (u .before .loop-test .taken) (below u) (a .reference-at2 .ensures)
+    invariant-ask-second (l .before .before .before .before .before .before .pre) (l .loop .inv .1) (u .before .loop-test .taken) (below u) (a .reference-at2 .ensures)
 
 add-j : tie.Need-add-j Inv-loop μ-loop
 add-j c =
@@ -93,15 +94,15 @@ loop-again-2 c =
     let u = w .before .before in
     let l = u .before .before in
     let p =
-    fingers-second (l .before .before .before .before .before .before .pre) (l .loop .inv .1) (u .before .loop-test .taken) (below u) (w .before .first-next .ensures)
+    invariant-second (l .before .before .before .before .before .before .pre) (l .loop .inv .1) (u .before .loop-test .taken) (below u) (w .before .first-next .ensures)
     (w .if2 .left) (a .reference-at2 .ensures) (d .scan-right2 .ensures) in
-    (held-lengths _ _ _ _ _ (p .held), p)
+    (updated-lengths _ _ _ _ _ (p .updated), p)
 
 returns : tie.Need-returns Inv-loop μ-loop
-returns c = let l = c .before .before in fingers-end (l .before .before .before .before .before .before .pre) (l .loop .inv .1) (inr (ltb-false _ _ (c .if1 .left)))
+returns c = let l = c .before .before in invariant-end (l .before .before .before .before .before .before .pre) (l .loop .inv .1) (inr (ltb-false _ _ (c .if1 .left)))
 
 returns-2 : tie.Need-returns-2 Inv-loop μ-loop
-returns-2 c = let l = c .before in fingers-end (l .before .before .before .before .before .before .pre) (l .loop .inv .1) (inl (c .loop-test .left))
+returns-2 c = let l = c .before in invariant-end (l .before .before .before .before .before .before .pre) (l .loop .inv .1) (inl (c .loop-test .left))
 
 pub classic-spec : {M : Type 1} → statement M
 classic-spec =

@@ -1,6 +1,6 @@
 -- The next of the first list, where it leads or stands alone.
 use mir.Facts.{toZ-ofZ}
-use Rattle.sweep.proofs.References.{next-none, next-alone, next-read}
+use Rattle.sweep.proofs.FirstNext.{next-none, next-alone, next-read}
 use borrow.Author.Needs.{needs, sfits-of}
 use Rattle.sweep.proofs.sweeps.first_next.Statement.{statement}
 use Rattle.sweep.proofs.sweeps.first_next.Tie as tie

@@ -3,15 +3,16 @@ use Prim.Native.Nat.{_+_, _-_, _<_}
 use native.Mathlib.Omega.{arith}
 use borrow.Author.Needs.{needs}
 use Rattle.entry.specs.Results.{results}
-use Rattle.sweep.proofs.HeldLaws.{SameLengths, held-lengths, reach-is}
-use Rattle.sweep.proofs.Taking.{Taking, taking-start, taking-in, taking-ask-first, taking-ask-second, taking-first, taking-second, taking-end}
+use Rattle.sweep.proofs.Updated.{SameLengths, updated-lengths}
+use Rattle.sweep.proofs.Reach.{reach-is}
+use Rattle.sweep.proofs.ReverseInvariant.{ReverseInvariant, invariant-start, invariant-in, invariant-ask-first, invariant-ask-second, invariant-first, invariant-second, invariant-end}
 use Rattle.sweep.proofs.sweeps.reverse_run.Statement.{statement}
 use Rattle.sweep.proofs.sweeps.reverse_run.Tie as tie
 
 abbrev Inv-references : tie.InvT-references
 Inv-references ax ay bx by a-from a-to b-from b-to k count distance₀ first₀ second₀ i₀ j₀ a-limit₀ b-limit₀ tally₀ distance first second i j a-limit b-limit tally =
     SameLengths (results distance₀ first₀ second₀) (results distance first second)
-    × Taking ax ay bx by a-from a-to b-from b-to k count (results distance₀ first₀ second₀) (results distance first second) i j a-limit b-limit tally
+    × ReverseInvariant ax ay bx by a-from a-to b-from b-to k count (results distance₀ first₀ second₀) (results distance first second) i j a-limit b-limit tally
 
 abbrev μ-references : tie.MeasureT-references
 μ-references ax ay bx by a-from a-to b-from b-to k count distance₀ first₀ second₀ i₀ j₀ a-limit₀ b-limit₀ tally₀ distance first second i j a-limit b-limit tally =
@@ -20,13 +21,13 @@ abbrev μ-references : tie.MeasureT-references
 references-holds : tie.Need-references-holds Inv-references μ-references
 references-holds c =
     let s = c .before .before .before .before .before .pre in
-    (search needs, taking-start s (reach-is _ _ _ _ (s .some) (s .ready) (c .reach .ensures)))
+    (search needs, invariant-start s (reach-is _ _ _ _ (s .some) (s .ready) (c .reach .ensures)))
 
 first-next-requires : tie.Need-first-next-requires Inv-references μ-references
 first-next-requires c κs = let s = c .before .before .before .before .before .before .pre in (s .a-inside, s .b-inside)
 
 in-first : (w : tie.Then1 Inv-references μ-references) → w .before .before .references .i < w .before .before .before .before .before .before .before .before .args .a-to
-in-first w = let l = w .before .before in taking-in (l .before .before .before .before .before .before .pre) (l .references .inv .1) (w .before .first-next .ensures) (w .if1 .taken)
+in-first w = let l = w .before .before in invariant-in (l .before .before .before .before .before .before .pre) (l .references .inv .1) (w .before .first-next .ensures) (w .if1 .taken)
 
 reference-at-requires : tie.Need-reference-at-requires Inv-references μ-references
 reference-at-requires c κs =
@@ -38,7 +39,7 @@ scan-left-requires c κs =
     let a = c .before .before .before in
     let w = a .before in
     let l = w .before .before in
-    taking-ask-first (l .before .before .before .before .before .before .pre) (l .references .inv .1) (w .before .first-next .ensures) (w .if1 .taken) (a .reference-at .ensures)
+    invariant-ask-first (l .before .before .before .before .before .before .pre) (l .references .inv .1) (w .before .first-next .ensures) (w .if1 .taken) (a .reference-at .ensures)
 
 add-i : tie.Need-add-i Inv-references μ-references
 add-i c = let w = c .before .before .before .before .before .before .before .before .before .before .before in omega (arith, in-first w, w .before .before .before .before .before .before .before .before .fits .a-to)
@@ -53,8 +54,8 @@ references-again c =
     let w = a .before in
     let l = w .before .before in
     let p =
-    taking-first (l .before .before .before .before .before .before .pre) (l .references .inv .1) (w .before .first-next .ensures) (w .if1 .taken) (a .reference-at .ensures) (d .scan-left .ensures) in
-    (held-lengths _ _ _ _ _ (p .held), p)
+    invariant-first (l .before .before .before .before .before .before .pre) (l .references .inv .1) (w .before .first-next .ensures) (w .if1 .taken) (a .reference-at .ensures) (d .scan-left .ensures) in
+    (updated-lengths _ _ _ _ _ (p .updated), p)
 
 reference-at-requires-2 : tie.Need-reference-at-requires-2 Inv-references μ-references
 reference-at-requires-2 c κs =
@@ -66,7 +67,7 @@ scan-left-requires-2 c κs =
     let a = c .before .before .before in
     let e = a .before in
     let l = e .before .before .before in
-    taking-ask-second (l .before .before .before .before .before .before .pre) (l .references .inv .1) (e .before .before .first-next .ensures) (e .if2 .left) (a .reference-at2 .ensures)
+    invariant-ask-second (l .before .before .before .before .before .before .pre) (l .references .inv .1) (e .before .before .first-next .ensures) (e .if2 .left) (a .reference-at2 .ensures)
 
 add-j : tie.Need-add-j Inv-references μ-references
 add-j c =
@@ -83,14 +84,14 @@ references-again-2 c =
     let e = a .before in
     let l = e .before .before .before in
     let p =
-    taking-second (l .before .before .before .before .before .before .pre) (l .references .inv .1) (e .before .before .first-next .ensures) (e .before .if1 .left) (e .if2 .left)
+    invariant-second (l .before .before .before .before .before .before .pre) (l .references .inv .1) (e .before .before .first-next .ensures) (e .before .if1 .left) (e .if2 .left)
     (a .reference-at2 .ensures) (d .scan-left2 .ensures) in
-    (held-lengths _ _ _ _ _ (p .held), p)
+    (updated-lengths _ _ _ _ _ (p .updated), p)
 
 returns : tie.Need-returns Inv-references μ-references
 returns c =
     let l = c .before .before .before in
-    taking-end (l .before .before .before .before .before .before .pre) (l .references .inv .1) (c .before .before .first-next .ensures) (c .before .if1 .left) (c .if2 .taken)
+    invariant-end (l .before .before .before .before .before .before .pre) (l .references .inv .1) (c .before .before .first-next .ensures) (c .before .if1 .left) (c .if2 .taken)
 
 pub reverse-run-spec : {M : Type 1} → statement M
 reverse-run-spec =

@@ -14,39 +14,41 @@ use Rattle.sweep.specs.declared.Way.the-variants.{Classic}
 use Rattle.sweep.specs.Scan.{scan}
 use Rattle.sweep.specs.Sweep.{classicOver, leads, look, sweep}
 use Rattle.sweep.specs.Terms.{spot, rightward, SweepAsked}
-use Rattle.sweep.specs.Internal.{referenceAt, lookFrom, firstNext, stateOf, TallyReady, ScanAsked, Held, Tallied}
-use Rattle.sweep.proofs.StepLaws.{classic-nil, classic-nil-right, classic-first, classic-second}
-use Rattle.sweep.proofs.CountLaws.{classic-counted}
+use Rattle.sweep.specs.Internal.{referenceAt, lookFrom, firstNext, stateOf, TallyReady, ScanAsked, Updated, Tallied}
+use Rattle.sweep.proofs.ClassicLaws.{classic-nil, classic-nil-right, classic-first, classic-second}
+use Rattle.sweep.proofs.Counted.{classic-counted}
 use Rattle.sweep.proofs.RunLaws.{rightward-nil, rightward-cons}
-use Rattle.sweep.proofs.HeldLaws.{held-starts, held-joins}
-use Rattle.sweep.proofs.References.{next-leads, looks-first, looks-second, reference-asks, swept-fits}
+use Rattle.sweep.proofs.Updated.{updated-none, updated-twice}
+use Rattle.sweep.proofs.FirstNext.{next-leads}
+use Rattle.sweep.proofs.ReferenceLaws.{looks-first, looks-second, reference-asks}
+use Rattle.sweep.proofs.SweptStrips.{swept-fits}
 
 -- Two fingers: the sites from them on, from the state held now, lead where the whole sweep leads.
-pub record Fingers (ax ay bx by : List ℤ) (aFrom aTo bFrom bTo k old : ℕ) (before r : Results) (i j : ℕ) (t : Tally) : Type 0 where
-  pub held : Held k before old r (t .count)
+pub record ClassicInvariant (ax ay bx by : List ℤ) (aFrom aTo bFrom bTo k old : ℕ) (before r : Results) (i j : ℕ) (t : Tally) : Type 0 where
+  pub updated : Updated k before old r (t .count)
   pub reach : t .reach ≡ reachOf k (entriesOf (t .count) r)
   pub whole : classicOver leads look k (rightward ax ay i (aTo - i)) (rightward bx by j (bTo - j)) (stateOf t r)
       ≡ sweep Classic k (rightward ax ay aFrom (aTo - aFrom)) (rightward bx by bFrom (bTo - bFrom)) (entriesOf old before)
 
 module _ {ax ay bx by : List ℤ} {aFrom aTo bFrom bTo k old : ℕ} {before : Results} (asked : SweepAsked ax ay bx by aFrom aTo bFrom bTo k old before) where
-  pub fingers-start : {reach : ℕ} → reach ≡ reachOf k (entriesOf old before)
-      → Fingers ax ay bx by aFrom aTo bFrom bTo k old before before aFrom bFrom (record { at = 0; count = old; looks = 0; distances = 0; reach = reach })
+  pub invariant-start : {reach : ℕ} → reach ≡ reachOf k (entriesOf old before)
+      → ClassicInvariant ax ay bx by aFrom aTo bFrom bTo k old before before aFrom bFrom (record { at = 0; count = old; looks = 0; distances = 0; reach = reach })
   unfolding sweep stateOf
-  fingers-start is = record { held = held-starts k old before (asked .ready); reach = is; whole = refl }
+  invariant-start is = record { updated = updated-none k old before (asked .ready); reach = is; whole = refl }
 
-  module _ {r : Results} {i j : ℕ} {t : Tally} (f : Fingers ax ay bx by aFrom aTo bFrom bTo k old before r i j t) where
+  module _ {r : Results} {i j : ℕ} {t : Tally} (f : ClassicInvariant ax ay bx by aFrom aTo bFrom bTo k old before r i j t) where
     fits : (t .looks ≤ 2 ^ 62) × (t .distances ≤ 2 ^ 62)
     fits =
         swept-fits Classic ax ay bx by aFrom aTo bFrom bTo k old before asked t r
         (rw (f .whole) at (classic-counted leads look k (rightward ax ay i (aTo - i)) (rightward bx by j (bTo - j)) (stateOf t r)))
 
     ready : TallyReady k t r
-    ready = record { some = asked .some; ready = f .held .ready; reach = f .reach }
+    ready = record { some = asked .some; ready = f .updated .ready; reach = f .reach }
 
     -- One strip has run out.
-    pub fingers-end : (aTo ≤ i) ⊎ (bTo ≤ j)
+    pub invariant-end : (aTo ≤ i) ⊎ (bTo ≤ j)
         → Tallied k before old (sweep Classic k (rightward ax ay aFrom (aTo - aFrom)) (rightward bx by bFrom (bTo - bFrom)) (entriesOf old before)) r t
-    fingers-end out = record { held = f .held; reach = f .reach; state = sym ended ∙ f .whole }
+    invariant-end out = record { updated = f .updated; reach = f .reach; state = sym ended ∙ f .whole }
       where
         ended : classicOver leads look k (rightward ax ay i (aTo - i)) (rightward bx by j (bTo - j)) (stateOf t r) ≡ stateOf t r
         ended =
@@ -59,37 +61,37 @@ module _ {ax ay bx by : List ℤ} {aFrom aTo bFrom bTo k old : ℕ} {before : Re
       leading : {b v : Bool} → b ≡ firstNext ax i aTo bx j bTo → b ≡ v → leads (spot ax ay i) (spot bx by j) ≡ v
       leading test h = next-leads ax i aTo bx j bTo ay by inA inB ∙ sym test ∙ h
 
-      pub fingers-ask-first : {o : Reference} → o ≡ referenceAt ax ay i false → ScanAsked o bx by j bTo k t r
-      fingers-ask-first is =
+      pub invariant-ask-first : {o : Reference} → o ≡ referenceAt ax ay i false → ScanAsked o bx by j bTo k t r
+      invariant-ask-first is =
           reference-asks false (asked .a) (omega (arith, asked .a-inside)) is (asked .b) (omega arith) (asked .b-inside) ready fits
 
-      pub fingers-ask-second : {o : Reference} → o ≡ referenceAt bx by j true → ScanAsked o ax ay i aTo k t r
-      fingers-ask-second is =
+      pub invariant-ask-second : {o : Reference} → o ≡ referenceAt bx by j true → ScanAsked o ax ay i aTo k t r
+      invariant-ask-second is =
           reference-asks true (asked .b) (omega (arith, asked .b-inside)) is (asked .a) (omega arith) (asked .a-inside) ready fits
 
       module _ {b : Bool} (test : b ≡ firstNext ax i aTo bx j bTo) {o : Reference} {after : Results} {u : Tally} where
         -- The first list's finger moves on.
-        pub fingers-first : b ≡ true → o ≡ referenceAt ax ay i false
+        pub invariant-first : b ≡ true → o ≡ referenceAt ax ay i false
             → Tallied k r (t .count) (scan k (map (lookFrom o) (rightward bx by j (bTo - j))) (stateOf t r) .state) after u
-            → Fingers ax ay bx by aFrom aTo bFrom bTo k old before after (i + 1) j u
-        fingers-first h is s =
+            → ClassicInvariant ax ay bx by aFrom aTo bFrom bTo k old before after (i + 1) j u
+        invariant-first h is s =
             let p = rightward ax ay (i + 1) (aTo - (i + 1)) in
             let q = rightward bx by j (bTo - j) in
             let seen : stateOf u after ≡ scan k (map (look (spot ax ay i)) q) (stateOf t r) .state = rw (looks-first ax ay i is) at (s .state) in
             let step : classicOver leads look k (rightward ax ay i (aTo - i)) q (stateOf t r) ≡ classicOver leads look k p q (stateOf u after)
             = rw (seen, rightward-cons ax ay i aTo inA, rightward-cons bx by j bTo inB)
             (classic-first leads look k (spot ax ay i) p (spot bx by j) (rightward bx by (j + 1) (bTo - (j + 1))) (stateOf t r) (leading test h)) in
-            record { held = held-joins k before old r (t .count) (f .held) after (u .count) (s .held); reach = s .reach; whole = sym step ∙ f .whole }
+            record { updated = updated-twice k before old r (t .count) (f .updated) after (u .count) (s .updated); reach = s .reach; whole = sym step ∙ f .whole }
 
         -- The second list's finger moves on.
-        pub fingers-second : b ≡ false → o ≡ referenceAt bx by j true
+        pub invariant-second : b ≡ false → o ≡ referenceAt bx by j true
             → Tallied k r (t .count) (scan k (map (lookFrom o) (rightward ax ay i (aTo - i))) (stateOf t r) .state) after u
-            → Fingers ax ay bx by aFrom aTo bFrom bTo k old before after i (j + 1) u
-        fingers-second h is s =
+            → ClassicInvariant ax ay bx by aFrom aTo bFrom bTo k old before after i (j + 1) u
+        invariant-second h is s =
             let p = rightward ax ay i (aTo - i) in
             let q = rightward bx by (j + 1) (bTo - (j + 1)) in
             let seen : stateOf u after ≡ scan k (map (λ c. look c (spot bx by j)) p) (stateOf t r) .state = rw (looks-second bx by j is) at (s .state) in
             let step : classicOver leads look k p (rightward bx by j (bTo - j)) (stateOf t r) ≡ classicOver leads look k p q (stateOf u after)
             = rw (seen, rightward-cons ax ay i aTo inA, rightward-cons bx by j bTo inB)
             (classic-second leads look k (spot ax ay i) (rightward ax ay (i + 1) (aTo - (i + 1))) (spot bx by j) q (stateOf t r) (leading test h)) in
-            record { held = held-joins k before old r (t .count) (f .held) after (u .count) (s .held); reach = s .reach; whole = sym step ∙ f .whole }
+            record { updated = updated-twice k before old r (t .count) (f .updated) after (u .count) (s .updated); reach = s .reach; whole = sym step ∙ f .whole }

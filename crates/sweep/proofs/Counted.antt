@@ -12,7 +12,7 @@ use Rattle.sweep.specs.declared.Way.the-variants.{Classic, ReverseRun}
 use Rattle.sweep.specs.Strip.{Placed}
 use Rattle.sweep.specs.Scan.{Candidate, State, state, beyond, lookAt, scan}
 use Rattle.sweep.specs.Sweep.{classicOver, reverseOver, leads, look, sweep}
-use Rattle.sweep.proofs.StepLaws.{scan-nil, scan-stop, scan-on}
+use Rattle.sweep.proofs.ScanLaws.{scan-nil, scan-stop, scan-on}
 
 -- From state `s` to state `t` with at most `n` looks.
 pub record Counted (n : ℕ) (s t : State) : Type 0 where

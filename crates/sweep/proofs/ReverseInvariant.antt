@@ -18,20 +18,22 @@ use Rattle.sweep.specs.Strip.{Placed}
 use Rattle.sweep.specs.Scan.{Candidate, State, scan}
 use Rattle.sweep.specs.Sweep.{reverseOver, leads, look, sweep}
 use Rattle.sweep.specs.Terms.{spot, rightward, SweepAsked}
-use Rattle.sweep.specs.Internal.{leftward, referenceAt, lookFrom, firstNext, stateOf, TallyReady, ScanAsked, Held, Tallied}
-use Rattle.sweep.proofs.StepLaws.{reverse-nil, reverse-first, reverse-first-last, reverse-second, reverse-second-last}
-use Rattle.sweep.proofs.CountLaws.{scan-passed, reverse-counted}
+use Rattle.sweep.specs.Internal.{leftward, referenceAt, lookFrom, firstNext, stateOf, TallyReady, ScanAsked, Updated, Tallied}
+use Rattle.sweep.proofs.ReverseLaws.{reverse-nil, reverse-first, reverse-first-last, reverse-second, reverse-second-last}
+use Rattle.sweep.proofs.Counted.{scan-passed, reverse-counted}
 use Rattle.sweep.proofs.RunLaws.{rightward-nil, rightward-cons, leftward-nil, leftward-more, take-leftward, length-leftward}
-use Rattle.sweep.proofs.HeldLaws.{held-starts, held-joins}
-use Rattle.sweep.proofs.References.{next-none, next-alone, next-leads, looks-first, looks-second, reference-asks, swept-fits}
+use Rattle.sweep.proofs.Updated.{updated-none, updated-twice}
+use Rattle.sweep.proofs.FirstNext.{next-none, next-alone, next-leads}
+use Rattle.sweep.proofs.ReferenceLaws.{looks-first, looks-second, reference-asks}
+use Rattle.sweep.proofs.SweptStrips.{swept-fits}
 
 -- References up to `i` and `j` are taken, down to each list's left limit: the rest leads where the whole sweep leads.
-pub record Taking (ax ay bx by : List ℤ) (aFrom aTo bFrom bTo k old : ℕ) (before r : Results) (i j aLimit bLimit : ℕ) (t : Tally) : Type 0 where
+pub record ReverseInvariant (ax ay bx by : List ℤ) (aFrom aTo bFrom bTo k old : ℕ) (before r : Results) (i j aLimit bLimit : ℕ) (t : Tally) : Type 0 where
   pub a-limit : aLimit ≤ i
   pub a-most : i ≤ aTo
   pub b-limit : bLimit ≤ j
   pub b-most : j ≤ bTo
-  pub held : Held k before old r (t .count)
+  pub updated : Updated k before old r (t .count)
   pub reach : t .reach ≡ reachOf k (entriesOf (t .count) r)
   pub whole : reverseOver leads look k (rightward ax ay i (aTo - i)) (rightward bx by j (bTo - j)) (leftward ax ay aLimit (i - aLimit))
       (leftward bx by bLimit (j - bLimit)) (stateOf t r)
@@ -102,20 +104,20 @@ passed-run xs ys {limit} {stop} {at} k f s h is =
     (omega arith, take-leftward xs ys limit stop at (scan k (map f v) s .passed) (omega arith) is)
 
 module _ {ax ay bx by : List ℤ} {aFrom aTo bFrom bTo k old : ℕ} {before : Results} (asked : SweepAsked ax ay bx by aFrom aTo bFrom bTo k old before) where
-  pub taking-start : {reach : ℕ} → reach ≡ reachOf k (entriesOf old before)
-      → Taking ax ay bx by aFrom aTo bFrom bTo k old before before aFrom bFrom aFrom bFrom (record { at = 0; count = old; looks = 0; distances = 0; reach = reach })
+  pub invariant-start : {reach : ℕ} → reach ≡ reachOf k (entriesOf old before)
+      → ReverseInvariant ax ay bx by aFrom aTo bFrom bTo k old before before aFrom bFrom aFrom bFrom (record { at = 0; count = old; looks = 0; distances = 0; reach = reach })
   unfolding sweep stateOf
-  taking-start is = record {
+  invariant-start is = record {
     a-limit = omega arith;
     a-most = asked .a-range;
     b-limit = omega arith;
     b-most = asked .b-range;
-    held = held-starts k old before (asked .ready);
+    updated = updated-none k old before (asked .ready);
     reach = is;
     whole = rw (leftward-nil ax ay aFrom aFrom (omega arith), leftward-nil bx by bFrom bFrom (omega arith));
   }
 
-  module _ {r : Results} {i j aLimit bLimit : ℕ} {t : Tally} (f : Taking ax ay bx by aFrom aTo bFrom bTo k old before r i j aLimit bLimit t)
+  module _ {r : Results} {i j aLimit bLimit : ℕ} {t : Tally} (f : ReverseInvariant ax ay bx by aFrom aTo bFrom bTo k old before r i j aLimit bLimit t)
       {b : Bool} (test : b ≡ firstNext ax i aTo bx j bTo) where
     abbrev u : List Placed
     u = leftward ax ay aLimit (i - aLimit)
@@ -129,61 +131,61 @@ module _ {ax ay bx by : List ℤ} {aFrom aTo bFrom bTo k old : ℕ} {before : Re
         (rw (f .whole) at (reverse-counted leads look k (rightward ax ay i (aTo - i)) (rightward bx by j (bTo - j)) u v (stateOf t r)))
 
     ready : TallyReady k t r
-    ready = record { some = asked .some; ready = f .held .ready; reach = f .reach }
+    ready = record { some = asked .some; ready = f .updated .ready; reach = f .reach }
 
     -- Every site has been taken.
-    pub taking-end : b ≡ false → bTo ≤ j
+    pub invariant-end : b ≡ false → bTo ≤ j
         → Tallied k before old (sweep ReverseRun k (rightward ax ay aFrom (aTo - aFrom)) (rightward bx by bFrom (bTo - bFrom)) (entriesOf old before)) r t
-    taking-end h out =
-        record { held = f .held; reach = f .reach; state = sym (step-none ax ay bx by aTo bTo k i j u v (stateOf t r) (sym test ∙ h) out) ∙ f .whole }
+    invariant-end h out =
+        record { updated = f .updated; reach = f .reach; state = sym (step-none ax ay bx by aTo bTo k i j u v (stateOf t r) (sym test ∙ h) out) ∙ f .whole }
 
-    pub taking-in : b ≡ true → i < aTo
-    taking-in h = step-first ax ay bx by aTo bTo k i j [] [] (stateOf t r) (sym test ∙ h) .0
+    pub invariant-in : b ≡ true → i < aTo
+    invariant-in h = step-first ax ay bx by aTo bTo k i j [] [] (stateOf t r) (sym test ∙ h) .0
 
     module _ {o : Reference} where
-      pub taking-ask-first : b ≡ true → o ≡ referenceAt ax ay i false → ScanAsked o bx by bLimit j k t r
-      taking-ask-first h is =
-          reference-asks false (asked .a) (omega (arith, taking-in h, asked .a-inside)) is (asked .b) (f .b-limit) (omega (arith, f .b-most, asked .b-inside)) ready fits
+      pub invariant-ask-first : b ≡ true → o ≡ referenceAt ax ay i false → ScanAsked o bx by bLimit j k t r
+      invariant-ask-first h is =
+          reference-asks false (asked .a) (omega (arith, invariant-in h, asked .a-inside)) is (asked .b) (f .b-limit) (omega (arith, f .b-most, asked .b-inside)) ready fits
 
-      pub taking-ask-second : j < bTo → o ≡ referenceAt bx by j true → ScanAsked o ax ay aLimit i k t r
-      taking-ask-second inB is =
+      pub invariant-ask-second : j < bTo → o ≡ referenceAt bx by j true → ScanAsked o ax ay aLimit i k t r
+      invariant-ask-second inB is =
           reference-asks true (asked .b) (omega (arith, asked .b-inside)) is (asked .a) (f .a-limit) (omega (arith, f .a-most, asked .a-inside)) ready fits
 
       module _ {after : Results} {n : Tally} where
         -- The first list's site is taken; the second list's limit is where the scan ended.
-        pub taking-first : b ≡ true → o ≡ referenceAt ax ay i false
+        pub invariant-first : b ≡ true → o ≡ referenceAt ax ay i false
             → Tallied k r (t .count) (scan k (map (lookFrom o) v) (stateOf t r) .state) after n
             × (n .at + scan k (map (lookFrom o) v) (stateOf t r) .passed ≡ j)
-            → Taking ax ay bx by aFrom aTo bFrom bTo k old before after (i + 1) j aLimit (n .at) n
-        taking-first h is told =
+            → ReverseInvariant ax ay bx by aFrom aTo bFrom bTo k old before after (i + 1) j aLimit (n .at) n
+        invariant-first h is done =
             let seen = looks-first ax ay i is in
             let step = step-first ax ay bx by aTo bTo k i j u v (stateOf t r) (sym test ∙ h) in
-            let kept = passed-run bx by k (look (spot ax ay i)) (stateOf t r) (f .b-limit) (rw seen at (told .1)) in
+            let passed = passed-run bx by k (look (spot ax ay i)) (stateOf t r) (f .b-limit) (rw seen at (done .1)) in
             record {
               a-limit = omega (arith, f .a-limit);
               a-most = omega (arith, step .0);
-              b-limit = kept .0;
+              b-limit = passed .0;
               b-most = f .b-most;
-              held = held-joins k before old r (t .count) (f .held) after (n .count) (told .0 .held);
-              reach = told .0 .reach;
-              whole = rw (← leftward-more ax ay aLimit i (f .a-limit), ← kept .1, rw seen at (told .0 .state)) (sym (step .1) ∙ f .whole);
+              updated = updated-twice k before old r (t .count) (f .updated) after (n .count) (done .0 .updated);
+              reach = done .0 .reach;
+              whole = rw (← leftward-more ax ay aLimit i (f .a-limit), ← passed .1, rw seen at (done .0 .state)) (sym (step .1) ∙ f .whole);
             }
 
         -- The second list's site is taken; the first list's limit is where the scan ended.
-        pub taking-second : b ≡ false → j < bTo → o ≡ referenceAt bx by j true
+        pub invariant-second : b ≡ false → j < bTo → o ≡ referenceAt bx by j true
             → Tallied k r (t .count) (scan k (map (lookFrom o) u) (stateOf t r) .state) after n
             × (n .at + scan k (map (lookFrom o) u) (stateOf t r) .passed ≡ i)
-            → Taking ax ay bx by aFrom aTo bFrom bTo k old before after i (j + 1) (n .at) bLimit n
-        taking-second h inB is told =
+            → ReverseInvariant ax ay bx by aFrom aTo bFrom bTo k old before after i (j + 1) (n .at) bLimit n
+        invariant-second h inB is done =
             let seen = looks-second bx by j is in
             let step = step-second ax ay bx by aTo bTo k i j u v (stateOf t r) (sym test ∙ h) inB in
-            let kept = passed-run ax ay k (λ c. look c (spot bx by j)) (stateOf t r) (f .a-limit) (rw seen at (told .1)) in
+            let passed = passed-run ax ay k (λ c. look c (spot bx by j)) (stateOf t r) (f .a-limit) (rw seen at (done .1)) in
             record {
-              a-limit = kept .0;
+              a-limit = passed .0;
               a-most = f .a-most;
               b-limit = omega (arith, f .b-limit);
               b-most = omega arith;
-              held = held-joins k before old r (t .count) (f .held) after (n .count) (told .0 .held);
-              reach = told .0 .reach;
-              whole = rw (← leftward-more bx by bLimit j (f .b-limit), ← kept .1, rw seen at (told .0 .state)) (sym step ∙ f .whole);
+              updated = updated-twice k before old r (t .count) (f .updated) after (n .count) (done .0 .updated);
+              reach = done .0 .reach;
+              whole = rw (← leftward-more bx by bLimit j (f .b-limit), ← passed .1, rw seen at (done .0 .state)) (sym step ∙ f .whole);
             }

@@ -1,0 +1,54 @@
+-- What a sweep leaves, from its tally and the result columns.
+use mathlib.Core.Path.{_≡_, sym, ap, _∙_}
+use mathlib.Core.List.{List}
+use Prim.Native.Nat.{ℕ, _-_, _≤_, _^_}
+use native.Mathlib.Omega.{arith}
+use lib.IntN.{ℤ}
+use lib.ListN.{length}
+use Rattle.site.specs.SiteList.{columns}
+use Rattle.entry.specs.Results.{Results, entriesOf, holding}
+use Rattle.entry.proofs.Columns.{length-entries}
+use Rattle.sweep.specs.declared.Swept.{Swept}
+use Rattle.sweep.specs.declared.Tally.{Tally}
+use Rattle.sweep.specs.declared.Way.{Way}
+use Rattle.sweep.specs.Scan.{State}
+use Rattle.sweep.specs.Sweep.{sweep}
+use Rattle.sweep.specs.Terms.{rightward, SweepAsked, SweptStrips}
+use Rattle.sweep.specs.Internal.{stateOf, Tallied}
+use Rattle.sweep.proofs.Counted.{Counted, sweep-looks-fit, sweep-distances-bound}
+use Rattle.sweep.proofs.RunLaws.{length-rightward}
+use Rattle.sweep.proofs.NumberLaws.{sweep-strips}
+
+module _ (way : Way) (ax ay bx by : List ℤ) (aFrom aTo bFrom bTo k old : ℕ) (before : Results) (asked : SweepAsked ax ay bx by aFrom aTo bFrom bTo k old before) where
+  -- The state in the end.
+  abbrev pub swept : State
+  swept = sweep way k (rightward ax ay aFrom (aTo - aFrom)) (rightward bx by bFrom (bTo - bFrom)) (entriesOf old before)
+
+  -- Counters on the way there have room.
+  pub swept-fits : {n : ℕ} (t : Tally) (r : Results) → Counted n (stateOf t r) swept → (t .looks ≤ 2 ^ 62) × (t .distances ≤ 2 ^ 62)
+  unfolding stateOf
+  swept-fits t r c =
+      let p = rightward ax ay aFrom (aTo - aFrom) in
+      let q = rightward bx by bFrom (bTo - bFrom) in
+      let m = length-rightward ax ay aFrom (aTo - aFrom) in
+      let n = length-rightward bx by bFrom (bTo - bFrom) in
+      let f = sweep-looks-fit way k p q (entriesOf old before) (omega (arith, asked .a-inside, asked .a .few)) (omega (arith, asked .b-inside, asked .b .few)) in
+      let g = sweep-distances-bound way k p q (entriesOf old before) in
+      omega (arith, c .looks-from, c .distances-from)
+
+  -- The answer from the state that the tally and the columns hold.
+  pub swept-strips : {r : Results} {t : Tally} {answer : Swept} → Tallied k before old swept r t
+      → (answer .entries ≡ t .count) × (answer .looks .0 ≡ t .looks) × (answer .distances .0 ≡ t .distances)
+      → SweptStrips way ax ay bx by aFrom aTo bFrom bTo k old before r answer
+  unfolding stateOf
+  swept-strips {r} {t} h answers = record {
+    numbered = λ an bn la lb.
+        let same = sweep-strips way k (columns ax ay an) (columns bx by bn) aFrom aTo bFrom bTo (entriesOf old before) la lb (asked .a-inside) (asked .b-inside) in
+        let whole : stateOf t r ≡ _ = h .state ∙ sym same in
+        record {
+          entries = answers .0 ∙ sym (length-entries k (t .count) r (h .updated .ready .room) (h .updated .ready .most)) ∙ ap (λ (s : State). length (s .entries)) whole;
+          looks = answers .1 ∙ ap (λ (s : State). s .looks) whole;
+          distances = answers .2 ∙ ap (λ (s : State). s .distances) whole;
+          columns = h .updated .rest ∙ ap (λ (s : State). holding (s .entries) before) whole;
+        };
+  }
