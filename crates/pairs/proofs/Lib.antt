@@ -1,7 +1,7 @@
 -- The laws of the two lists of pairs.
-pub mod Offsets
-pub mod Rows
-pub mod DistanceRows
-pub mod Writes
-pub mod DistanceAnswers
-pub mod KListAnswers
+pub mod Offset
+pub mod NearSites
+pub mod NearPairs
+pub mod Written
+pub mod DistanceList
+pub mod KList

@@ -21,11 +21,10 @@ distanceList e a b = keep (λ p. leb (p .distance) (square e)) (allPairs a b)
 
 -- 1, 2, 3 for each list, then "6: a distance list with more pairs than its shorter column".
 unfoldable pub distanceRefusal : Columns → Columns → ℕ → List ℕ → List ℕ → ℕ
-distanceRefusal a b e first second =
-    orElse (listsRefusal a b)
-    (refuseIf (ltb (min (length first) (length second)) (length (distanceList e (sites a) (sites b)))) 6)
+distanceRefusal a b e f s =
+    orElse (listsRefusal a b) (refuseIf (ltb (min (length f) (length s)) (length (distanceList e (sites a) (sites b)))) 6)
 
--- "a distance list, its count", and what the two columns then hold.
+-- "Its count is the exact number of pairs"; and what the two columns then hold.
 pub record DistanceValues : Type 0 where
   pub first : List ℕ
   pub second : List ℕ
@@ -34,12 +33,11 @@ pub record DistanceValues : Type 0 where
 abbrev pub distanceValues : List ℕ → List ℕ → ℕ → DistanceValues
 distanceValues first second count = record { first = first; second = second; count = count }
 
--- "Its count is the exact number of pairs."
 unfoldable pub distanceAnswer : Columns → Columns → ℕ → List ℕ → List ℕ → Answer DistanceValues
-distanceAnswer a b e first second =
+distanceAnswer a b e f s =
     let l = distanceList e (sites a) (sites b) in
-    answerUnless (distanceRefusal a b e first second)
-    (distanceValues (overwritten (map (λ p. p .first) l) first) (overwritten (map (λ p. p .second) l) second) (length l))
+    answerUnless (distanceRefusal a b e f s)
+    (distanceValues (overwritten (map (λ p. p .first) l) f) (overwritten (map (λ p. p .second) l) s) (length l))
 
 -- The paper's number and value for each case of the answer, with what the columns hold at exit.
 unfoldable pub withinAnswer : Within → List ℕ → List ℕ → Answer DistanceValues

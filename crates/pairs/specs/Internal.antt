@@ -1,4 +1,4 @@
--- Terms that only this crate's functions cite: a reference's run of other sites, the near ones, and their pairs written.
+-- Terms that only this crate's functions cite: the run of sites near a reference in x, the near ones, their pairs written.
 use mathlib.Core.Path.{_≡_}
 use mathlib.Core.Bool.{Bool, true}
 use mathlib.Core.List.{List, map}
@@ -8,6 +8,7 @@ use lib.IntN.{ℤ, pos, negsuc}
 use lib.ListN.{length, getD}
 use Rattle.order.specs.Lists.{keep}
 use Rattle.column.specs.Column.{stored}
+use Rattle.column.specs.Lent.{Lent}
 use Rattle.site.specs.declared.Site.{Site}
 use Rattle.site.specs.Site.{within, gap, square, squaredDistance}
 use Rattle.site.specs.SiteList.{site}
@@ -41,8 +42,7 @@ pub record Skipped (xs : List ℤ) (from limit r : ℕ) : Type 0 where
   pub below : (k : ℕ) → from ≤ k → k < r → offsetAt xs k < limit
   pub stop : r < length xs → limit ≤ offsetAt xs r
 
--- Both ends of a run are places of the column or its length, and each place before its left end is further than `e` to the left of
--- the reference at `i`.
+-- Each place before the run's left end is further than `e` to the left of the reference at `i`; both ends are in the column.
 pub record Behind (a b : List ℤ) (e i : ℕ) (run : Run) : Type 0 where
   pub left : run .left ≤ length b
   pub right : run .right ≤ length b
@@ -52,6 +52,10 @@ pub record Behind (a b : List ℤ) (e i : ℕ) (run : Run) : Type 0 where
 pub record RunOf (a b : List ℤ) (e i : ℕ) (run : Run) : Type 0 where
   pub behind : Behind a b e i run
   pub above : (k : ℕ) → run .right ≤ k → k < length b → offsetAt a i + e < offsetAt b k
+
+-- The site at a place of two coordinate columns; no number is read.
+abbrev pub siteOf : List ℤ → List ℤ → ℕ → Site
+siteOf xs ys k = site (getD xs k (pos 0)) (getD ys k (pos 0)) 0
 
 -- A site whose squared distance from a position is at most a limit.
 unfoldable pub near : ℕ → ℤ → ℤ → Site → Bool
@@ -88,3 +92,8 @@ pub record Written (l : List Entry) (n : ℕ) (first second first′ second′ :
   pub count : r ≡ n + length l
   pub in-first : first′ ≡ stored n (map (λ p. p .first) l) first
   pub in-second : second′ ≡ stored n (map (λ p. p .second) l) second
+
+-- The same of two columns as they are lent.
+abbrev pub Writes : List Entry → ℕ → Lent (List ℕ) → Lent (List ℕ) → ℕ → Type 0
+Writes l n first second r =
+    Written l n (first .entry .now) (second .entry .now) (first .exit .now) (second .exit .now) r

@@ -22,10 +22,9 @@ kList k a b = bestK k (allPairs a b)
 
 -- 1, 2, 3 for each list, then "4: K is 0 or above 4,096", then "6: a whole K list with a result column shorter than K".
 unfoldable pub kListRefusal : Columns → Columns → ℕ → Results → ℕ
-kListRefusal a b k r =
-    orElse (listsRefusal a b) (orElse (refuseIf (not (lawfulK k)) 4) (refuseIf (not (roomFor k r)) 6))
+kListRefusal a b k r = orElse (listsRefusal a b) (orElse (refuseIf (not (lawfulK k)) 4) (refuseIf (not (roomFor k r)) 6))
 
--- "a K list, the entry count, looks and distances", and what the result columns then hold.
+-- "a K list, the entry count, looks and distances", the sweep's own; and what the result columns then hold.
 pub record KListValues : Type 0 where
   pub results : Results
   pub count : ℕ
@@ -35,7 +34,6 @@ pub record KListValues : Type 0 where
 abbrev pub kListValues : Results → ℕ → ℕ → ℕ → KListValues
 kListValues r count looks distances = record { results = r; count = count; looks = looks; distances = distances }
 
--- The counters are the sweep's own.
 unfoldable pub kListAnswer : Way → Columns → Columns → ℕ → Results → Answer KListValues
 kListAnswer way a b k r =
     let l = kList k (sites a) (sites b) in

@@ -7,20 +7,31 @@ ghost use mathlib.Core.Bool.{true};
 ghost use Prim.Native.Nat.{_*_, _<_};
 ghost use lib.IntN.{pos};
 ghost use lib.ListN.{length, getD};
+ghost use Rattle.column.specs.Lent.{the, _of_};
 ghost use Rattle.site.specs.Site.{within};
 ghost use Rattle.site.specs.Answer.{afterwards};
-ghost use Rattle.site.specs.SiteList.{lentList, site};
+ghost use Rattle.site.specs.SiteList.{lentList};
 ghost use Rattle.sweep.specs.Terms.{spotOf};
 ghost use Rattle.pairs.specs.DistanceList.{distanceRefusal, distanceAnswer, withinAnswer};
-ghost use Rattle.pairs.specs.Internal.{InOrder, near, nearSites, rowPairs, nearPairs, Reference, Room, Written};
+ghost use Rattle.pairs.specs.Internal.{
+  InOrder,
+  siteOf,
+  near,
+  nearSites,
+  rowPairs,
+  nearPairs,
+  Reference,
+  Room,
+  Writes,
+};
 
-// Whether a site is near a position: its squared distance is at most `e` squared. A difference of y beyond `e` decides alone.
+// Whether a site's squared distance from a position is at most `e` squared. A difference of y beyond `e` decides alone.
 fn is_near(x: i32, y: i32, bx: &[i32], by: &[i32], j: usize, e: u32) -> bool
     requires { ⌜
         (within x ≡ true) × (within y ≡ true) × (j < length (now bx)) × (j < length (now by))
         × (within (getD (now bx) j (pos 0)) ≡ true) × (within (getD (now by) j (pos 0)) ≡ true)
         ⌝ }
-    ensures { λ r. ⌜ r ≡ near (e * e) x y (site (getD (now (bx .entry)) j (pos 0)) (getD (now (by .entry)) j (pos 0)) 0) ⌝ }
+    ensures { λ r. ⌜ r ≡ near (e * e) x y ((the siteOf of bx of by) .entry j) ⌝ }
 {
     let reach = e as u64;
     let above = std::num::wrapping_sub_u64(window::offset(by[j]) + reach, window::offset(y));
@@ -33,7 +44,9 @@ fn is_near(x: i32, y: i32, bx: &[i32], by: &[i32], j: usize, e: u32) -> bool
 // How many sites of a run are near a position.
 fn count_row(x: i32, y: i32, bx: &[i32], by: &[i32], run: Run, e: u32) -> u64
     requires { ⌜ Reference x y (now bx) (now by) run ⌝ }
-    ensures { λ r. ⌜ r ≡ length (nearSites (e * e) x y (now (bx .entry)) (now (by .entry)) (run .left) (run .right)) ⌝ }
+    ensures { λ r.
+        let near = (the (nearSites (e * e) x y) of bx of by) .entry in
+        ⌜ r ≡ length (near (run .left) (run .right)) ⌝ }
 {
     let mut count: u64 = 0;
     let mut j = run.left;
@@ -50,7 +63,9 @@ fn count_row(x: i32, y: i32, bx: &[i32], by: &[i32], run: Run, e: u32) -> u64
 // How many pairs of two lawful lists are within `e`.
 fn count_all(ax: &[i32], ay: &[i32], bx: &[i32], by: &[i32], e: u32) -> u64
     requires { ⌜ (InOrder (now ax) (now ay)) × (InOrder (now bx) (now by)) ⌝ }
-    ensures { λ r. ⌜ r ≡ length (nearPairs e (now (ax .entry)) (now (ay .entry)) (now (bx .entry)) (now (by .entry)) 0) ⌝ }
+    ensures { λ r.
+        let near = (the (nearPairs e) of ax of ay of bx of by) .entry in
+        ⌜ r ≡ length (near 0) ⌝ }
 {
     let mut count: u64 = 0;
     let mut run = Run { left: 0, right: 0 };
@@ -80,10 +95,9 @@ fn write_row(
         (Reference x y (now bx) (now by) run)
         × (Room (rowPairs e (spotOf x y place) (now bx) (now by) (run .left) (run .right)) n (now first) (now second))
         ⌝ }
-    ensures { λ r. ⌜
-        Written (rowPairs e (spotOf x y place) (now (bx .entry)) (now (by .entry)) (run .left) (run .right))
-        n (now (first .entry)) (now (second .entry)) (now (first .exit)) (now (second .exit)) r
-        ⌝ }
+    ensures { λ r.
+        let row = (the (rowPairs e (spotOf x y place)) of bx of by) .entry in
+        ⌜ Writes (row (run .left) (run .right)) n first second r ⌝ }
 {
     let mut at = n;
     let mut j = run.left;
@@ -114,10 +128,9 @@ fn write_all(
         × (InOrder (now bx) (now by))
         × (Room (nearPairs e (now ax) (now ay) (now bx) (now by) 0) 0 (now first) (now second))
         ⌝ }
-    ensures { λ r. ⌜
-        Written (nearPairs e (now (ax .entry)) (now (ay .entry)) (now (bx .entry)) (now (by .entry)) 0)
-        0 (now (first .entry)) (now (second .entry)) (now (first .exit)) (now (second .exit)) r
-        ⌝ }
+    ensures { λ r.
+        let near = (the (nearPairs e) of ax of ay of bx of by) .entry in
+        ⌜ Writes (near 0) 0 first second r ⌝ }
 {
     let mut n: usize = 0;
     let mut run = Run { left: 0, right: 0 };
@@ -130,7 +143,7 @@ fn write_all(
     n
 }
 
-// The refusal of a distance list: 1, 2 or 3 of the first list, else of the second, then 6 for columns too short; 0 for none.
+// The refusal of a distance list: 1, 2, 3 of the first list, then of the second, then 6 for short columns; 0 for none.
 fn distance_refusal(
     ax: &[i32],
     ay: &[i32],
@@ -161,7 +174,7 @@ fn distance_refusal(
     0
 }
 
-// All pairs of two lists with squared distance at most `e` squared, by first place and then second. (01: distance list.)
+// All pairs of two lists with squared distance at most `e²`, by first place and then second. (01: distance list.)
 pub fn distance_list(
     ax: &[i32],
     ay: &[i32],

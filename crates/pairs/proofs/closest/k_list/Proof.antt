@@ -2,7 +2,7 @@
 use mathlib.Core.Path.{sym, _∙_}
 use borrow.Author.Needs.{needs}
 use Rattle.pairs.specs.KList.{listedAnswer}
-use Rattle.pairs.proofs.KListAnswers.{k-refused, sweep-asks, swept-is}
+use Rattle.pairs.proofs.KList.{k-refused, sweep-asks, swept-is}
 use Rattle.pairs.proofs.closest.k_list.Statement.{statement}
 use Rattle.pairs.proofs.closest.k_list.Tie as tie
 

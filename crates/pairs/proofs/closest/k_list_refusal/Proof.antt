@@ -1,6 +1,6 @@
 -- `pairs::k_list_refusal` meets its contract.
 use borrow.Author.Needs.{needs}
-use Rattle.pairs.proofs.KListAnswers.{k-lists-refused, k-unlawful, k-short, k-accepted}
+use Rattle.pairs.proofs.KList.{k-lists-refused, k-unlawful, k-short, k-accepted}
 use Rattle.pairs.proofs.closest.k_list_refusal.Statement.{statement}
 use Rattle.pairs.proofs.closest.k_list_refusal.Tie as tie
 

@@ -8,7 +8,7 @@ use lib.ListN.{length}
 use mir.Facts.{toZ-ofZ}
 use Rattle.entry.specs.declared.Entry.{Entry}
 use Rattle.pairs.specs.Internal.{nearPairs}
-use Rattle.pairs.proofs.DistanceRows.{pairs-none, pairs-few, row-asks, row-counted, Ready, ready-starts, ready-more}
+use Rattle.pairs.proofs.NearPairs.{pairs-none, pairs-few, row-asks, row-counted, Ready, ready-starts, ready-more}
 use Rattle.pairs.proofs.nearby.count_all.Statement.{statement}
 use Rattle.pairs.proofs.nearby.count_all.Tie as tie
 

@@ -11,7 +11,7 @@ use mir.Syntax.{w32}
 use mir.Val.{toZ, ofZ}
 use Rattle.sweep.specs.Strip.{Placed}
 use Rattle.pairs.specs.Internal.{nearSites}
-use Rattle.pairs.proofs.Rows.{near-none, near-yes, near-no, near-asks}
+use Rattle.pairs.proofs.NearSites.{near-none, near-yes, near-no, near-asks}
 use Rattle.pairs.proofs.nearby.count_row.Statement.{statement}
 use Rattle.pairs.proofs.nearby.count_row.Tie as tie
 

@@ -2,7 +2,7 @@
 use mathlib.Core.Path.{sym, _∙_}
 use native.Mathlib.Omega.{arith}
 use borrow.Author.Needs.{needs}
-use Rattle.pairs.proofs.DistanceAnswers.{both-in-order, lists-refused, too-short, room}
+use Rattle.pairs.proofs.DistanceList.{both-in-order, lists-refused, too-short, room}
 use Rattle.pairs.proofs.nearby.distance_refusal.Statement.{statement}
 use Rattle.pairs.proofs.nearby.distance_refusal.Tie as tie
 

@@ -10,7 +10,7 @@ use Rattle.site.specs.Site.{squaredDistance}
 use Rattle.site.specs.SiteList.{site}
 use Rattle.site.proofs.Machine.{at₁, at₄}
 use Rattle.pairs.specs.Internal.{offset, near}
-use Rattle.pairs.proofs.Offsets.{far-y, square-fits}
+use Rattle.pairs.proofs.Offset.{far-y, square-fits}
 use Rattle.pairs.proofs.nearby.is_near.Statement.{statement}
 use Rattle.pairs.proofs.nearby.is_near.Tie as tie
 

@@ -5,8 +5,8 @@ use borrow.Author.Needs.{needs, sfits-of}
 use lib.ListN.{length}
 use mir.Facts.{toZ-ofZ}
 use Rattle.pairs.specs.Internal.{nearPairs}
-use Rattle.pairs.proofs.DistanceRows.{pairs-none, row-asks, row-first, Ready, ready-starts, ready-more}
-use Rattle.pairs.proofs.Writes.{Writing, writing-starts, writing-room, writing-more, writing-ends}
+use Rattle.pairs.proofs.NearPairs.{pairs-none, row-asks, row-first, Ready, ready-starts, ready-more}
+use Rattle.pairs.proofs.Written.{Writing, writing-starts, writing-room, writing-more, writing-ends}
 use Rattle.pairs.proofs.nearby.write_all.Statement.{statement}
 use Rattle.pairs.proofs.nearby.write_all.Tie as tie
 

@@ -14,8 +14,8 @@ use Rattle.entry.specs.declared.Entry.{Entry}
 use Rattle.sweep.specs.Strip.{Placed, pair}
 use Rattle.sweep.specs.Terms.{spotOf, spot}
 use Rattle.pairs.specs.Internal.{rowPairs}
-use Rattle.pairs.proofs.Rows.{near-none, near-yes, near-no, near-asks}
-use Rattle.pairs.proofs.Writes.{written-none, written-one, Writing, writing-starts, writing-room, writing-more, writing-ends}
+use Rattle.pairs.proofs.NearSites.{near-none, near-yes, near-no, near-asks}
+use Rattle.pairs.proofs.Written.{written-none, written-one, Writing, writing-starts, writing-room, writing-more, writing-ends}
 use Rattle.pairs.proofs.nearby.write_row.Statement.{statement}
 use Rattle.pairs.proofs.nearby.write_row.Tie as tie
 

@@ -4,7 +4,7 @@ use borrow.Author.Needs.{needs, sfits-of}
 use mir.Facts.{toZ-ofZ}
 use Rattle.site.proofs.Machine.{at₁}
 use Rattle.pairs.specs.Internal.{offset, offsetAt}
-use Rattle.pairs.proofs.Offsets.{run-next}
+use Rattle.pairs.proofs.Offset.{run-next}
 use Rattle.pairs.proofs.window.next_run.Statement.{statement}
 use Rattle.pairs.proofs.window.next_run.Tie as tie
 

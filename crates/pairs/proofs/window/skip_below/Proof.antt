@@ -7,7 +7,7 @@ use lib.ListN.{length}
 use mir.Facts.{toZ-ofZ}
 use Rattle.site.proofs.Machine.{at₁}
 use Rattle.pairs.specs.Internal.{offset, offsetAt}
-use Rattle.pairs.proofs.Offsets.{between-none, between-more}
+use Rattle.pairs.proofs.Offset.{between-none, between-more}
 use Rattle.pairs.proofs.window.skip_below.Statement.{statement}
 use Rattle.pairs.proofs.window.skip_below.Tie as tie
 

@@ -20,7 +20,7 @@ use Rattle.sweep.specs.Terms.{spot, rightward}
 use Rattle.sweep.proofs.RunLaws.{rightward-nil, rightward-cons}
 use Rattle.pairs.specs.declared.Run.{Run}
 use Rattle.pairs.specs.Internal.{RunOf, near, nearSites, Reference}
-use Rattle.pairs.proofs.Offsets.{far-left, far-right, far}
+use Rattle.pairs.proofs.Offset.{far-left, far-right, far}
 
 module _ (limit : ℕ) (x y : ℤ) (xs ys : List ℤ) where
   -- The test of a site, and of the site at a place.

@@ -26,7 +26,7 @@ use Rattle.sweep.proofs.NumberLaws.{bare, strip-bare}
 use Rattle.pairs.specs.declared.Run.{Run}
 use Rattle.pairs.specs.DistanceList.{distanceList}
 use Rattle.pairs.specs.Internal.{Behind, RunOf, InOrder, Rising, offsetAt, near, nearSites, rowPairs, nearPairs, Reference}
-use Rattle.pairs.proofs.Rows.{row-run}
+use Rattle.pairs.proofs.NearSites.{row-run}
 
 -- ---- no number
 

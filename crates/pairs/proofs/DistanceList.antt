@@ -15,8 +15,8 @@ use Rattle.site.proofs.Accepted.{accepted-level, both-accepted}
 use Rattle.entry.specs.declared.Entry.{Entry}
 use Rattle.pairs.specs.DistanceList.{distanceList, distanceRefusal, distanceValues, distanceAnswer}
 use Rattle.pairs.specs.Internal.{InOrder, nearPairs, Room, Written}
-use Rattle.pairs.proofs.Offsets.{in-order}
-use Rattle.pairs.proofs.DistanceRows.{list-is}
+use Rattle.pairs.proofs.Offset.{in-order}
+use Rattle.pairs.proofs.NearPairs.{list-is}
 
 -- Two accepted lists.
 pub both-in-order : (a b : Columns) → listsRefusal a b ≡ 0 → (InOrder (a .x) (a .y)) × (InOrder (b .x) (b .y))
