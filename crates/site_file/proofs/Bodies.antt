@@ -20,10 +20,10 @@ use Rattle.site_file.specs.declared.Which.{Which}
 use Rattle.site_file.specs.Bytes.{bytes4, word, unsigned}
 use Rattle.site_file.specs.File.{siteBytes, siteIn, sitesFrom, sitesIn}
 use Rattle.site_file.specs.Calls.{readRefusal}
-use Rattle.site_file.specs.RoundTrip.{Bytes, Numbers}
+use Rattle.site_file.specs.RoundTrip.{Numbers}
 use Rattle.site_file.proofs.File.{list-length}
 use Rattle.site_file.proofs.Contents.{inside, read-laid, read-content}
-use Rattle.site_file.proofs.Words.{digits, word-past, signed-back, unsigned-back, coordinate-fits, bytes-back, word-fits}
+use Rattle.site_file.proofs.Words.{Bytes, digits, word-past, signed-back, unsigned-back, coordinate-fits, bytes-back, word-fits}
 
 -- A site that can be written: inside the limits, with a number of 32 bits.
 abbrev pub Fit : Site → Type 0

@@ -3,7 +3,7 @@ pub mod Bytes
 pub mod File
 pub mod Contents
 pub mod WriteAnswer
-pub mod Held
+pub mod ReaderAnswer
 pub mod Words
 pub mod Bodies
 pub mod RoundTrip

@@ -19,8 +19,8 @@ use Rattle.site_file.specs.declared.Which.the-variants.{First, Second}
 use Rattle.site_file.specs.Bytes.{bytes4, word}
 use Rattle.site_file.specs.File.{siteBytes, contentsBytes, fileBytes, startIn, countIn, sitesFrom, sitesIn}
 use Rattle.site_file.specs.Calls.{WriteValues, writeValues, writeRefusal, writeAnswer, contentsRefusal, readRefusal, siteAnswer}
-use Rattle.site_file.specs.RoundTrip.{Bytes, EveryOutputAccepted, EveryAcceptedIsOutput}
-use Rattle.site_file.proofs.Words.{digits, bytes-back}
+use Rattle.site_file.specs.RoundTrip.{EveryOutputAccepted, EveryAcceptedIsOutput}
+use Rattle.site_file.proofs.Words.{Bytes, digits, bytes-back}
 use Rattle.site_file.proofs.File.{from-length, list-length}
 use Rattle.site_file.proofs.Contents.{Laid, contents-right, read-laid, read-answered, site-found}
 use Rattle.site_file.proofs.WriteAnswer.{Ready, ready, contents-length, body-end, file-length, write-ready}

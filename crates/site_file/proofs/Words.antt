@@ -19,8 +19,11 @@ use Rattle.order.proofs.Order.{byTest}
 use Rattle.order.proofs.Lists.{all-drop}
 use Rattle.site.proofs.Cases.{and-first}
 use Rattle.site_file.specs.Bytes.{bytes4, word, unsigned, signed}
-use Rattle.site_file.specs.RoundTrip.{Bytes}
 use Rattle.site_file.proofs.Bytes.{unsigned-fits}
+
+-- What a slice of bytes can hold.
+abbrev pub Bytes : List ℕ → Type 0
+Bytes l = All (λ b. b < 256) l
 
 -- Digits to base 256.
 second-byte : (n : ℕ) → n / 65_536 ≡ n / 256 / 256

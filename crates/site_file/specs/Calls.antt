@@ -19,7 +19,6 @@ use Rattle.site_file.specs.declared.SiteRead.{SiteRead}
 use Rattle.site_file.specs.declared.SiteRead.the-variants as found
 use Rattle.site_file.specs.File.{fileBytes, startIn, countIn, sitesIn}
 
--- What the lent buffer then holds, and "the file writer, the file's length".
 pub record WriteValues : Type 0 where
   pub buffer : List ℕ
   pub length : ℕ
@@ -31,7 +30,7 @@ writeValues buffer length = record { buffer = buffer; length = length }
 unfoldable pub writeRefusal : Columns → Columns → ℕ → ℕ
 writeRefusal a b room = orElse (listsRefusal a b) (refuseIf (ltb room (length (fileBytes (sites a) (sites b)))) 6)
 
--- The file from the start of the buffer on, past it what the buffer held before; or the refusal.
+-- "the file writer, the file's length", and the buffer with the file from its start on; or the refusal.
 unfoldable pub writeAnswer : Columns → Columns → List ℕ → Answer WriteValues
 writeAnswer a b buffer =
     let file = fileBytes (sites a) (sites b) in
@@ -52,12 +51,11 @@ unfoldable pub readRefusal : List ℕ → ℕ
 readRefusal file =
     orElse (contentsRefusal file) (orElse (contentRefusal (sitesIn file First)) (contentRefusal (sitesIn file Second)))
 
--- "the file reader, both site counts."
 pub record ReadValues : Type 0 where
   pub first : ℕ
   pub second : ℕ
 
--- The values of reading, or the refusal.
+-- "the file reader, both site counts", or the refusal.
 unfoldable pub readAnswer : List ℕ → Answer ReadValues
 readAnswer file = answerUnless (readRefusal file) (record { first = countIn file First; second = countIn file Second })
 

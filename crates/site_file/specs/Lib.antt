@@ -2,5 +2,5 @@
 pub mod Bytes
 pub mod File
 pub mod Calls
-pub mod Held
+pub mod ReaderAnswer
 pub mod RoundTrip

@@ -11,10 +11,7 @@ use Rattle.site_file.specs.declared.Which.the-variants.{First, Second}
 use Rattle.site_file.specs.File.{sitesIn}
 use Rattle.site_file.specs.Calls.{WriteValues, writeValues, writeAnswer, readRefusal, readAnswer, siteAnswer}
 
--- What a slice of bytes and a column of numbers can hold.
-abbrev pub Bytes : List ℕ → Type 0
-Bytes l = All (λ b. b < 256) l
-
+-- What a column of numbers can hold.
 abbrev pub Numbers : Columns → Type 0
 Numbers c = All (λ n. n < 4_294_967_296) (c .number)
 
@@ -35,7 +32,7 @@ EveryOutputAccepted =
 -- Every accepted file is the output for some two lists, in every buffer that has room for it.
 abbrev pub EveryAcceptedIsOutput : Type 0
 EveryAcceptedIsOutput =
-    (file : List ℕ) → Bytes file → readRefusal file ≡ 0 →
+    (file : List ℕ) → All (λ byte. byte < 256) file → readRefusal file ≡ 0 →
     (a : Columns) × (b : Columns) × Numbers a × Numbers b ×
     ((buffer : List ℕ) → length file ≤ length buffer →
     writeAnswer a b buffer ≡ answered (writeValues (overwritten file buffer) (length file)))

@@ -6,7 +6,7 @@ use super::numbers;
 use super::reading;
 ghost use mathlib.Core.Path.{_≡_};
 ghost use Rattle.site_file.specs.File.{startIn};
-ghost use Rattle.site_file.specs.Held.{heldStart, heldAnswer};
+ghost use Rattle.site_file.specs.ReaderAnswer.{heldStart, readerAnswer};
 ghost use Rattle.site_file.specs.Calls.{siteAnswer, siteReadAnswer};
 
 // The held start of a list.
@@ -21,7 +21,7 @@ fn held_start(first: u32, second: u32, which: Which) -> u32
 
 // Consults a file through held starts: the site of a list at a place, or the refusal.
 fn site_from(file: &[u8], first: u32, second: u32, which: Which, place: u32) -> SiteRead
-    ensures { λ r. ⌜ siteReadAnswer r ≡ heldAnswer (now (file .entry)) first second which place ⌝ }
+    ensures { λ r. ⌜ siteReadAnswer r ≡ readerAnswer (now (file .entry)) first second which place ⌝ }
 {
     let refusal = reading::contents_refusal(file);
     if refusal != 0 {
@@ -61,7 +61,9 @@ pub fn open<'a>(file: &'a [u8]) -> Reader<'a>
 
 // The site of a reader's file at a place of a list, or the refusal.
 pub fn site_in<'a>(r: Reader<'a>, which: Which, place: u32) -> SiteRead
-    ensures { λ s. ⌜ siteReadAnswer s ≡ heldAnswer (now (r .entry .file)) (r .entry .first) (r .entry .second) which place ⌝ }
+    ensures { λ s.
+        let reader = r .entry in
+        ⌜ siteReadAnswer s ≡ readerAnswer (now (reader .file)) (reader .first) (reader .second) which place ⌝ }
 {
     site_from(r.file, r.first, r.second, which, place)
 }

@@ -43,10 +43,10 @@ use Rattle.site_file.specs.declared.Which.{Which}
 use Rattle.site_file.specs.declared.Which.the-variants.{First, Second}
 use Rattle.site_file.specs.File.{startIn}
 use Rattle.site_file.specs.Calls.{siteAnswer, siteReadAnswer}
-use Rattle.site_file.specs.Held.{heldAnswer}
+use Rattle.site_file.specs.ReaderAnswer.{readerAnswer}
 use Rattle.site_file.specs.declared.Reader.{Reader}
 use Rattle.site_file.specs.declared.SiteRead.{SiteRead}
-use Rattle.site_file.proofs.Held.{held-by}
+use Rattle.site_file.proofs.ReaderAnswer.{held-by}
 use Rattle.site_file.proofs.Reader as T
 use Rattle.site_file.proofs.Reader.Laws as T′
 use Rattle.site_file.proofs.SiteRead as S
@@ -101,7 +101,7 @@ module _ {M : Type 1} (𝓤 : URA M) (H : Heap 𝓤) (A : Atoms 𝓤) (W : Given
 
   -- What `site_in` says of an answer.
   abbrev Answered : Reader → SiteRead → Type 0
-  Answered r t = siteReadAnswer t ≡ heldAnswer (now (r .file)) (r .first) (r .second) w p
+  Answered r t = siteReadAnswer t ≡ readerAnswer (now (r .file)) (r .first) (r .second) w p
 
   -- The reader's type as a local of a body has it.
   abbrev αᵉ : NamedLft

@@ -1,6 +1,6 @@
 -- `site_file::held_start` meets its contract.
 use mathlib.Core.Path.{refl}
-use Rattle.site_file.proofs.Held.{held-first, held-second}
+use Rattle.site_file.proofs.ReaderAnswer.{held-first, held-second}
 use borrow.Author.Needs.{needs}
 use Rattle.site_file.proofs.consulting.held_start.Statement.{statement}
 use Rattle.site_file.proofs.consulting.held_start.Tie as tie

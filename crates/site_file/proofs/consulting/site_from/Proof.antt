@@ -2,7 +2,7 @@
 use mathlib.Core.Path.{sym, _∙_}
 use native.Mathlib.Omega.{arith}
 use Rattle.site_file.proofs.Contents.{laid, inside}
-use Rattle.site_file.proofs.Held.{held-start, held-refused, held-first-wrong, held-second-wrong, held-past, held-found}
+use Rattle.site_file.proofs.ReaderAnswer.{held-start, held-refused, held-first-wrong, held-second-wrong, held-past, held-found}
 use Rattle.site_file.specs.Calls.{siteReadAnswer}
 use borrow.Author.Needs.{needs}
 use Rattle.site_file.proofs.consulting.site_from.Statement.{statement}

@@ -45,7 +45,7 @@ use denote.Triple.Clauses.{ensured, lasts}
 use Rattle.site.specs.declared.Site.{Site}
 use Rattle.site.specs.Answer.{Answer}
 use Rattle.site_file.specs.Calls.{siteReadAnswer}
-use Rattle.site_file.specs.Held.{heldAnswer}
+use Rattle.site_file.specs.ReaderAnswer.{readerAnswer}
 use Rattle.site_file.specs.declared.Reader.{Reader}
 use Rattle.site_file.specs.declared.SiteRead.{SiteRead}
 use Rattle.site_file.specs.declared.Which.{Which}
@@ -88,7 +88,7 @@ module _ {M : Type 1} (𝓤 : URA M) (H : Heap 𝓤) (A : Atoms 𝓤) (W : Given
   x = EL.val E.the-type E′.the-laws w
 
   abbrev found : Answer Site
-  found = heldAnswer (now (d .file)) (d .first) (d .second) w p
+  found = readerAnswer (now (d .file)) (d .first) (d .second) w p
 
   abbrev at : Vals site-in.signature (κ, tt)
   at = (mach ∷ [], (x ∷ [], (vint w32 p ∷ [], tt)))

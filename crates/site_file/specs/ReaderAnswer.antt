@@ -1,4 +1,4 @@
--- A file consulted through the starts that a reader holds.
+-- What a reader of a file answers: the file consulted through the starts that the reader holds.
 use mathlib.Core.Bool.{Bool, not, _&&_}
 use mathlib.Core.List.{List}
 use Prim.Native.Nat.{ℕ, _+_, _*_}
@@ -20,11 +20,11 @@ unfoldable pub ownStarts : List ℕ → ℕ → ℕ → Bool
 ownStarts file first second = eqb (startIn file First) first && eqb (startIn file Second) second
 
 -- As in consulting a file; starts that are not the file's get 10 after its contents and length.
-unfoldable pub heldRefusal : List ℕ → ℕ → ℕ → Which → ℕ → ℕ
-heldRefusal file first second which place =
+unfoldable pub readerRefusal : List ℕ → ℕ → ℕ → Which → ℕ → ℕ
+readerRefusal file first second which place =
     orElse (contentsRefusal file)
     (orElse (refuseIf (not (ownStarts file first second)) 10) (refuseIf (leb (countIn file which) place) 8))
 
-unfoldable pub heldAnswer : List ℕ → ℕ → ℕ → Which → ℕ → Answer Site
-heldAnswer file first second which place =
-    answerUnless (heldRefusal file first second which place) (siteIn file (heldStart first second which + 12 * place))
+unfoldable pub readerAnswer : List ℕ → ℕ → ℕ → Which → ℕ → Answer Site
+readerAnswer file first second which place =
+    answerUnless (readerRefusal file first second which place) (siteIn file (heldStart first second which + 12 * place))

@@ -13,7 +13,7 @@ use Rattle.site_file.specs.declared.Reader.{Reader}
 use Rattle.site_file.specs.Bytes.{word}
 use Rattle.site_file.specs.File.{startIn, countIn, siteIn}
 use Rattle.site_file.specs.Calls.{contentsRefusal, siteRefusal, siteAnswer}
-use Rattle.site_file.specs.Held.{heldStart, ownStarts, heldRefusal, heldAnswer}
+use Rattle.site_file.specs.ReaderAnswer.{heldStart, ownStarts, readerRefusal, readerAnswer}
 use Rattle.site_file.proofs.Contents.{site-position}
 
 pub held-first : (first second : ℕ) {r : ℕ} {w : Which} → w ≡ First → r ≡ first → r ≡ heldStart first second w
@@ -31,27 +31,27 @@ held-start file First p e q f = sym e ∙ p
 held-start file Second p e q f = sym f ∙ q
 
 module _ (file : List ℕ) (first second : ℕ) (w : Which) (place : ℕ) {r : ℕ} (p : r ≡ contentsRefusal file) where
-  pub held-refused : (r ≡ 0 → ⊥) → refused r ≡ heldAnswer file first second w place
-  unfolding heldAnswer heldRefusal
+  pub held-refused : (r ≡ 0 → ⊥) → refused r ≡ readerAnswer file first second w place
+  unfolding readerAnswer readerRefusal
   held-refused h = answer-refused _ (first-refused _ p h) h
 
   module _ (z : r ≡ 0) {a : ℕ} (pa : a ≡ word file 0) where
-    pub held-first-wrong : (a ≡ first → ⊥) → refused 10 ≡ heldAnswer file first second w place
-    unfolding heldAnswer heldRefusal ownStarts startIn answerUnless orElse
+    pub held-first-wrong : (a ≡ first → ⊥) → refused 10 ≡ readerAnswer file first second w place
+    unfolding readerAnswer readerRefusal ownStarts startIn answerUnless orElse
     held-first-wrong h = rw (← p, z, ← pa, ne-eqb a first h)
 
     module _ (e : a ≡ first) {b : ℕ} (pb : b ≡ word file 8) where
-      pub held-second-wrong : (b ≡ second → ⊥) → refused 10 ≡ heldAnswer file first second w place
-      unfolding heldAnswer heldRefusal ownStarts startIn answerUnless orElse
+      pub held-second-wrong : (b ≡ second → ⊥) → refused 10 ≡ readerAnswer file first second w place
+      unfolding readerAnswer readerRefusal ownStarts startIn answerUnless orElse
       held-second-wrong h = rw (← p, z, ← pa, eq-eqb a first e, ← pb, ne-eqb b second h)
 
       module _ (f : b ≡ second) {n : ℕ} (pn : n ≡ countIn file w) where
-        pub held-past : n ≤ place → refused 8 ≡ heldAnswer file first second w place
-        unfolding heldAnswer heldRefusal ownStarts startIn answerUnless orElse
+        pub held-past : n ≤ place → refused 8 ≡ readerAnswer file first second w place
+        unfolding readerAnswer readerRefusal ownStarts startIn answerUnless orElse
         held-past h = rw (← p, z, ← pa, eq-eqb a first e, ← pb, eq-eqb b second f, ← pn, le-leb n place h)
 
-        pub held-found : place < n → {k : ℕ} {s : Site} → k ≡ heldStart first second w → s ≡ siteIn file (k + 12 * place) → answered s ≡ heldAnswer file first second w place
-        unfolding heldAnswer heldRefusal ownStarts startIn answerUnless orElse
+        pub held-found : place < n → {k : ℕ} {s : Site} → k ≡ heldStart first second w → s ≡ siteIn file (k + 12 * place) → answered s ≡ readerAnswer file first second w place
+        unfolding readerAnswer readerRefusal ownStarts startIn answerUnless orElse
         held-found h pk ps =
             rw (
               ← p,
@@ -82,8 +82,8 @@ place-inside : (file : List ℕ) (w : Which) (place : ℕ) → siteRefusal file 
 unfolding siteRefusal
 place-inside file w place none = leb-false _ _ (no-fault _ 7 (orElse-second (contentsRefusal file) _ none))
 
-pub held-own : (file : List ℕ) (w : Which) (place : ℕ) → heldAnswer file (startIn file First) (startIn file Second) w place ≡ siteAnswer file w place
-unfolding heldAnswer heldRefusal siteAnswer siteRefusal ownStarts orElse
+pub held-own : (file : List ℕ) (w : Which) (place : ℕ) → readerAnswer file (startIn file First) (startIn file Second) w place ≡ siteAnswer file w place
+unfolding readerAnswer readerRefusal siteAnswer siteRefusal ownStarts orElse
 held-own file w place =
     rw (
       eq-eqb (startIn file First) (startIn file First) refl,
@@ -93,5 +93,5 @@ held-own file w place =
     (same-answer (siteRefusal file w place) (λ none. sym (site-position file w place (place-inside file w place none))))
 
 -- A reader that holds a file and its own starts.
-pub held-by : (r : Reader) (s : RefT (List ℕ)) (w : Which) (place : ℕ) → r .file ≡ s → r .first ≡ startIn (now s) First → r .second ≡ startIn (now s) Second → heldAnswer (now (r .file)) (r .first) (r .second) w place ≡ siteAnswer (now s) w place
+pub held-by : (r : Reader) (s : RefT (List ℕ)) (w : Which) (place : ℕ) → r .file ≡ s → r .first ≡ startIn (now s) First → r .second ≡ startIn (now s) Second → readerAnswer (now (r .file)) (r .first) (r .second) w place ≡ siteAnswer (now s) w place
 held-by r s w place e f g = rw (e, f, g) (held-own (now s) w place)
