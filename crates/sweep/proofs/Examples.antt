@@ -6,7 +6,7 @@ use Rattle.sweep.specs.declared.Way.the-variants.{Classic, ReverseRun}
 use Rattle.order.specs.Best.{insert}
 use Rattle.order.specs.Lists.{sum, last}
 use Rattle.order.specs.Order.{lex}
-use Rattle.site.specs.Site.{gap, square, squaredOver, squaredDistance}
+use Rattle.site.specs.Site.{gap, square, squaredDistance}
 use Rattle.site.specs.SiteList.{site}
 use Rattle.entry.specs.Entry.{entry, rankBefore, offer, lastDistance}
 use Rattle.sweep.specs.Scan.{beyond, scan}
@@ -15,15 +15,15 @@ use Rattle.sweep.specs.Sweep.{classicOver, reverseOver, leads, look, swe
 
 -- A distance equal to the last one is no reason to stop: 2 looks and 2 distances.
 equal : sweep Classic 1 (whole (site (pos 0) (pos 0) 1 ∷ [])) (whole (site (pos 3) (pos 4) 2 ∷ site (pos 5) (pos 0) 3 ∷ [])) [] ≡ record { entries = entry 25 0 0 ∷ []; looks = 2; distances = 2 }
-unfolding lex insert sum gap square squaredOver squaredDistance rankBefore offer lastDistance last whole placedFrom pair beyond scan classicOver leads look sweep
+unfolding lex insert sum gap square squaredDistance rankBefore offer lastDistance last whole placedFrom pair beyond scan classicOver leads look sweep
 equal = refl
 
 -- The place where a scan stopped is never looked at again: 2 looks and 1 distance.
 limit : sweep ReverseRun 1 (whole (site (pos 1) (pos 0) 1 ∷ [])) (whole (site (pos 3) (pos 2) 2 ∷ site (pos 4) (pos 1) 3 ∷ site (pos 6) (pos 1) 4 ∷ [])) [] ≡ record { entries = entry 8 0 0 ∷ []; looks = 2; distances = 1 }
-unfolding lex insert sum gap square squaredOver squaredDistance rankBefore offer lastDistance last whole placedFrom pair beyond scan reverseOver leads look sweep
+unfolding lex insert sum gap square squaredDistance rankBefore offer lastDistance last whole placedFrom pair beyond scan reverseOver leads look sweep
 limit = refl
 
 -- A scan that runs out moves no limit while the list isn't full: all four pairs are worked out.
 filling : sweep ReverseRun 9 (whole (site (pos 0) (pos 0) 1 ∷ site (pos 2) (pos 0) 2 ∷ [])) (whole (site (pos 1) (pos 0) 3 ∷ site (pos 3) (pos 0) 4 ∷ [])) [] ≡ record { entries = entry 1 0 0 ∷ entry 1 1 0 ∷ entry 1 1 1 ∷ entry 9 0 1 ∷ []; looks = 4; distances = 4 }
-unfolding lex insert sum gap square squaredOver squaredDistance rankBefore offer lastDistance last whole placedFrom pair beyond scan reverseOver leads look sweep
+unfolding lex insert sum gap square squaredDistance rankBefore offer lastDistance last whole placedFrom pair beyond scan reverseOver leads look sweep
 filling = refl
