@@ -1,7 +1,7 @@
 -- Laws of lawful cut ends and of the strips that they make.
 use mathlib.Core.Path.{_≡_, refl, sym, ap, _∙_}
 use mathlib.Core.Bool.{true, false, _&&_, and-eq-true-iff}
-use mathlib.Core.List.{List, [], _∷_, _++_, map}
+use mathlib.Core.List.{List, [], _∷_, _++_, map, flatMap}
 use Prim.Native.Nat.{ℕ, zero, suc, _+_, _-_, _≤_, _<_}
 use native.Mathlib.Omega.{arith}
 use lib.Dec.{leb, ltb, eqb}
@@ -17,8 +17,9 @@ use Rattle.order.proofs.Sorted.{ascending-ascends}
 use Rattle.site.specs.declared.Site.{Site}
 use Rattle.sweep.specs.Strip.{whole, strip}
 use Rattle.sweep.proofs.PlaceLaws.{length-whole, length-strip-within}
-use Rattle.campaign.specs.Grid.{lastEnd, lawfulEnds, stripFrom, stripTo, stripAt, stripHolding, countFrom}
-use Rattle.campaign.proofs.Gathered.{gathered, gathered-map}
+use Rattle.campaign.specs.Grid.{lawfulEnds, stripAt, stripHolding, countFrom}
+use Rattle.campaign.specs.Internal.{lastEnd, stripFrom, stripTo}
+use Rattle.campaign.proofs.Gathered.{flat-map}
 
 -- What lawful ends of a list of `n` are.
 pub record Cut (n : ℕ) (ends : List ℕ) : Type 0 where
@@ -98,8 +99,8 @@ count-suc i (suc n) = ap (λ (r : List ℕ). suc i ∷ r) (count-suc (suc i) n)
 
 -- Parts by ends that ascend, one after the other: all from the first to the last.
 parts-from : {A : Type 0} (from : ℕ) (ends : List ℕ) (w : List A) → Ascends ltb (from ∷ ends)
-    → gathered (cutPart from ends w) (countFrom 0 (length ends)) ≡ take (last from ends - from) (drop from w)
-unfolding gathered countFrom cutPart last
+    → flatMap (cutPart from ends w) (countFrom 0 (length ends)) ≡ take (last from ends - from) (drop from w)
+unfolding flatMap countFrom cutPart last
 parts-from from [] w u = let z : from - from ≡ 0 = omega arith in rw z
 parts-from {A} from (e ∷ l) w u =
     let tail = up-rest from (e ∷ l) u in
@@ -107,9 +108,9 @@ parts-from {A} from (e ∷ l) w u =
     let most : e ≤ last e l = last-most e l 0 tail (omega arith) in
     let split : last e l - from ≡ (e - from) + (last e l - e) = omega arith in
     let on : from + (e - from) ≡ e = omega arith in
-    let rest : gathered (cutPart from (e ∷ l) w) (countFrom 1 (length l)) ≡ take (last e l - e) (drop e w) =
-    ap (gathered (cutPart from (e ∷ l) w)) (count-suc 0 (length l))
-    ∙ gathered-map (cutPart from (e ∷ l) w) suc (countFrom 0 (length l))
+    let rest : flatMap (cutPart from (e ∷ l) w) (countFrom 1 (length l)) ≡ take (last e l - e) (drop e w) =
+    ap (flatMap (cutPart from (e ∷ l) w)) (count-suc 0 (length l))
+    ∙ flat-map (cutPart from (e ∷ l) w) suc (countFrom 0 (length l))
     ∙ parts-from e l w tail in
     ap (λ (r : List A). take (e - from) (drop from w) ++ r) rest
     ∙ sym (ap (λ (n : ℕ). take n (drop from w)) split
@@ -120,9 +121,9 @@ parts-from {A} from (e ∷ l) w u =
 -- ---- the strips of a list
 
 -- The strips, one after the other, are the whole list.
-pub strips-whole : (l : List Site) (ends : List ℕ) → Cut (length l) ends → gathered (stripAt ends l)
+pub strips-whole : (l : List Site) (ends : List ℕ) → Cut (length l) ends → flatMap (stripAt ends l)
     (countFrom 0 (length ends)) ≡ whole l
-unfolding stripAt strip stripFrom stripTo cutPart lastEnd
+unfolding stripAt strip cutPart
 strips-whole l ends cut =
     parts-from 0 ends (whole l) (cut .up)
     ∙ take-all (last 0 ends - 0) (whole l) (omega (arith, length-whole l, cut .last))
@@ -130,7 +131,7 @@ strips-whole l ends cut =
 module _ {n : ℕ} {ends : List ℕ} (cut : Cut n ends) (s : ℕ) (h : s < length ends) where
   -- A strip is not empty, and lies inside its list.
   pub strip-inside : (stripFrom ends s < stripTo ends s) × (stripTo ends s ≤ n)
-  unfolding stripFrom stripTo lastEnd
+  unfolding stripFrom stripTo
   strip-inside =
       (strip-up 0 ends s (cut .up) h, omega (arith, last-most 0 ends (suc s) (cut .up) (omega arith), cut .last))
 
@@ -141,5 +142,5 @@ module _ {n : ℕ} {ends : List ℕ} (cut : Cut n ends) (s : ℕ) (h : s < lengt
 
 pub length-strip : (l : List Site) {ends : List ℕ} → Cut (length l) ends → (s : ℕ) → s < length ends
     → length (stripAt ends l s) ≡ stripTo ends s - stripFrom ends s
-unfolding stripAt
+unfolding stripAt stripFrom stripTo
 length-strip l {ends} cut s h = length-strip-within (stripFrom ends s) (stripTo ends s) l (strip-inside cut s h .1)

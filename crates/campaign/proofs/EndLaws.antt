@@ -10,8 +10,8 @@ use borrow.Author.Tests.{leb-true, leb-false}
 use Rattle.order.proofs.Order.{byTest}
 use Rattle.site.specs.declared.Site.{Site}
 use Rattle.site.proofs.Columns.{nowhere}
-use Rattle.campaign.specs.Grid.{lastEnd, lawfulEnds, stripFrom, stripTo}
-use Rattle.campaign.specs.Internal.{Cuts, Cutting}
+use Rattle.campaign.specs.Grid.{lawfulEnds}
+use Rattle.campaign.specs.Internal.{lastEnd, stripFrom, stripTo, Cuts, Cutting}
 use Rattle.campaign.proofs.CutLaws.{Cut, lawful-cut, strip-inside}
 
 -- Lawful for a list of at most 65,535 sites.

@@ -12,8 +12,9 @@ use borrow.Author.Tests.{lt-ltb, le-ltb, le-leb, lt-leb}
 use Rattle.order.specs.Order.{ascending}
 use Rattle.order.specs.Lists.{keep, last as ending}
 use Rattle.order.proofs.Lists.{keep-yes, keep-no, keep-nil}
-use Rattle.campaign.specs.Grid.{lastEnd, lawfulEnds, stripHolding}
+use Rattle.campaign.specs.Grid.{lawfulEnds, stripHolding}
 use Rattle.campaign.specs.Calls.{slots}
+use Rattle.campaign.specs.Internal.{lastEnd, lawfulSlots}
 
 -- ---- lawful ends
 
@@ -23,7 +24,6 @@ pub record Walked (ends : List ℕ) (last i : ℕ) : Type 0 where
   pub end : lastEnd ends ≡ ending last (drop i ends)
 
 pub walked-none : (ends : List ℕ) → Walked ends 0 0
-unfolding lastEnd
 walked-none ends = record { order = refl; end = refl }
 
 ascending-on : (a b : ℕ) (l : List ℕ) → a < b → ascending ltb (a ∷ (b ∷ l)) ≡ ascending ltb (b ∷ l)
@@ -69,11 +69,12 @@ too-many n ends h = simp (lt-leb (length ends) 32 h)
 
 -- The ends in the slots in use.
 module _ (n : ℕ) (slots : List ℕ) (used : ℕ) where
-  pub slots-fail : 32 < used → false ≡ (leb used 32 && lawfulEnds n (take used slots))
+  pub slots-fail : 32 < used → false ≡ lawfulSlots n used slots
+  unfolding lawfulSlots
   slots-fail h = simp (lt-leb used 32 h)
 
-  pub slots-decide : {r : Bool} → used ≤ 32 → r ≡ lawfulEnds n (take used slots) → r ≡
-      (leb used 32 && lawfulEnds n (take used slots))
+  pub slots-decide : {r : Bool} → used ≤ 32 → r ≡ lawfulEnds n (take used slots) → r ≡ lawfulSlots n used slots
+  unfolding lawfulSlots
   slots-decide h e = e ∙ simp (le-leb used 32 h)
 
 -- ---- the strip that holds a place

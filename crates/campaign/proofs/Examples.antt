@@ -1,6 +1,6 @@
 -- Examples of skips and of a job's refusals: what M1 to M10 do not tell apart.
 use mathlib.Core.Path.{_≡_, refl}
-use mathlib.Core.List.{List, [], _∷_}
+use mathlib.Core.List.{List, [], _∷_, flatMap}
 use Prim.Native.Nat.{ℕ, _*_, _-_}
 use lib.IntN.{pos}
 use Rattle.site.specs.Answer.{refused, answered, answerUnless, afterwards, orElse, Answer}
@@ -19,8 +19,8 @@ use Rattle.sweep.specs.Scan.{beyond, looked, offered, scan}
 use Rattle.sweep.specs.Strip.{whole, placedFrom, strip, pair, product, pairs}
 use Rattle.sweep.specs.Sweep.{classicOver, leads, look, start, sweep}
 use Rattle.campaign.specs.Calls.{slots, newCampaign, jobRefusal, skips, jobEntries, afterJob, jobAnswer, JobValues}
-use Rattle.campaign.specs.Grid.{lastEnd, lawfulEnds, stripFrom, stripTo, stripAt, stripHolding, countFrom, markOf, settledJobs, lawfulMark, lawfulMarks, jobPairs, jobsPairs, firstX, lastX, rangeGap, stripGap, squaredStripGap, Job, jobOf, jobs, settled, settle}
-use Rattle.campaign.specs.Keeper.{firstEnds, secondEnds, soundEnds, fits, soundEntry, settledTotal, rightCount, sound, campaignRefusal}
+use Rattle.campaign.specs.Grid.{lawfulEnds, stripAt, stripHolding, countFrom, markOf, settledJobs, lawfulMarks, jobPairs, jobsPairs, rangeGap, squaredStripGap, Job, jobOf, jobs, settled}
+use Rattle.campaign.specs.Keeper.{firstEnds, secondEnds, soundEntry, sound, campaignRefusal}
 
 -- What is told of a job, in one number: the refusal's, or 100 where it was swept and 200 where it was skipped.
 toldAs : Answer JobValues → ℕ
@@ -62,5 +62,5 @@ keeperFirst =
 told :
     equalGap ∷ ownRanges ∷ keeperFirst ∷ []
     ≡ (100 ∷ 100 ∷ 9 ∷ 8 ∷ 8 ∷ []) ∷ (100 ∷ 200 ∷ 200 ∷ 200 ∷ []) ∷ (7 ∷ 7 ∷ []) ∷ []
-unfolding toldAs toldOf one equalGap ownRanges keeperFirst lex insert inserts sort best ascending all keep sum overwritten gap square squaredOver squaredDistance within lawfulSite siteBefore sites zipSites equalLengths sizeFault contentRefusal listRefusal listsRefusal answerUnless afterwards orElse rankBefore bestK offer lastDistance entriesOf zipEntries holding roomFor whole placedFrom strip pair product pairs beyond looked offered scan classicOver leads look start sweep lawfulK last lastEnd lawfulEnds stripFrom stripTo stripAt stripHolding countFrom jobs markOf settled settle settledJobs lawfulMark lawfulMarks jobPairs jobsPairs firstX lastX rangeGap stripGap squaredStripGap firstEnds secondEnds soundEnds siteAt fits soundEntry settledTotal rightCount sound campaignRefusal slots newCampaign jobRefusal skips jobEntries afterJob jobAnswer
+unfolding toldAs toldOf one equalGap ownRanges keeperFirst lex insert inserts sort best ascending all keep sum overwritten gap square squaredOver squaredDistance within lawfulSite siteBefore sites zipSites equalLengths sizeFault contentRefusal listRefusal listsRefusal answerUnless afterwards orElse rankBefore bestK offer lastDistance entriesOf zipEntries holding roomFor whole placedFrom strip pair product pairs beyond looked offered scan classicOver leads look start sweep lawfulK last lawfulEnds stripAt stripHolding countFrom jobs markOf settled settledJobs lawfulMarks jobPairs jobsPairs flatMap rangeGap squaredStripGap firstEnds secondEnds siteAt soundEntry sound campaignRefusal slots newCampaign jobRefusal skips jobEntries afterJob jobAnswer
 told = refl

@@ -1,26 +1,38 @@
 -- The squared gap of two strips bounds the squared distance of each of their pairs.
-use mathlib.Core.Path.{_≡_}
+use mathlib.Core.Path.{_≡_, refl}
 use mathlib.Core.Bool.{true, false}
 use mathlib.Core.List.{List, [], _∷_, map}
 use Prim.Native.Nat.{_≤_}
 use native.Mathlib.Nat.{le-trans}
 use native.Mathlib.Omega.{arith}
-use lib.IntN.{ℤ}
+use lib.IntN.{ℤ, pos}
 use lib.Signed.{ltZ, leZ}
+use lib.ListN.{getD}
 use Rattle.order.specs.Lists.{All, last}
 use Rattle.order.specs.Terms.{Sorted}
 use Rattle.order.proofs.Order.{byTest}
 use Rattle.order.proofs.Lists.{all-weaken}
-use Rattle.site.specs.Site.{gap}
+use Rattle.site.specs.Site.{gap, square}
 use Rattle.site.proofs.Integers.{lt-le, le-refl, le-trans as leZ-trans}
 use Rattle.site.proofs.Distance.{gap-sym, gap-grows, gap-shrinks, square-le, squared-gap-x}
 use Rattle.sweep.specs.Strip.{Placed, pair, pairs}
 use Rattle.sweep.proofs.Geometry.{not-left}
 use Rattle.sweep.proofs.StripLaws.{leftOf}
 use Rattle.sweep.proofs.ProductLaws.{all-product}
-use Rattle.campaign.specs.Grid.{firstX, lastX, rangeGap, stripGap, squaredStripGap}
+use Rattle.campaign.specs.Grid.{rangeGap, squaredStripGap}
 
 -- ---- a strip's x range
+
+-- The x of its first site, and of its last.
+unfoldable pub firstX : List Placed → ℤ
+firstX p = getD (map (λ q. q .site .x) p) 0 (pos 0)
+
+unfoldable pub lastX : List Placed → ℤ
+lastX p = last (pos 0) (map (λ q. q .site .x) p)
+
+pub gap-by-x : (p q : List Placed) → squaredStripGap p q ≡ square (rangeGap (firstX p) (lastX p) (firstX q) (lastX q))
+unfolding squaredStripGap firstX lastX
+gap-by-x p q = refl
 
 pub from-first : (p : List Placed) → Sorted leftOf p → All (λ q. leZ (firstX p) (q .site .x) ≡ true) p
 unfolding Sorted All firstX
@@ -72,9 +84,10 @@ module _ (from to from' to' x y : ℤ) (low : leZ from x ≡ true) (high : leZ x
 module _ (p q : List Placed) where
   pair-far : (a b : Placed) → leZ (firstX p) (a .site .x) ≡ true → leZ (a .site .x) (lastX p) ≡ true → leZ (firstX q) (b .site .x) ≡ true → leZ (b .site .x) (lastX q) ≡ true
       → squaredStripGap p q ≤ pair a b .distance
-  unfolding squaredStripGap stripGap pair
+  unfolding pair
   pair-far a b h g i j =
-      le-trans (square-le (range-under (firstX p) (lastX p) (firstX q) (lastX q) (a .site .x) (b .site .x) h g i j)) (squared-gap-x (a .site) (b .site))
+      rw (gap-by-x p q)
+      (le-trans (square-le (range-under (firstX p) (lastX p) (firstX q) (lastX q) (a .site .x) (b .site .x) h g i j)) (squared-gap-x (a .site) (b .site)))
 
   row-far : (a : Placed) → leZ (firstX p) (a .site .x) ≡ true → leZ (a .site .x) (lastX p) ≡ true → (l : List Placed)
       → All (λ b. leZ (firstX q) (b .site .x) ≡ true) l → All (λ b. leZ (b .site .x) (lastX q) ≡ true) l → All

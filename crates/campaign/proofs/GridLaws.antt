@@ -1,7 +1,7 @@
 -- Laws of the jobs of a grid and of their pairs.
 use mathlib.Core.Path.{_≡_, refl, sym, ap, ap₂, _∙_}
 use mathlib.Core.Bool.{Bool, true, not}
-use mathlib.Core.List.{List, [], _∷_, _++_, append-nil, List·Memᴰ, List·Memᴰ·head, List·Memᴰ·tail, List·Permᴰ, List·Permᴰ·trans, Permᴰ·symm}
+use mathlib.Core.List.{List, [], _∷_, _++_, flatMap, append-nil, List·Memᴰ, List·Memᴰ·head, List·Memᴰ·tail, List·Permᴰ, List·Permᴰ·trans, Permᴰ·symm}
 use Prim.Native.Nat.{ℕ, zero, suc, _+_, _-_, _*_, _≤_, _<_}
 use native.Mathlib.Omega.{arith}
 use lib.Dec.{ltb}
@@ -21,8 +21,9 @@ use Rattle.entry.specs.declared.Entry.{Entry}
 use Rattle.sweep.specs.Strip.{pair, product, pairs, allPairs}
 use Rattle.sweep.proofs.ProductLaws.{perm-eq, mem-product, product-mem, length-product, product-ascends}
 use Rattle.sweep.proofs.PlaceLaws.{mem-pairs, mem-strip-pairs, whole-pairs-distinct}
-use Rattle.campaign.specs.Grid.{stripFrom, stripTo, stripAt, stripHolding, Job, jobOf, countFrom, jobs, jobPairs, jobsPairs}
-use Rattle.campaign.proofs.Gathered.{gathered, gathered-append, gathered-perm, gathered-mem, product-gathered, keep-split, members-perm}
+use Rattle.campaign.specs.Grid.{stripAt, stripHolding, Job, jobOf, countFrom, jobs, jobPairs, jobsPairs}
+use Rattle.campaign.specs.Internal.{stripFrom, stripTo}
+use Rattle.campaign.proofs.Gathered.{flat-append, flat-perm, flat-mem, product-flat, keep-split, members-perm}
 use Rattle.campaign.proofs.CutLaws.{Cut, strips-whole, length-strip, strip-holds}
 
 -- ---- the numbers of a count
@@ -112,16 +113,12 @@ pub record OfJob (ends ends' : List ℕ) (a b : List Site) (j : Job) (e : Entry)
   pub holding' : stripHolding ends' (e .second) ≡ j .second
 
 module _ (ends ends' : List ℕ) (a b : List Site) where
-  pairs-gathered : (l : List Job) → jobsPairs ends ends' a b l ≡ gathered (jobPairs ends ends' a b) l
-  unfolding jobsPairs gathered
-  pairs-gathered [] = refl
-  pairs-gathered (j ∷ l) = ap (λ (r : List Entry). jobPairs ends ends' a b j ++ r) (pairs-gathered l)
-
   pub jobs-pairs-append : (l m : List Job) → jobsPairs ends ends' a b (l ++ m) ≡ jobsPairs ends ends' a b l ++ jobsPairs ends ends' a b m
-  jobs-pairs-append l m = rw (pairs-gathered (l ++ m), pairs-gathered l, pairs-gathered m) (gathered-append (jobPairs ends ends' a b) l m)
+  unfolding jobsPairs
+  jobs-pairs-append l m = flat-append (jobPairs ends ends' a b) l m
 
   pub pairs-one : (j : Job) → jobsPairs ends ends' a b (j ∷ []) ≡ jobPairs ends ends' a b j
-  unfolding jobsPairs
+  unfolding jobsPairs flatMap
   pairs-one j = append-nil (jobPairs ends ends' a b j)
 
   -- One job more.
@@ -130,18 +127,19 @@ module _ (ends ends' : List ℕ) (a b : List Site) where
 
   -- The sequence of the jobs is free.
   pub jobs-pairs-perm : {l m : List Job} → List·Permᴰ l m → List·Permᴰ (jobsPairs ends ends' a b l) (jobsPairs ends ends' a b m)
-  jobs-pairs-perm {l} {m} p = rw (pairs-gathered l, pairs-gathered m) (gathered-perm (jobPairs ends ends' a b) p)
+  unfolding jobsPairs
+  jobs-pairs-perm p = flat-perm (jobPairs ends ends' a b) p
 
   module _ (cut : Cut (length a) ends) (cut' : Cut (length b) ends') where
     -- The pairs of all jobs are all pairs.
     pub grid-pairs : List·Permᴰ (allPairs a b) (jobsPairs ends ends' a b (jobs (length ends) (length ends')))
-    unfolding jobs pairs jobPairs
+    unfolding jobs pairs jobPairs jobsPairs
     grid-pairs =
-        let p = product-gathered pair jobOf (jobPairs ends ends' a b) (stripAt ends a) (stripAt ends' b) (λ i j. refl)
+        let p = product-flat pair jobOf (jobPairs ends ends' a b) (stripAt ends a) (stripAt ends' b) (λ i j. refl)
         (countFrom 0 (length ends)) (countFrom 0 (length ends')) in
         List·Permᴰ·trans
         (perm-eq (ap₂ (product pair) (sym (strips-whole a ends cut)) (sym (strips-whole b ends' cut'))))
-        (List·Permᴰ·trans p (perm-eq (sym (pairs-gathered (jobs (length ends) (length ends'))))))
+        p
 
     -- No pair stands twice among the pairs of distinct jobs.
     pub jobs-pairs-distinct : (test : Job → Bool) (l : List Job) → List·Permᴰ l (keep test (jobs (length ends) (length ends')))
@@ -168,7 +166,7 @@ module _ (ends ends' : List ℕ) (a b : List Site) where
 
     pub job-entry : (j : Job) → InGrid (length ends) (length ends') j → (e : Entry) → List·Memᴰ e (jobPairs ends ends' a b j)
         → OfJob ends ends' a b j e
-    unfolding jobPairs stripAt siteAt
+    unfolding jobPairs stripAt stripFrom stripTo siteAt
     job-entry j g e m =
         let w = mem-strip-pairs (stripFrom ends (j .first)) (stripTo ends (j .first)) (stripFrom ends' (j .second)) (stripTo ends' (j .second)) a b m in
         let p = mem-pairs a b (site (pos 0) (pos 0) 0) (w .4) in
@@ -183,6 +181,7 @@ module _ (ends ends' : List ℕ) (a b : List Site) where
     -- An entry of some jobs' pairs is of one of them.
     pub jobs-entry : (l : List Job) → All (InGrid (length ends) (length ends')) l → (e : Entry) → List·Memᴰ e (jobsPairs ends ends' a b l)
         → (j : Job) × List·Memᴰ j l × OfJob ends ends' a b j e
+    unfolding jobsPairs
     jobs-entry l h e m =
-        let w = gathered-mem (jobPairs ends ends' a b) l (rw pairs-gathered at m) in
+        let w = flat-mem (jobPairs ends ends' a b) l m in
         (w .0, w .1, job-entry (w .0) (all-mem (InGrid (length ends) (length ends')) h (w .1)) e (w .2))

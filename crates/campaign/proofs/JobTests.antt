@@ -38,7 +38,7 @@ use Rattle.campaign.specs.declared.Strip.{Strip}
 use Rattle.campaign.specs.Grid.{stripAt, jobOf, settled, jobPairs, squaredStripGap}
 use Rattle.campaign.specs.Keeper.{firstEnds, secondEnds, campaignRefusal}
 use Rattle.campaign.specs.Calls.{jobRefusal, skips, jobEntries, afterJob, JobValues, jobValues, jobAnswer, jobDoneAnswer}
-use Rattle.campaign.specs.Internal.{StripOf, JobAsked}
+use Rattle.campaign.specs.Internal.{stripFrom, stripTo, StripOf, JobAsked}
 use Rattle.site.proofs.Accepted.{accepted-level, accepted-order, accepted-coordinates}
 use Rattle.campaign.proofs.PlanTests.{asked-parts, first-strip, second-strip}
 use Rattle.campaign.proofs.SoundLaws.{Kept, kept, kept-sorted, kept-ready, kept-length}
@@ -124,7 +124,7 @@ module _ (c : Campaign) {s t : ℕ} {p q : Strip} (is : StripOf (take (c .«firs
 
   strips-are : (a b : List Site) → (strip (p .from) (p .to) a ≡ stripAt (firstEnds c) a s) ×
       (strip (q .from) (q .to) b ≡ stripAt (secondEnds c) b t)
-  unfolding stripAt firstEnds secondEnds
+  unfolding stripAt stripFrom stripTo firstEnds secondEnds
   strips-are a b = (rw (is .from, is .to), rw (js .from, js .to))
 
   -- What a sweep of the strips' places promises, of the strips by number.

@@ -18,7 +18,7 @@ use Rattle.entry.specs.Entry.{entry}
 use Rattle.entry.specs.Results.{Results, entriesOf, roomFor}
 use Rattle.entry.proofs.Columns.{length-entries, entry-at}
 use Rattle.campaign.specs.Grid.{jobOf, settled, stripHolding}
-use Rattle.campaign.specs.Keeper.{fits}
+use Rattle.campaign.specs.Keeper.{soundEntry}
 use Rattle.site.proofs.Distance.{numberless}
 
 -- ---- an entry
@@ -28,13 +28,13 @@ unfolding stripHolding
 holding-few ends place = length-keep (λ e. leb e place) ends
 
 module _ (marks ends ends' : List ℕ) (a b : Columns) (la : Level a) (lb : Level b) (e : Entry) where
-  pub first-outside : length (a .x) ≤ e .first → false ≡ fits marks ends ends' (sites a) (sites b) e
-  unfolding fits
+  pub first-outside : length (a .x) ≤ e .first → false ≡ soundEntry marks ends ends' (sites a) (sites b) e
+  unfolding soundEntry
   first-outside h = simp (sites-length a la, le-ltb (e .first) (length (a .x)) h)
 
   module _ (h : e .first < length (a .x)) where
-    pub second-outside : length (b .x) ≤ e .second → false ≡ fits marks ends ends' (sites a) (sites b) e
-    unfolding fits
+    pub second-outside : length (b .x) ≤ e .second → false ≡ soundEntry marks ends ends' (sites a) (sites b) e
+    unfolding soundEntry
     second-outside g =
         simp (
           sites-length a la,
@@ -46,10 +46,10 @@ module _ (marks ends ends' : List ℕ) (a b : Columns) (la : Level a) (lb : Leve
 
     module _ (g : e .second < length (b .x)) {d : ℕ}
         (is : d ≡ squaredDistance (siteAt (sites a) (e .first)) (siteAt (sites b) (e .second))) where
-      places : fits marks ends ends' (sites a) (sites b) e
+      places : soundEntry marks ends ends' (sites a) (sites b) e
           ≡ (eqb (e .distance) d && settled marks
           (jobOf (stripHolding ends (e .first)) (stripHolding ends' (e .second))))
-      unfolding fits
+      unfolding soundEntry
       places =
           simp (
             sites-length a la,
@@ -60,11 +60,11 @@ module _ (marks ends ends' : List ℕ) (a b : Columns) (la : Level a) (lb : Leve
             ← is,
           )
 
-      pub wrong-distance : (e .distance ≡ d → ⊥) → false ≡ fits marks ends ends' (sites a) (sites b) e
+      pub wrong-distance : (e .distance ≡ d → ⊥) → false ≡ soundEntry marks ends ends' (sites a) (sites b) e
       wrong-distance n = sym (places ∙ rw (ne-eqb (e .distance) d n))
 
       pub its-job : e .distance ≡ d → {s t : ℕ} {r : Bool} → s ≡ stripHolding ends (e .first) → t ≡ stripHolding ends' (e .second)
-          → r ≡ settled marks (jobOf s t) → r ≡ fits marks ends ends' (sites a) (sites b) e
+          → r ≡ settled marks (jobOf s t) → r ≡ soundEntry marks ends ends' (sites a) (sites b) e
       its-job q {s} {t} {r} p p' w =
           w ∙ ap₂ (λ (x y : ℕ). settled marks (jobOf x y)) p p' ∙ sym (places ∙ rw (eq-eqb (e .distance) d q))
 

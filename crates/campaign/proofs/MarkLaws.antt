@@ -7,7 +7,8 @@ use native.Mathlib.Omega.{arith}
 use lib.ListN.{length, getD, set, replicate, length-set}
 use lib.Seq.{getD-set-same, getD-set-other}
 use borrow.Author.Tests.{lt-ltb}
-use Rattle.campaign.specs.Grid.{Job, markOf, settled, settle, lawfulMark, lawfulMarks}
+use Rattle.campaign.specs.Grid.{Job, markOf, settled, lawfulMarks}
+use Rattle.campaign.specs.Internal.{lawfulMark}
 use Rattle.campaign.proofs.GridLaws.{InGrid}
 
 zeros-at : (n i : ℕ) → getD {A = ℕ} (replicate n 0) i 0 ≡ 0
@@ -41,8 +42,8 @@ lawful-one rows cols i (suc n) (m ∷ l) h r c =
 
 module _ (rows cols : ℕ) (few : cols ≤ 32) (j : Job) (g : InGrid rows cols j) where
   pub lawful-settled : (marks : List ℕ) → lawfulMarks rows cols 0 marks ≡ true → lawfulMarks rows cols 0
-      (settle marks j) ≡ true
-  unfolding settle markOf
+      (set marks (markOf j) 1) ≡ true
+  unfolding markOf
   lawful-settled marks h = lawful-one rows cols 0 (32 * j .first + j .second) marks h (omega (arith, g .row, g .column)) (omega (arith, g .row, g .column))
 
   -- A mark for each job.
@@ -56,17 +57,16 @@ module _ (rows cols : ℕ) (few : cols ≤ 32) (j : Job) (g : InGrid rows cols j
   mark-apart i h e = (omega (arith, g .column, h .column), omega (arith, g .column, h .column))
 
 -- As many marks as before.
-pub length-settle : (marks : List ℕ) (j : Job) → length (settle marks j) ≡ length marks
-unfolding settle
+pub length-settle : (marks : List ℕ) (j : Job) → length (set marks (markOf j) 1) ≡ length marks
 length-settle marks j = length-set marks (markOf j) 1
 
 -- The job is settled.
-pub settled-same : (marks : List ℕ) (j : Job) → markOf j < length marks → settled (settle marks j) j ≡ true
-unfolding settled settle
+pub settled-same : (marks : List ℕ) (j : Job) → markOf j < length marks → settled (set marks (markOf j) 1) j ≡ true
+unfolding settled
 settled-same marks j h = rw (getD-set-same marks (markOf j) 1 0 h)
 
 -- Any other job is as before.
-pub settled-other : (marks : List ℕ) (i j : Job) → (markOf i ≡ markOf j → ⊥) → settled (settle marks j) i
+pub settled-other : (marks : List ℕ) (i j : Job) → (markOf i ≡ markOf j → ⊥) → settled (set marks (markOf j) 1) i
     ≡ settled marks i
-unfolding settled settle
+unfolding settled
 settled-other marks i j h = rw (getD-set-other marks (markOf j) (markOf i) 1 0 h)

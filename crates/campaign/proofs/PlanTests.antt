@@ -8,14 +8,16 @@ use lib.Dec.{leb, eqb}
 use lib.ListN.{length, take}
 use lib.Seq.{length-take-le}
 use borrow.Author.Tests.{leb-true, eqb-true}
+use Rattle.order.specs.Lists.{keep}
+use Rattle.site.specs.declared.Site.{Site}
 use Rattle.site.proofs.Cases.{and-first, and-second}
 use Rattle.entry.specs.Entry.{lawfulK}
 use Rattle.entry.proofs.Rank.{k-limits}
 use Rattle.campaign.specs.declared.Campaign.{Campaign}
 use Rattle.campaign.specs.declared.Settled.{Settled}
-use Rattle.campaign.specs.Grid.{lawfulEnds, stripFrom, stripTo, jobOf, lawfulMarks, settledJobs}
-use Rattle.campaign.specs.Keeper.{firstEnds, secondEnds, soundEnds, settledTotal, rightCount}
-use Rattle.campaign.specs.Internal.{Cutting, Tally, SoundPlan, JobAsked, soundPlan}
+use Rattle.campaign.specs.Grid.{lawfulEnds, jobOf, jobs, lawfulMarks, settled, settledJobs, jobsPairs}
+use Rattle.campaign.specs.Keeper.{firstEnds, secondEnds}
+use Rattle.campaign.specs.Internal.{stripFrom, stripTo, lawfulSlots, Cutting, Tally, SoundPlan, JobAsked, soundPlan, rightCount}
 use Rattle.campaign.proofs.CutLaws.{lawful-cut, strip-inside}
 use Rattle.campaign.proofs.EndLaws.{lawful-cuts, sampled}
 
@@ -27,22 +29,18 @@ module _ (c : Campaign) (n m : ℕ) where
   unlawful-k h = simp h
 
   module _ (k : lawfulK (c .k) ≡ true) where
-    pub unlawful-first : (leb (c .«first_strips») 32 && lawfulEnds n (take (c .«first_strips») (c .«first_ends»)))
-        ≡ false → false ≡ soundPlan c n m
-    unfolding soundPlan soundEnds firstEnds
+    pub unlawful-first : lawfulSlots n (c .«first_strips») (c .«first_ends») ≡ false → false ≡ soundPlan c n m
+    unfolding soundPlan
     unlawful-first h = simp (k, h)
 
-    module _ (first : (leb (c .«first_strips») 32 && lawfulEnds n (take (c .«first_strips») (c .«first_ends»)))
-        ≡ true) where
-      pub unlawful-second : (leb (c .«second_strips») 32 && lawfulEnds m
-          (take (c .«second_strips») (c .«second_ends»))) ≡ false → false ≡ soundPlan c n m
-      unfolding soundPlan soundEnds firstEnds secondEnds
+    module _ (first : lawfulSlots n (c .«first_strips») (c .«first_ends») ≡ true) where
+      pub unlawful-second : lawfulSlots m (c .«second_strips») (c .«second_ends») ≡ false → false ≡ soundPlan c n m
+      unfolding soundPlan
       unlawful-second h = simp (k, first, h)
 
-      pub marks-decide : {r : Bool} →
-          (leb (c .«second_strips») 32 && lawfulEnds m (take (c .«second_strips») (c .«second_ends»))) ≡ true
+      pub marks-decide : {r : Bool} → lawfulSlots m (c .«second_strips») (c .«second_ends») ≡ true
           → r ≡ lawfulMarks (c .«first_strips») (c .«second_strips») 0 (c .marks) → r ≡ soundPlan c n m
-      unfolding soundPlan soundEnds firstEnds secondEnds
+      unfolding soundPlan
       marks-decide h w = w ∙ simp (k, first, h)
 
 -- ---- what a plan with no fault is
@@ -55,31 +53,31 @@ pub record PlanParts (c : Campaign) (n m : ℕ) : Type 0 where
   pub second : lawfulEnds m (secondEnds c) ≡ true
   pub marks : lawfulMarks (c .«first_strips») (c .«second_strips») 0 (c .marks) ≡ true
 
-ends-parts : (c : Campaign) (n m : ℕ) → soundEnds c n m ≡ true
-    → (c .«first_strips» ≤ 32) × (c .«second_strips» ≤ 32) × (lawfulEnds n (firstEnds c) ≡ true) × (lawfulEnds m (secondEnds c) ≡ true)
-unfolding soundEnds
-ends-parts c n m h =
-    let f = leb (c .«first_strips») 32 in
-    let s = leb (c .«second_strips») 32 in
-    let e = lawfulEnds n (firstEnds c) in
-    let e' = lawfulEnds m (secondEnds c) in
-    let p = and-first (f && e) (s && e') h in
-    let q = and-second (f && e) (s && e') h in
-    (leb-true _ 32 (and-first f e p), leb-true _ 32 (and-first s e' q), and-second f e p, and-second s e' q)
+slots-parts : (n used : ℕ) (slots : List ℕ) → lawfulSlots n used slots ≡ true
+    → (used ≤ 32) × (lawfulEnds n (take used slots) ≡ true)
+unfolding lawfulSlots
+slots-parts n used slots h =
+    let f = leb used 32 in
+    let e = lawfulEnds n (take used slots) in
+    (leb-true used 32 (and-first f e h), and-second f e h)
 
 pub plan-parts : (c : Campaign) (n m : ℕ) → soundPlan c n m ≡ true → PlanParts c n m
-unfolding soundPlan
+unfolding soundPlan firstEnds secondEnds
 plan-parts c n m h =
+    let f = lawfulSlots n (c .«first_strips») (c .«first_ends») in
+    let s = lawfulSlots m (c .«second_strips») (c .«second_ends») in
     let marks = lawfulMarks (c .«first_strips») (c .«second_strips») 0 (c .marks) in
-    let p = and-second (lawfulK (c .k)) (soundEnds c n m && marks) h in
-    let e = ends-parts c n m (and-first (soundEnds c n m) marks p) in
+    let p = and-second (lawfulK (c .k)) (f && (s && marks)) h in
+    let q = and-second f (s && marks) p in
+    let first = slots-parts n (c .«first_strips») (c .«first_ends») (and-first f (s && marks) p) in
+    let second = slots-parts m (c .«second_strips») (c .«second_ends») (and-first s marks q) in
     record {
-      k = and-first (lawfulK (c .k)) (soundEnds c n m && marks) h;
-      rows = e .0;
-      cols = e .1;
-      first = e .2;
-      second = e .3;
-      marks = and-second (soundEnds c n m) marks p;
+      k = and-first (lawfulK (c .k)) (f && (s && marks)) h;
+      rows = first .0;
+      cols = second .0;
+      first = first .1;
+      second = second .1;
+      marks = and-second s marks q;
     }
 
 pub sound-plan : (c : Campaign) (n m : ℕ) → n ≤ 65_535 → m ≤ 65_535 → soundPlan c n m ≡ true → SoundPlan c
@@ -109,31 +107,31 @@ in-use-below' c l h g = omega (arith, in-use (c .«second_ends») (c .«second_s
 
 pub tally-plan : (c : Campaign) (r : Settled) → length (c .«first_ends») ≡ 32 → length (c .«second_ends») ≡ 32 → SoundPlan c
     → Tally (take (c .«first_strips») (c .«first_ends»)) (take (c .«second_strips») (c .«second_ends»))
-    (settledJobs (c .marks) (length (take (c .«first_strips») (c .«first_ends»))) (length (take (c .«second_strips») (c .«second_ends»)))) r
-    → Tally (firstEnds c) (secondEnds c) (settledJobs (c .marks) (c .«first_strips») (c .«second_strips»)) r
-unfolding firstEnds secondEnds
+    (keep (settled (c .marks)) (jobs (length (take (c .«first_strips») (c .«first_ends»))) (length (take (c .«second_strips») (c .«second_ends»))))) r
+    → Tally (firstEnds c) (secondEnds c) (settledJobs c) r
+unfolding firstEnds secondEnds settledJobs
 tally-plan c r f s p t =
     rw (← in-use (c .«first_ends») (c .«first_strips») f (p .rows), ← in-use (c .«second_ends») (c .«second_strips») s (p .cols)) at t
 
 -- ---- the entry count
 
-module _ (c : Campaign) (r : Settled) (t : Tally (firstEnds c) (secondEnds c) (settledJobs (c .marks) (c .«first_strips») (c .«second_strips»)) r) where
-  total-is : Cutting (firstEnds c) (secondEnds c) (λ a b. r .pairs ≡ settledTotal c a b)
-  unfolding settledTotal
-  total-is = t .pairs
+-- The settled jobs' pair total.
+abbrev total : Campaign → List Site → List Site → ℕ
+total c a b = length (jobsPairs (firstEnds c) (secondEnds c) a b (settledJobs c))
 
+module _ (c : Campaign) (r : Settled) (t : Tally (firstEnds c) (secondEnds c) (settledJobs c) r) where
   pub count-k : c .k ≤ r .pairs → Cutting (firstEnds c) (secondEnds c)
       (λ a b. eqb (c .entries) (c .k) ≡ rightCount c a b)
   unfolding rightCount
   count-k h = record {
-    cut = λ a b f g. let e : min (c .k) (settledTotal c a b) ≡ c .k = omega (arith, total-is .cut a b f g) in rw e;
+    cut = λ a b f g. let e : min (c .k) (total c a b) ≡ c .k = omega (arith, t .pairs .cut a b f g) in rw e;
   }
 
   pub count-total : r .pairs < c .k → Cutting (firstEnds c) (secondEnds c)
       (λ a b. eqb (c .entries) (r .pairs) ≡ rightCount c a b)
   unfolding rightCount
   count-total h = record {
-    cut = λ a b f g. let e : min (c .k) (settledTotal c a b) ≡ r .pairs = omega (arith, total-is .cut a b f g) in rw e;
+    cut = λ a b f g. let e : min (c .k) (total c a b) ≡ r .pairs = omega (arith, t .pairs .cut a b f g) in rw e;
   }
 
 -- The right count is at most K.
@@ -144,7 +142,7 @@ unfolding rightCount
 count-few c n m h w t =
     let p = plan-parts c n m h in
     let s = sampled n m (p .first) (p .second) w in
-    omega (arith, eqb-true (c .entries) (min (c .k) (settledTotal c (s .0) (s .1))) (sym (s .4) ∙ t))
+    omega (arith, eqb-true (c .entries) (min (c .k) (total c (s .0) (s .1))) (sym (s .4) ∙ t))
 
 -- ---- a job's strips
 

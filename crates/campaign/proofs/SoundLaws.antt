@@ -3,7 +3,6 @@ use mathlib.Core.Path.{_≡_, sym, _∙_}
 use mathlib.Core.Bool.{true, not, cond, _&&_}
 use Prim.Native.Nat.{ℕ, min, _≤_}
 use native.Mathlib.Omega.{arith}
-use lib.Dec.{eqb}
 use lib.ListN.{length}
 use borrow.Author.Tests.{eqb-true}
 use Rattle.order.specs.Order.{ascending}
@@ -21,8 +20,8 @@ use Rattle.entry.specs.Terms.{Ready}
 use Rattle.entry.proofs.Rank.{rank-order}
 use Rattle.entry.proofs.Columns.{length-entries}
 use Rattle.campaign.specs.declared.Campaign.{Campaign}
-use Rattle.campaign.specs.Keeper.{soundEntry, settledTotal, rightCount, sound, campaignRefusal}
-use Rattle.campaign.specs.Internal.{SoundPlan, soundPlan, entriesSound}
+use Rattle.campaign.specs.Keeper.{firstEnds, secondEnds, soundEntry, sound, campaignRefusal}
+use Rattle.campaign.specs.Internal.{SoundPlan, soundPlan, rightCount, entriesSound}
 use Rattle.site.proofs.Accepted.{accepted-level, accepted-few, both-accepted}
 use Rattle.campaign.proofs.PlanTests.{sound-plan}
 use Rattle.campaign.proofs.SoundTests.{steps}
@@ -41,9 +40,9 @@ module _ (c : Campaign) (a b : Columns) (r : Results) where
   kept-by ok h =
       let p = soundPlan c (length (a .x)) (length (b .x)) in
       let q = roomFor (c .k) r in
-      let n = eqb (c .entries) (min (c .k) (settledTotal c (sites a) (sites b))) in
+      let n = rightCount c (sites a) (sites b) in
       let o = ascending rankBefore (entriesOf (c .entries) r) in
-      let e = all (soundEntry c (sites a) (sites b)) (entriesOf (c .entries) r) in
+      let e = all (soundEntry (c .marks) (firstEnds c) (secondEnds c) (sites a) (sites b)) (entriesOf (c .entries) r) in
       let t : (p && (q && (n && (o && e)))) ≡ true =
       sym (steps c a b r (accepted-level a (ok .0)) (accepted-level b (ok .1))) ∙ h in
       let u = and-second p (q && (n && (o && e))) t in
@@ -52,12 +51,7 @@ module _ (c : Campaign) (a b : Columns) (r : Results) where
         lists = ok;
         plan = and-first p (q && (n && (o && e))) t;
         room = and-first q (n && (o && e)) u;
-        most =
-            omega (
-              arith,
-              eqb-true (c .entries) (min (c .k) (settledTotal c (sites a) (sites b)))
-                  (and-first n (o && e) v),
-            );
+        most = omega (arith, eqb-true (c .entries) (min (c .k) _) (and-first n (o && e) v));
         order = and-first o e (and-second n (o && e) v);
       }
 

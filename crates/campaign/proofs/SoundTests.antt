@@ -17,16 +17,17 @@ use Rattle.entry.specs.Entry.{rankBefore, lawfulK}
 use Rattle.entry.specs.Results.{Results, entriesOf, roomFor}
 use Rattle.campaign.specs.declared.Campaign.{Campaign}
 use Rattle.campaign.specs.Grid.{lawfulMarks}
-use Rattle.campaign.specs.Internal.{Cutting, soundPlan, entriesSound}
-use Rattle.campaign.specs.Keeper.{firstEnds, secondEnds, soundEnds, fits, soundEntry, rightCount, sound, campaignRefusal}
+use Rattle.campaign.specs.Internal.{lawfulSlots, Cutting, soundPlan, rightCount, entriesSound}
+use Rattle.campaign.specs.Keeper.{firstEnds, secondEnds, soundEntry, sound, campaignRefusal}
 use Rattle.campaign.proofs.PlanTests.{plan-parts}
 
 -- ---- the tests
 
-regroup : (k e m rest : Bool) → (k && (e && (m && rest))) ≡ (k && (e && m) && rest)
-regroup true true m rest = refl
-regroup true false m rest = refl
-regroup false e m rest = refl
+regroup : (k f s m rest : Bool) → (k && (f && (s && (m && rest)))) ≡ ((k && (f && (s && m))) && rest)
+regroup true true true m rest = refl
+regroup true true false m rest = refl
+regroup true false s m rest = refl
+regroup false f s m rest = refl
 
 last-first : (p q r : Bool) → (p && (q && r)) ≡ (r && (p && q))
 last-first true true true = refl
@@ -39,12 +40,14 @@ last-first false q false = refl
 module _ (c : Campaign) (a b : List Site) (r : Results) where
   sound-is : sound c a b r ≡ (soundPlan c (length a) (length b) &&
       (roomFor (c .k) r && (rightCount c a b && entriesSound c a b r)))
-  unfolding sound soundPlan entriesSound
+  unfolding sound soundPlan lawfulSlots firstEnds secondEnds rightCount entriesSound
   sound-is =
-      regroup (lawfulK (c .k)) (soundEnds c (length a) (length b)) (lawfulMarks (c .«first_strips») (c .«second_strips») 0 (c .marks)) _
-      ∙ ap (λ (t : Bool). (lawfulK (c .k) && (soundEnds c (length a) (length b) && lawfulMarks (c .«first_strips») (c .«second_strips») 0 (c .marks))) && (roomFor (c .k) r && t))
-      (last-first (ascending rankBefore (entriesOf (c .entries) r)) (all (soundEntry c a b) (entriesOf (c .entries) r))
-      (rightCount c a b))
+      regroup (lawfulK (c .k)) (lawfulSlots (length a) (c .«first_strips») (c .«first_ends»))
+      (lawfulSlots (length b) (c .«second_strips») (c .«second_ends»))
+      (lawfulMarks (c .«first_strips») (c .«second_strips») 0 (c .marks)) _
+      ∙ ap (λ (t : Bool). soundPlan c (length a) (length b) && (roomFor (c .k) r && t))
+      (last-first (ascending rankBefore (entriesOf (c .entries) r))
+      (all (soundEntry (c .marks) (firstEnds c) (secondEnds c) a b) (entriesOf (c .entries) r)) (rightCount c a b))
 
   pub order-fails : ascending rankBefore (entriesOf (c .entries) r) ≡ false → false ≡ entriesSound c a b r
   unfolding entriesSound
@@ -52,10 +55,10 @@ module _ (c : Campaign) (a b : List Site) (r : Results) where
 
   -- `l` is the entries, as they were read.
   pub entries-decide : {l : List Entry} → l ≡ entriesOf (c .entries) r → ascending rankBefore (entriesOf (c .entries) r) ≡ true → {t : Bool}
-      → t ≡ all (fits (c .marks) (take (c .«first_strips») (c .«first_ends»))
+      → t ≡ all (soundEntry (c .marks) (take (c .«first_strips») (c .«first_ends»))
       (take (c .«second_strips») (c .«second_ends»)) a b) l
       → t ≡ entriesSound c a b r
-  unfolding entriesSound soundEntry firstEnds secondEnds
+  unfolding entriesSound firstEnds secondEnds
   entries-decide read h e = e ∙ rw read (simp h)
 
 module _ (c : Campaign) (a b : Columns) (r : Results) (la : Level a) (lb : Level b) where

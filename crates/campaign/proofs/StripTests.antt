@@ -15,7 +15,8 @@ use Rattle.site.specs.Terms.{Level}
 use Rattle.site.proofs.Columns.{nowhere, sites-length, sites-at}
 use Rattle.sweep.specs.Strip.{Placed, strip}
 use Rattle.sweep.proofs.PlaceLaws.{placed, strip-at, length-strip-within}
-use Rattle.campaign.specs.Grid.{firstX, lastX, rangeGap, stripGap, squaredStripGap}
+use Rattle.campaign.specs.Grid.{rangeGap, squaredStripGap}
+use Rattle.campaign.proofs.GapLaws.{firstX, lastX, gap-by-x}
 
 first-x : (p : List Placed) (d : Placed) → 0 < length p → firstX p ≡ getD p 0 d .site .x
 unfolding firstX
@@ -57,9 +58,14 @@ pub strip-gap : (a b : Columns) → Level a → Level b → (from to from' to' :
     → square (rangeGap (getD (a .x) from (pos 0)) (getD (a .x) (to - 1) (pos 0)) (getD (b .x) from' (pos 0))
     (getD (b .x) (to' - 1) (pos 0)))
     ≡ squaredStripGap (strip from to (sites a)) (strip from' to' (sites b))
-unfolding squaredStripGap stripGap
 strip-gap a b la lb from to from' to' h i h' i' =
-    rw (strip-first a la from to h i, strip-last a la from to h i, strip-first b lb from' to' h' i', strip-last b lb from' to' h' i')
+    rw (
+      gap-by-x (strip from to (sites a)) (strip from' to' (sites b)),
+      strip-first a la from to h i,
+      strip-last a la from to h i,
+      strip-first b lb from' to' h' i',
+      strip-last b lb from' to' h' i',
+    )
 
 -- ---- the gap of two ranges, test by test
 

@@ -1,7 +1,7 @@
 -- Counting settled jobs and their pairs.
 use mathlib.Core.Path.{_≡_, refl, sym, ap, _∙_}
 use mathlib.Core.Bool.{true, false}
-use mathlib.Core.List.{List, [], _∷_, _++_, map}
+use mathlib.Core.List.{List, [], _∷_, _++_, map, flatMap}
 use Prim.Native.Nat.{ℕ, zero, suc, _+_, _*_, _-_, _≤_, _<_}
 use native.Mathlib.Nat.{mul-le-mul}
 use native.Mathlib.Omega.{arith}
@@ -14,15 +14,15 @@ use Rattle.sweep.specs.Strip.{whole, strip, pair, product, pairs}
 use Rattle.sweep.proofs.ProductLaws.{product-nil, product-cons, length-product}
 use Rattle.sweep.proofs.PlaceLaws.{length-whole}
 use Rattle.campaign.specs.declared.Settled.{Settled}
-use Rattle.campaign.specs.Grid.{lastEnd, stripFrom, stripTo, stripAt, Job, jobOf, countFrom, jobs, settled, settledJobs, jobPairs, jobsPairs}
-use Rattle.campaign.specs.Internal.{Cuts, Cutting, Tally}
+use Rattle.campaign.specs.Grid.{stripAt, Job, jobOf, countFrom, jobs, settled, jobPairs, jobsPairs}
+use Rattle.campaign.specs.Internal.{lastEnd, stripFrom, stripTo, Cuts, Cutting, Tally}
 use Rattle.campaign.proofs.CutLaws.{lawful-cut}
 use Rattle.campaign.proofs.EndLaws.{cut-low, sampled}
 use Rattle.campaign.proofs.GridLaws.{InGrid, jobs-pairs-append, pairs-one, length-job}
 
 -- No strip has more sites than its list.
 strip-few : (ends : List ℕ) (l : List Site) (s : ℕ) → length (stripAt ends l s) ≤ length l
-unfolding stripAt strip
+unfolding stripAt strip stripFrom stripTo
 strip-few ends l s =
     omega (
       arith,
@@ -88,7 +88,7 @@ module _ (ends ends' : List ℕ) where
   left-none l rest e w = rw (← e) w
 
   pub left-end : (l : List Job) {part : List Job} (r : Settled) → part ≡ [] → Left l part (r .jobs) (r .pairs) → Tally ends ends' l r
-  unfolding jobsPairs
+  unfolding jobsPairs flatMap
   left-end l {part} r e w =
       let lengths : length part ≡ 0 = rw e refl in
       record {
@@ -111,7 +111,7 @@ module _ (ends ends' : List ℕ) where
 
   module _ (a b : List Site) (few : length a ≤ 65_535) (few' : length b ≤ 65_535) where
     pairs-low : (l : List Job) → length (jobsPairs ends ends' a b l) ≤ 4_294_836_225 * length l
-    unfolding jobsPairs jobPairs pairs
+    unfolding jobsPairs flatMap jobPairs pairs
     pairs-low [] = omega arith
     pairs-low (j ∷ l) =
         let p = stripAt ends a (j .first) in
@@ -179,8 +179,8 @@ module _ (marks : List ℕ) (a n b : ℕ) (inside : b < n) where
 unfoldable pub rowsFrom : List ℕ → ℕ → ℕ → ℕ → List Job
 rowsFrom marks rows n a = keep (settled marks) (product jobOf (countFrom a (rows - a)) (countFrom 0 n))
 
-pub rows-whole : (marks : List ℕ) (rows n : ℕ) → settledJobs marks rows n ≡ rowsFrom marks rows n 0
-unfolding rowsFrom settledJobs jobs
+pub rows-whole : (marks : List ℕ) (rows n : ℕ) → keep (settled marks) (jobs rows n) ≡ rowsFrom marks rows n 0
+unfolding rowsFrom jobs
 rows-whole marks rows n = let e : rows - 0 ≡ rows = omega arith in rw e
 
 pub rows-on : (marks : List ℕ) (rows n a : ℕ) → a < rows
@@ -207,7 +207,7 @@ row-done ends ends' marks a n b r h w = rw (row-whole marks a n) (left-end ends 
 
 pub rows-done : (ends ends' marks : List ℕ) (rows n a : ℕ) (r : Settled) → rows ≤ a
     → Left ends ends' (rowsFrom marks rows n 0) (rowsFrom marks rows n a) (r .jobs) (r .pairs)
-    → Tally ends ends' (settledJobs marks rows n) r
+    → Tally ends ends' (keep (settled marks) (jobs rows n)) r
 rows-done ends ends' marks rows n a r h w = rw (rows-whole marks rows n) (left-end ends ends' (rowsFrom marks rows n 0) r (rows-end marks rows n a h) w)
 
 -- A row has at most 32 settled jobs, and their pairs are few enough.

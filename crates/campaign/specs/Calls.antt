@@ -3,7 +3,7 @@ use mathlib.Core.Bool.{Bool, not, cond, _&&_}
 use mathlib.Core.List.{List, [], _++_}
 use Prim.Native.Nat.{ℕ, _*_, _-_}
 use lib.Dec.{ltb}
-use lib.ListN.{length, replicate}
+use lib.ListN.{length, replicate, set}
 use Rattle.site.specs.declared.Site.{Site}
 use Rattle.site.specs.Answer.{Answer, refused, answered, answerUnless, refuseIf, orElse}
 use Rattle.site.specs.SiteList.{Columns, sites}
@@ -21,7 +21,7 @@ use Rattle.campaign.specs.declared.Outcome.the-variants as outcome
 use Rattle.campaign.specs.declared.JobDone.{JobDone}
 use Rattle.campaign.specs.declared.Status.{Status}
 use Rattle.campaign.specs.declared.Status.the-variants as status
-use Rattle.campaign.specs.Grid.{lawfulEnds, stripAt, Job, settled, settle, settledJobs, jobPairs, squaredStripGap}
+use Rattle.campaign.specs.Grid.{lawfulEnds, stripAt, Job, markOf, settled, settledJobs, jobPairs, squaredStripGap}
 use Rattle.campaign.specs.Keeper.{firstEnds, secondEnds, campaignRefusal}
 
 -- "Opening tests for 1 to 6."
@@ -81,7 +81,7 @@ jobEntries c a b l j = bestK (c .k) (l ++ jobPairs (firstEnds c) (secondEnds c) 
 unfoldable pub afterJob : Campaign → ℕ → Job → Campaign
 afterJob c count j =
     campaignOf (c .k) count (c .«first_strips») (c .«second_strips») (c .«first_ends») (c .«second_ends»)
-    (settle (c .marks) j)
+    (set (c .marks) (markOf j) 1)
 
 -- "a job, the campaign, whether it was swept or skipped, looks and distances", and the result columns; 1 is swept.
 pub record JobValues : Type 0 where
@@ -115,15 +115,13 @@ pub record StatusValues : Type 0 where
   pub entries : ℕ
   pub k : ℕ
 
+abbrev pub statusValues : ℕ → ℕ → ℕ → ℕ → StatusValues
+statusValues settled jobs entries k = record { settled = settled; jobs = jobs; entries = entries; k = k }
+
 unfoldable pub statusAnswer : Campaign → Columns → Columns → Results → Answer StatusValues
 statusAnswer c a b r =
     answerUnless (campaignRefusal c a b r)
-    (record {
-      settled = length (settledJobs (c .marks) (c .«first_strips») (c .«second_strips»));
-      jobs = c .«first_strips» * c .«second_strips»;
-      entries = c .entries;
-      k = c .k;
-    })
+    (statusValues (length (settledJobs c)) (c .«first_strips» * c .«second_strips») (c .entries) (c .k))
 
 -- The paper's number and values for each case of each answer.
 unfoldable pub openedAnswer : Opened → Answer Campaign
@@ -138,6 +136,5 @@ jobDoneAnswer d r = case (d .outcome)
     case (outcome.Refused number) = refused number
 
 unfoldable pub statusOf : Status → Answer StatusValues
-statusOf (status.Counts settled jobs entries k) =
-    answered (record { settled = settled; jobs = jobs; entries = entries; k = k })
+statusOf (status.Counts settled jobs entries k) = answered (statusValues settled jobs entries k)
 statusOf (status.Refused number) = refused number

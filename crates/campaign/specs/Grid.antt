@@ -1,35 +1,26 @@
 -- Cut ends, strips, jobs and marks.
 use mathlib.Core.Bool.{Bool, true, cond, _&&_, _||_}
-use mathlib.Core.List.{List, [], _∷_, _++_, map}
+use mathlib.Core.List.{List, [], _∷_, map, flatMap}
 use Prim.Native.Nat.{ℕ, zero, suc, _+_, _*_, _/_, _%_}
 use lib.Dec.{leb, ltb, eqb}
 use lib.IntN.{ℤ, pos}
 use lib.Signed.{ltZ}
-use lib.ListN.{length, getD, set}
+use lib.ListN.{length, getD}
 use Rattle.order.specs.Order.{ascending}
 use Rattle.order.specs.Lists.{keep, last}
 use Rattle.site.specs.declared.Site.{Site}
 use Rattle.site.specs.Site.{gap, square}
 use Rattle.entry.specs.declared.Entry.{Entry}
 use Rattle.sweep.specs.Strip.{Placed, strip, product, pairs}
-
--- The last of the ends, or 0 where there are none.
-unfoldable pub lastEnd : List ℕ → ℕ
-lastEnd ends = last 0 ends
+use Rattle.campaign.specs.declared.Campaign.{Campaign}
 
 -- "at most 32 per list, strictly ascending, each above 0, the last equal to the list's length; an empty list has none."
 unfoldable pub lawfulEnds : ℕ → List ℕ → Bool
-lawfulEnds n ends = leb (length ends) 32 && (ascending ltb (0 ∷ ends) && eqb (lastEnd ends) n)
+lawfulEnds n ends = leb (length ends) 32 && (ascending ltb (0 ∷ ends) && eqb (last 0 ends) n)
 
 -- "Strip s runs from end s-1 (or 0) up to, not including, end s."
-unfoldable pub stripFrom : List ℕ → ℕ → ℕ
-stripFrom ends s = getD (0 ∷ ends) s 0
-
-unfoldable pub stripTo : List ℕ → ℕ → ℕ
-stripTo ends s = getD ends s 0
-
 unfoldable pub stripAt : List ℕ → List Site → ℕ → List Placed
-stripAt ends l s = strip (stripFrom ends s) (stripTo ends s) l
+stripAt ends l s = strip (getD (0 ∷ ends) s 0) (getD ends s 0) l
 
 -- The strip that holds a place: as many ends as are at most the place stand before it.
 unfoldable pub stripHolding : List ℕ → ℕ → ℕ
@@ -60,21 +51,14 @@ markOf j = 32 * j .first + j .second
 unfoldable pub settled : List ℕ → Job → Bool
 settled marks j = eqb (getD marks (markOf j) 0) 1
 
--- "Either way it becomes settled": the marks with a job's mark set.
-unfoldable pub settle : List ℕ → Job → List ℕ
-settle marks j = set marks (markOf j) 1
+unfoldable pub settledJobs : Campaign → List Job
+settledJobs c = keep (settled (c .marks)) (jobs (c .«first_strips») (c .«second_strips»))
 
-unfoldable pub settledJobs : List ℕ → ℕ → ℕ → List Job
-settledJobs marks rows cols = keep (settled marks) (jobs rows cols)
-
--- "a mark other than 0 or 1, or a 1 outside the jobs": mark `i` with neither fault.
-unfoldable pub lawfulMark : ℕ → ℕ → ℕ → ℕ → Bool
-lawfulMark rows cols i m = eqb m 0 || (eqb m 1 && (ltb (i / 32) rows && ltb (i % 32) cols))
-
--- Marks with neither fault, counted from mark `i`.
+-- "a mark other than 0 or 1, or a 1 outside the jobs": marks from number `i` on with neither fault.
 unfoldable pub lawfulMarks : ℕ → ℕ → ℕ → List ℕ → Bool
 lawfulMarks rows cols i [] = true
-lawfulMarks rows cols i (m ∷ l) = lawfulMark rows cols i m && lawfulMarks rows cols (suc i) l
+lawfulMarks rows cols i (m ∷ l) =
+    (eqb m 0 || (eqb m 1 && (ltb (i / 32) rows && ltb (i % 32) cols))) && lawfulMarks rows cols (suc i) l
 
 -- "A job's pairs are all pairs with the first place in its first-list strip and the second in its second-list strip."
 unfoldable pub jobPairs : List ℕ → List ℕ → List Site → List Site → Job → List Entry
@@ -82,25 +66,15 @@ jobPairs ends ends' a b j = pairs (stripAt ends a (j .first)) (stripAt ends' b (
 
 -- The pairs of some jobs, one job after the other.
 unfoldable pub jobsPairs : List ℕ → List ℕ → List Site → List Site → List Job → List Entry
-jobsPairs ends ends' a b [] = []
-jobsPairs ends ends' a b (j ∷ l) = jobPairs ends ends' a b j ++ jobsPairs ends ends' a b l
+jobsPairs ends ends' a b l = flatMap (jobPairs ends ends' a b) l
 
--- The x of a strip's first site, and of its last.
-unfoldable pub firstX : List Placed → ℤ
-firstX [] = pos 0
-firstX (p ∷ l) = p .site .x
-
-unfoldable pub lastX : List Placed → ℤ
-lastX p = last (pos 0) (map (λ q. q .site .x) p)
-
--- The difference of two ranges, 0 where they touch or overlap.
+-- The difference of two ranges of x, 0 where they touch or overlap.
 unfoldable pub rangeGap : ℤ → ℤ → ℤ → ℤ → ℕ
 rangeGap from to from' to' = cond (ltZ to from') (gap to from') (cond (ltZ to' from) (gap to' from) 0)
 
--- "The gap of two strips is the x-difference between them, 0 where their x ranges touch or overlap."
-unfoldable pub stripGap : List Placed → List Placed → ℕ
-stripGap p q = rangeGap (firstX p) (lastX p) (firstX q) (lastX q)
-
--- "the gap squared" of two strips, which a skip compares with the last squared distance.
+-- "The gap of two strips is the x-difference between them", from the first site's x to the last's; "the gap squared".
 unfoldable pub squaredStripGap : List Placed → List Placed → ℕ
-squaredStripGap p q = square (stripGap p q)
+squaredStripGap p q =
+    let xs = map (λ s. s .site .x) p in
+    let xs' = map (λ s. s .site .x) q in
+    square (rangeGap (getD xs 0 (pos 0)) (last (pos 0) xs) (getD xs' 0 (pos 0)) (last (pos 0) xs'))

@@ -1,13 +1,14 @@
 -- Terms that only this crate's functions cite: what the functions on a campaign ask, and what they tell of its parts.
 use mathlib.Core.Path.{_≡_}
-use mathlib.Core.Bool.{true, Bool, _&&_}
-use mathlib.Core.List.{List}
-use Prim.Native.Nat.{ℕ, _≤_, _<_}
-use lib.ListN.{length}
+use mathlib.Core.Bool.{true, Bool, _&&_, _||_}
+use mathlib.Core.List.{List, _∷_}
+use Prim.Native.Nat.{ℕ, _/_, _%_, min, _≤_, _<_}
+use lib.Dec.{leb, ltb, eqb}
+use lib.ListN.{length, getD, take}
 use lib.IntN.{ℤ}
 use denote.Ref.{RefT}
 use Rattle.order.specs.Order.{ascending}
-use Rattle.order.specs.Lists.{all}
+use Rattle.order.specs.Lists.{all, last}
 use Rattle.column.specs.Lent.{Lent}
 use Rattle.site.specs.declared.Site.{Site}
 use Rattle.site.specs.Terms.{Coordinates, Numbered}
@@ -16,8 +17,8 @@ use Rattle.entry.specs.Results.{Results, entriesOf, roomFor}
 use Rattle.campaign.specs.declared.Settled.{Settled}
 use Rattle.campaign.specs.declared.Strip.{Strip}
 use Rattle.campaign.specs.declared.Campaign.{Campaign}
-use Rattle.campaign.specs.Grid.{lastEnd, lawfulEnds, stripFrom, stripTo, Job, jobsPairs, lawfulMarks}
-use Rattle.campaign.specs.Keeper.{firstEnds, secondEnds, soundEnds, soundEntry}
+use Rattle.campaign.specs.Grid.{lawfulEnds, Job, settledJobs, jobsPairs, lawfulMarks}
+use Rattle.campaign.specs.Keeper.{firstEnds, secondEnds, soundEntry}
 
 -- The coordinate columns of two lawful lists.
 abbrev pub BothCoordinates : RefT (List ℤ) → RefT (List ℤ) → RefT (List ℤ) → RefT (List ℤ) → Type 0
@@ -29,12 +30,23 @@ abbrev pub NumberedLent :
 NumberedLent ax ay bx by holds =
     Numbered (ax .entry .now) (ay .entry .now) (bx .entry .now) (by .entry .now) holds
 
+-- The last of the ends, or 0 where there are none.
+abbrev pub lastEnd : List ℕ → ℕ
+lastEnd ends = last 0 ends
+
+-- Where strip `s` starts, and where it ends.
+unfoldable pub stripFrom : List ℕ → ℕ → ℕ
+stripFrom ends s = getD (0 ∷ ends) s 0
+
+unfoldable pub stripTo : List ℕ → ℕ → ℕ
+stripTo ends s = getD ends s 0
+
 -- Ends that are lawful for some list.
 pub record Cuts (ends : List ℕ) : Type 0 where
   pub lawful : lawfulEnds (lastEnd ends) ends ≡ true
   pub size : lastEnd ends ≤ 65_535
 
--- Where strip `s` starts and ends.
+-- A strip by its places.
 pub record StripOf (ends : List ℕ) (s : ℕ) (r : Strip) : Type 0 where
   pub from : r .from ≡ stripFrom ends s
   pub to : r .to ≡ stripTo ends s
@@ -52,10 +64,25 @@ pub record Tally (ends ends' : List ℕ) (l : List Job) (r : Settled) : Type 0 w
 pub record Across (ax bx : List ℤ) (holds : List Site → List Site → Type 0) : Type 0 where
   pub across : (ay by : List ℤ) → Numbered ax ay bx by holds
 
+-- Mark `i` is 0, or 1 at a job.
+unfoldable pub lawfulMark : ℕ → ℕ → ℕ → ℕ → Bool
+lawfulMark rows cols i m = eqb m 0 || (eqb m 1 && (ltb (i / 32) rows && ltb (i % 32) cols))
+
+-- At most 32 slots are in use, and the ends in them are lawful.
+unfoldable pub lawfulSlots : ℕ → ℕ → List ℕ → Bool
+lawfulSlots n used slots = leb used 32 && lawfulEnds n (take used slots)
+
 -- K, the ends and the marks of a campaign have no fault.
 unfoldable pub soundPlan : Campaign → ℕ → ℕ → Bool
 soundPlan c n m =
-    lawfulK (c .k) && (soundEnds c n m && lawfulMarks (c .«first_strips») (c .«second_strips») 0 (c .marks))
+    lawfulK (c .k)
+    && (lawfulSlots n (c .«first_strips») (c .«first_ends»)
+    && (lawfulSlots m (c .«second_strips») (c .«second_ends»)
+    && lawfulMarks (c .«first_strips») (c .«second_strips») 0 (c .marks)))
+
+-- The entry count is the lesser of K and the settled jobs' pair total.
+unfoldable pub rightCount : Campaign → List Site → List Site → Bool
+rightCount c a b = eqb (c .entries) (min (c .k) (length (jobsPairs (firstEnds c) (secondEnds c) a b (settledJobs c))))
 
 -- The columns have room for the entries.
 pub record Room (k count : ℕ) (r : Results) : Type 0 where
@@ -79,4 +106,4 @@ pub record JobAsked (c : Campaign) (n m : ℕ) (j : Job) : Type 0 where
 unfoldable pub entriesSound : Campaign → List Site → List Site → Results → Bool
 entriesSound c a b r =
     let l = entriesOf (c .entries) r in
-    ascending rankBefore l && all (soundEntry c a b) l
+    ascending rankBefore l && all (soundEntry (c .marks) (firstEnds c) (secondEnds c) a b) l

@@ -24,44 +24,27 @@ firstEnds c = take (c .«first_strips») (c .«first_ends»)
 unfoldable pub secondEnds : Campaign → List ℕ
 secondEnds c = take (c .«second_strips») (c .«second_ends»)
 
--- "the ends unlawful for the lists now lent", or more than 32: the opposite.
-unfoldable pub soundEnds : Campaign → ℕ → ℕ → Bool
-soundEnds c n m =
-    (leb (c .«first_strips») 32 && lawfulEnds n (firstEnds c))
-    && (leb (c .«second_strips») 32 && lawfulEnds m (secondEnds c))
-
 -- "with a place outside its list, a wrong squared distance or an unsettled job": an entry with no such fault.
-unfoldable pub fits : List ℕ → List ℕ → List ℕ → List Site → List Site → Entry → Bool
-fits marks ends ends' a b e =
+unfoldable pub soundEntry : List ℕ → List ℕ → List ℕ → List Site → List Site → Entry → Bool
+soundEntry marks ends ends' a b e =
     ltb (e .first) (length a)
     && (ltb (e .second) (length b)
     && (eqb (e .distance) (squaredDistance (siteAt a (e .first)) (siteAt b (e .second)))
     && settled marks (jobOf (stripHolding ends (e .first)) (stripHolding ends' (e .second)))))
 
--- The same, of a campaign's entry.
-unfoldable pub soundEntry : Campaign → List Site → List Site → Entry → Bool
-soundEntry c a b = fits (c .marks) (firstEnds c) (secondEnds c) a b
-
--- "the settled jobs' pair total": how many pairs they have.
-unfoldable pub settledTotal : Campaign → List Site → List Site → ℕ
-settledTotal c a b =
-    length (jobsPairs (firstEnds c) (secondEnds c) a b
-    (settledJobs (c .marks) (c .«first_strips») (c .«second_strips»)))
-
--- "entries other than K or the settled jobs' pair total, the lesser": the opposite.
-unfoldable pub rightCount : Campaign → List Site → List Site → Bool
-rightCount c a b = eqb (c .entries) (min (c .k) (settledTotal c a b))
-
--- A campaign and result columns with none of the faults of refusal 7.
+-- A campaign and result columns with none of the faults of refusal 7, in the order of 01's words.
 unfoldable pub sound : Campaign → List Site → List Site → Results → Bool
 sound c a b r =
+    let l = entriesOf (c .entries) r in
+    let total = length (jobsPairs (firstEnds c) (secondEnds c) a b (settledJobs c)) in
     lawfulK (c .k)
-    && (soundEnds c (length a) (length b)
+    && ((leb (c .«first_strips») 32 && lawfulEnds (length a) (firstEnds c))
+    && ((leb (c .«second_strips») 32 && lawfulEnds (length b) (secondEnds c))
     && (lawfulMarks (c .«first_strips») (c .«second_strips») 0 (c .marks)
     && (roomFor (c .k) r
-    && (ascending rankBefore (entriesOf (c .entries) r)
-    && (all (soundEntry c a b) (entriesOf (c .entries) r)
-    && rightCount c a b)))))
+    && (ascending rankBefore l
+    && (all (soundEntry (c .marks) (firstEnds c) (secondEnds c) a b) l
+    && eqb (c .entries) (min (c .k) total)))))))
 
 -- "every other campaign call, status included, is lent both lists and the columns and tests for 7 as well."
 unfoldable pub campaignRefusal : Campaign → Columns → Columns → Results → ℕ

@@ -1,13 +1,11 @@
 // Cut ends of a list: whether they are lawful, the strip that holds a place, and the slots that keep them.
 use super::Strip;
 ghost use mathlib.Core.Path.{_≡_};
-ghost use mathlib.Core.Bool.{_&&_};
 ghost use Prim.Native.Nat.{_-_, _≤_, _<_};
-ghost use lib.Dec.{leb};
 ghost use lib.ListN.{length, take};
-ghost use Rattle.campaign.specs.Grid.{lawfulEnds, stripFrom, stripTo, stripHolding};
+ghost use Rattle.campaign.specs.Grid.{lawfulEnds, stripHolding};
 ghost use Rattle.campaign.specs.Calls.{slots};
-ghost use Rattle.campaign.specs.Internal.{Cuts, StripOf};
+ghost use Rattle.campaign.specs.Internal.{lawfulSlots, stripFrom, stripTo, Cuts, StripOf};
 
 // Whether cut ends are lawful for a list of `n` sites.
 pub fn lawful(n: usize, ends: &[u32]) -> bool
@@ -30,7 +28,7 @@ pub fn lawful(n: usize, ends: &[u32]) -> bool
 
 // Whether at most 32 slots are in use, and the ends in them are lawful.
 pub fn lawful_slots(n: usize, slots: [u32; 32], used: u32) -> bool
-    ensures { λ r. ⌜ r ≡ (leb used 32 && lawfulEnds n (take used slots)) ⌝ }
+    ensures { λ r. ⌜ r ≡ lawfulSlots n used slots ⌝ }
 {
     let count = used as usize;
     if 32 < count {

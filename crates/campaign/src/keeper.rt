@@ -23,9 +23,10 @@ ghost use Rattle.campaign.specs.Internal.{
   Room,
   SoundPlan,
   soundPlan,
+  rightCount,
   entriesSound,
 };
-ghost use Rattle.campaign.specs.Keeper.{firstEnds, secondEnds, fits, rightCount, sound, campaignRefusal};
+ghost use Rattle.campaign.specs.Keeper.{firstEnds, secondEnds, soundEntry, sound, campaignRefusal};
 
 // The squared distance of the sites at two places.
 fn distance_at(ax: &[i32], ay: &[i32], bx: &[i32], by: &[i32], i: usize, j: usize) -> u64
@@ -70,7 +71,7 @@ fn fits(
     requires { ⌜ BothCoordinates ax ay bx by ⌝ }
     requires { ⌜ (length (now «first_ends») ≤ 32) × (length (now «second_ends») ≤ 32) ⌝ }
     ensures { λ r.
-        let faultless = fits (now (marks .entry)) (now («first_ends» .entry)) (now («second_ends» .entry)) in
+        let faultless = soundEntry (now (marks .entry)) (now («first_ends» .entry)) (now («second_ends» .entry)) in
         ⌜ NumberedLent ax ay bx by (λ a b. r ≡ faultless a b e) ⌝ }
 {
     let i = e.first as usize;
@@ -110,7 +111,7 @@ fn all_fit(
     requires { ⌜ (length (now «first_ends») ≤ 32) × (length (now «second_ends») ≤ 32) ⌝ }
     ensures { λ r.
         let l = lentResults distance first second .entry in
-        let faultless = fits (now (marks .entry)) (now («first_ends» .entry)) (now («second_ends» .entry)) in
+        let faultless = soundEntry (now (marks .entry)) (now («first_ends» .entry)) (now («second_ends» .entry)) in
         ⌜ NumberedLent ax ay bx by (λ a b. r ≡ all (faultless a b) (entriesOf count l)) ⌝ }
 {
     let mut i = 0;
@@ -146,9 +147,7 @@ fn sound_plan(c: Campaign, n: usize, m: usize) -> bool
 // How many jobs of a sound plan are settled, and how many pairs they have.
 pub fn settled(c: Campaign) -> Settled
     requires { ⌜ SoundPlan c ⌝ }
-    ensures { λ r.
-        let jobs = settledJobs (c .marks) (c .«first_strips») (c .«second_strips») in
-        ⌜ Tally (firstEnds c) (secondEnds c) jobs r ⌝ }
+    ensures { λ r. ⌜ Tally (firstEnds c) (secondEnds c) (settledJobs c) r ⌝ }
 {
     let rows = c.first_strips as usize;
     let cols = c.second_strips as usize;

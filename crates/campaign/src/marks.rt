@@ -4,10 +4,10 @@ use super::ends;
 ghost use mathlib.Core.Path.{_≡_};
 ghost use mathlib.Core.List.{map};
 ghost use Prim.Native.Nat.{_≤_, _<_};
-ghost use lib.ListN.{length};
+ghost use lib.ListN.{length, set};
 ghost use Rattle.order.specs.Lists.{keep};
-ghost use Rattle.campaign.specs.Grid.{jobOf, countFrom, lawfulMark, lawfulMarks, settled, settle, settledJobs};
-ghost use Rattle.campaign.specs.Internal.{Cuts, Tally};
+ghost use Rattle.campaign.specs.Grid.{jobOf, countFrom, jobs, markOf, lawfulMarks, settled};
+ghost use Rattle.campaign.specs.Internal.{lawfulMark, Cuts, Tally};
 
 // Whether mark `i` is 0, or 1 at a job.
 fn lawful_at(mark: u8, i: usize, rows: usize, cols: usize) -> bool
@@ -55,7 +55,7 @@ pub fn is_settled(marks: &[u8], a: usize, b: usize) -> bool
 // The marks with a job settled.
 pub fn settle(marks: [u8; 1024], a: usize, b: usize) -> [u8; 1024]
     requires { ⌜ (a < 32) × (b < 32) ⌝ }
-    ensures { λ r. ⌜ r ≡ settle marks (jobOf a b) ⌝ }
+    ensures { λ r. ⌜ r ≡ set marks (markOf (jobOf a b)) 1 ⌝ }
 {
     let mut settled = marks;
     settled[32 * a + b] = 1;
@@ -68,8 +68,8 @@ fn row(marks: &[u8], first_ends: &[u32], a: usize, second_ends: &[u32]) -> Settl
     ensures { λ r.
         let first = now («first_ends» .entry) in
         let second = now («second_ends» .entry) in
-        let jobs = keep (settled (now (marks .entry))) (map (jobOf a) (countFrom 0 (length second))) in
-        ⌜ Tally first second jobs r ⌝ }
+        let row = keep (settled (now (marks .entry))) (map (jobOf a) (countFrom 0 (length second))) in
+        ⌜ Tally first second row r ⌝ }
 {
     let width = ends::width(first_ends, a);
     let mut jobs: u32 = 0;
@@ -91,7 +91,8 @@ pub fn tally(marks: &[u8], first_ends: &[u32], second_ends: &[u32]) -> Settled
     ensures { λ r.
         let first = now («first_ends» .entry) in
         let second = now («second_ends» .entry) in
-        ⌜ Tally first second (settledJobs (now (marks .entry)) (length first) (length second)) r ⌝ }
+        let grid = jobs (length first) (length second) in
+        ⌜ Tally first second (keep (settled (now (marks .entry))) grid) r ⌝ }
 {
     let mut jobs: u32 = 0;
     let mut pairs: u64 = 0;

@@ -1,7 +1,7 @@
 -- `campaign::ends::to` meets its contract.
 use borrow.Author.Needs.{needs}
 use mathlib.Core.Path.{refl}
-use Rattle.campaign.specs.Grid.{stripTo}
+use Rattle.campaign.specs.Internal.{stripTo}
 use Rattle.campaign.proofs.ends.to.Statement.{statement}
 use Rattle.campaign.proofs.ends.to.Tie as tie
 

@@ -13,7 +13,7 @@ use Rattle.site.specs.Terms.{Level, Numbered}
 use Rattle.entry.specs.declared.Entry.{Entry}
 use Rattle.entry.specs.Entry.{entry}
 use Rattle.entry.specs.Results.{results, entriesOf}
-use Rattle.campaign.specs.Keeper.{fits}
+use Rattle.campaign.specs.Keeper.{soundEntry}
 use Rattle.campaign.proofs.KeeperTests.{stands-at, entries-many}
 use Rattle.campaign.proofs.Walks.{all-more, all-falls, all-end}
 use Rattle.campaign.proofs.keeper.all_fit.Statement.{statement}
@@ -23,8 +23,8 @@ abbrev Inv-loop : tie.InvT-loop
 Inv-loop distance first second count ax ay bx by first-ends second-ends marks i₀ i =
     (i ≤ count)
     × Numbered ax ay bx by
-    (λ a b. all (fits marks first-ends second-ends a b) (drop i (entriesOf count (results distance first second)))
-    ≡ all (fits marks first-ends second-ends a b) (entriesOf count (results distance first second)))
+    (λ a b. all (soundEntry marks first-ends second-ends a b) (drop i (entriesOf count (results distance first second)))
+    ≡ all (soundEntry marks first-ends second-ends a b) (entriesOf count (results distance first second)))
 
 abbrev μ-loop : tie.MeasureT-loop
 μ-loop distance first second count ax ay bx by first-ends second-ends marks i₀ i = count - i
@@ -34,7 +34,7 @@ listed s = entriesOf (s .args .count) (results (s .args .distance .now) (s .args
 
 abbrev test : tie.Start Inv-loop μ-loop → List ℕ → List ℕ → Entry → Bool
 test s an bn =
-    fits (s .args .marks .now) (s .args .first-ends .now) (s .args .second-ends .now)
+    soundEntry (s .args .marks .now) (s .args .first-ends .now) (s .args .second-ends .now)
     (sites (columns (s .args .ax .now) (s .args .ay .now) an))
     (sites (columns (s .args .bx .now) (s .args .by .now) bn))
 

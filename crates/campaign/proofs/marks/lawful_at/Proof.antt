@@ -1,6 +1,6 @@
 -- `campaign::marks::lawful_at` meets its contract.
 use borrow.Author.Tests.{eq-eqb, ne-eqb, le-ltb, lt-ltb}
-use Rattle.campaign.specs.Grid.{lawfulMark}
+use Rattle.campaign.specs.Internal.{lawfulMark}
 use Rattle.campaign.proofs.marks.lawful_at.Statement.{statement}
 use Rattle.campaign.proofs.marks.lawful_at.Tie as tie
 

@@ -1,12 +1,12 @@
 -- `campaign::marks::settle` meets its contract.
 use borrow.Author.Needs.{needs}
 use mathlib.Core.Path.{refl}
-use Rattle.campaign.specs.Grid.{markOf, settle}
+use Rattle.campaign.specs.Grid.{markOf}
 use Rattle.campaign.proofs.marks.settle.Statement.{statement}
 use Rattle.campaign.proofs.marks.settle.Tie as tie
 
 returns : tie.Need-returns
-unfolding settle markOf
+unfolding markOf
 returns c = refl
 
 pub settle-spec : {M : Type 1} → statement M
