@@ -19,7 +19,7 @@ use Rattle.site.specs.Answer.{orElse}
 use Rattle.site.specs.Site.{within, lawfulSite, siteBefore}
 use Rattle.site.specs.SiteList.{Columns, sites, siteAt}
 use Rattle.site.specs.Terms.{Level, Coordinates}
-use Rattle.site.specs.Refusal.{equalLengths, sizeFault, contentRefusal, listRefusal, listsRefusal, LawfulList}
+use Rattle.site.specs.Refusal.{equalLengths, sizeFault, contentRefusal, listRefusal, listsRefusal}
 use Rattle.site.proofs.Cases.{and-first, and-second}
 use Rattle.site.proofs.Answer.{orElse-first, orElse-second, fault-none}
 use Rattle.site.proofs.SiteOrder.{site-order}
@@ -55,19 +55,24 @@ module _ {xs ys : List ℤ} (h : Coordinates xs ys) (i : ℕ) (inside : i < leng
   coordinate-y = all-at (λ z. within z ≡ true) ys i (pos 0) (omega (arith, h .equal)) (all-holds within ys (h .ys-within))
 
 module _ (c : Columns) (ok : listRefusal c ≡ 0) where
-  accepted-size : (equalLengths c && leb (length (c .x)) 65_535) ≡ true
+  -- How many it has, and its tests.
+  abbrev n : ℕ
+  n = length (c .x)
+
+  accepted-size : (equalLengths c && (leb n 65_535 && leb n n)) ≡ true
   unfolding listRefusal sizeFault
-  accepted-size = fault-none (equalLengths c && leb (length (c .x)) 65_535) 0 (orElse-first _ (contentRefusal (sites c)) ok)
+  accepted-size = fault-none (equalLengths c && (leb n 65_535 && leb n n)) 0 (orElse-first _ (contentRefusal (sites c)) ok)
 
   pub accepted-content : contentRefusal (sites c) ≡ 0
   unfolding listRefusal
-  accepted-content = orElse-second (cond (sizeFault c) 1 0) (contentRefusal (sites c)) ok
+  accepted-content = orElse-second (cond (sizeFault c n) 1 0) (contentRefusal (sites c)) ok
 
   pub accepted-level : Level c
-  accepted-level = equal-level c (and-first (equalLengths c) (leb (length (c .x)) 65_535) accepted-size)
+  accepted-level = equal-level c (and-first (equalLengths c) (leb n 65_535 && leb n n) accepted-size)
 
   pub accepted-few : length (c .x) ≤ 65_535
-  accepted-few = leb-true (length (c .x)) 65_535 (and-second (equalLengths c) (leb (length (c .x)) 65_535) accepted-size)
+  accepted-few =
+      leb-true n 65_535 (and-first (leb n 65_535) (leb n n) (and-second (equalLengths c) (leb n 65_535 && leb n n) accepted-size))
 
   pub accepted-inside : all lawfulSite (sites c) ≡ true
   accepted-inside = content-within (sites c) accepted-content
@@ -104,6 +109,13 @@ module _ (c : Columns) (ok : listRefusal c ≡ 0) where
 pub both-accepted : (a b : Columns) → listsRefusal a b ≡ 0 → (listRefusal a ≡ 0) × (listRefusal b ≡ 0)
 unfolding listsRefusal
 both-accepted a b h = (orElse-first (listRefusal a) (listRefusal b) h, orElse-second (listRefusal a) (listRefusal b) h)
+
+-- "Three columns of equal length, 0 to 65,535 sites, strictly ascending", each site inside the limits.
+pub record LawfulList (c : Columns) : Type 0 where
+  pub level : Level c
+  pub few : length (c .x) ≤ 65_535
+  pub inside : All (λ s. lawfulSite s ≡ true) (sites c)
+  pub ascends : Ascends siteBefore (sites c)
 
 pub accepted-lawful : (c : Columns) → listRefusal c ≡ 0 → LawfulList c
 accepted-lawful c ok = record {

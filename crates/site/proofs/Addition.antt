@@ -1,10 +1,10 @@
 -- The refusal of an addition, by the tests in their order.
 use mathlib.Core.Path.{_≡_, ap, ap₂, _∙_}
-use mathlib.Core.Bool.{true, false, not, cond, _||_}
+use mathlib.Core.Bool.{Bool, true, false, not, cond, _&&_, _||_}
 use Prim.Native.Nat.{ℕ, _+_, _≤_, _<_}
 use native.Mathlib.Omega.{arith}
-use borrow.Author.Tests.{ne-eqb, eq-eqb, lt-leb, le-leb, lt-ltb, le-ltb, leb-false, not-false}
-use lib.Dec.{leb, ltb}
+use borrow.Author.Tests.{ne-eqb, eq-eqb, lt-leb, le-leb, leb-false}
+use lib.Dec.{leb}
 use lib.ListN.{length, length-take}
 use Rattle.site.specs.declared.Site.{Site}
 use Rattle.site.specs.declared.Added.the-variants.{At, Refused}
@@ -12,29 +12,35 @@ use Rattle.site.specs.Answer.{afterwards, orElse}
 use Rattle.site.specs.Site.{within, lawfulSite}
 use Rattle.site.specs.SiteList.{Columns, sites, inUse}
 use Rattle.site.specs.Terms.{Level}
-use Rattle.site.specs.Refusal.{equalLengths, contentRefusal, listRefusal}
-use Rattle.site.specs.Addition.{useFault, noRoom, placeOf, present, addRefusal, AddValues, addValues, insertSite, addAnswer, addedAnswer}
+use Rattle.site.specs.Refusal.{equalLengths, sizeFault, contentRefusal, listRefusal}
+use Rattle.site.specs.Addition.{placeOf, present, addRefusal, AddValues, insertSite, addAnswer, addedAnswer}
 use Rattle.site.proofs.Lawful.{lawful-is, level-equal, equal-level, content-left}
-use Rattle.site.proofs.Cases.{or-first, or-second}
+use Rattle.site.proofs.Cases.{and-first, or-first, or-second}
 use Rattle.site.proofs.Answer.{answer-values, answer-refused, after-refused, after-answered, first-refused, orElse-first, orElse-second, no-fault, fault-none}
 
 -- The values of an addition that is not refused.
 abbrev added : Columns → ℕ → Site → AddValues
-added c n s = let p = placeOf s (sites (inUse n c)) in addValues (insertSite p n s c) p (n + 1)
+added c n s =
+    let p = placeOf s (sites (inUse n c)) in
+    record { columns = insertSite p n s c; place = p; count = n + 1 }
+
+-- "6: adding when the columns are full or 65,535 sites are in use."
+abbrev noRoom : Columns → ℕ → Bool
+noRoom c n = leb (length (c .x)) n || leb 65_535 n
 
 module _ (c : Columns) (n : ℕ) (s : Site) where
   pub add-unequal-y : (length (c .x) ≡ length (c .y) → ⊥) → 1 ≡ addRefusal c n s
-  unfolding addRefusal useFault equalLengths orElse
+  unfolding addRefusal sizeFault equalLengths orElse
   add-unequal-y h = simp (ne-eqb (length (c .x)) (length (c .y)) h)
 
   pub add-unequal-number : length (c .x) ≡ length (c .y) → (length (c .x) ≡ length (c .number) → ⊥) → 1 ≡ addRefusal c n s
-  unfolding addRefusal useFault equalLengths orElse
+  unfolding addRefusal sizeFault equalLengths orElse
   add-unequal-number p h = simp (eq-eqb (length (c .x)) (length (c .y)) p, ne-eqb (length (c .x)) (length (c .number)) h)
 
   module _ (level : Level c) where
     pub add-many : 65_535 < n → 1 ≡ addRefusal c n s
-    unfolding addRefusal useFault orElse
-    add-many h = simp (level-equal c level, lt-ltb 65_535 n h)
+    unfolding addRefusal sizeFault orElse
+    add-many h = simp (level-equal c level, lt-leb n 65_535 h)
 
     pub in-use-level : n ≤ length (c .x) → Level (inUse n c)
     unfolding inUse
@@ -45,8 +51,8 @@ module _ (c : Columns) (n : ℕ) (s : Site) where
 
     module _ (few : n ≤ 65_535) where
       pub add-beyond : length (c .x) < n → 1 ≡ addRefusal c n s
-      unfolding addRefusal useFault orElse
-      add-beyond h = simp (level-equal c level, le-ltb 65_535 n few, lt-ltb (length (c .x)) n h)
+      unfolding addRefusal sizeFault orElse
+      add-beyond h = simp (level-equal c level, le-leb n 65_535 few, lt-leb n (length (c .x)) h)
 
       module _ (inside : n ≤ length (c .x)) where
         in-use-content : listRefusal (inUse n c) ≡ contentRefusal (sites (inUse n c))
@@ -54,8 +60,8 @@ module _ (c : Columns) (n : ℕ) (s : Site) where
         in-use-content = content-left (inUse n c) (in-use-level inside) (simp length-take (omega arith))
 
         use-left : addRefusal c n s ≡ orElse (listRefusal (inUse n c)) (orElse (cond (not (lawfulSite s)) 2 0) (orElse (cond (noRoom c n) 6 0) (cond (present s (sites (inUse n c))) 11 0)))
-        unfolding addRefusal useFault orElse
-        use-left = simp (level-equal c level, le-ltb 65_535 n few, le-ltb (length (c .x)) n inside, in-use-content)
+        unfolding addRefusal sizeFault orElse
+        use-left = simp (level-equal c level, le-leb n 65_535 few, le-leb n (length (c .x)) inside, in-use-content)
 
         pub add-content : {r : ℕ} → r ≡ listRefusal (inUse n c) → (r ≡ 0 → ⊥) → r ≡ addRefusal c n s
         add-content {r} e h = rw use-left (first-refused (orElse (cond (not (lawfulSite s)) 2 0) (orElse (cond (noRoom c n) 6 0) (cond (present s (sites (inUse n c))) 11 0))) e h)
@@ -71,20 +77,20 @@ module _ (c : Columns) (n : ℕ) (s : Site) where
 
           module _ (p : within (s .x) ≡ true) (q : within (s .y) ≡ true) where
             pub add-full : length (c .x) ≤ n → 6 ≡ addRefusal c n s
-            unfolding orElse noRoom
+            unfolding orElse
             add-full h = simp (use-left, ok, lawful-is, p, q, le-leb (length (c .x)) n h)
 
             module _ (room : n < length (c .x)) where
               pub add-most : 65_535 ≤ n → 6 ≡ addRefusal c n s
-              unfolding orElse noRoom
+              unfolding orElse
               add-most h = simp (use-left, ok, lawful-is, p, q, lt-leb (length (c .x)) n room, le-leb 65_535 n h)
 
               pub add-present : n < 65_535 → present s (sites (inUse n c)) ≡ true → 11 ≡ addRefusal c n s
-              unfolding orElse noRoom
+              unfolding orElse
               add-present h k = simp (use-left, ok, lawful-is, p, q, lt-leb (length (c .x)) n room, lt-leb 65_535 n h, k)
 
               pub add-ok : n < 65_535 → present s (sites (inUse n c)) ≡ false → 0 ≡ addRefusal c n s
-              unfolding orElse noRoom
+              unfolding orElse
               add-ok h k = simp (use-left, ok, lawful-is, p, q, lt-leb (length (c .x)) n room, lt-leb 65_535 n h, k)
 
 -- What an accepted addition has.
@@ -102,13 +108,17 @@ module _ (c : Columns) (n : ℕ) (s : Site) (ok : addRefusal c n s ≡ 0) where
   after-use : ℕ
   after-use = orElse (contentRefusal (sites (inUse n c))) after-content
 
-  use-ok : useFault c n ≡ false
-  unfolding addRefusal after-use after-content after-site after-room
-  use-ok = no-fault (useFault c n) 0 (orElse-first (cond (useFault c n) 1 0) after-use ok)
+  -- What the count in use must be.
+  abbrev small : Bool
+  small = leb n 65_535 && leb n (length (c .x))
+
+  use-ok : (equalLengths c && small) ≡ true
+  unfolding addRefusal sizeFault after-use after-content after-site after-room
+  use-ok = fault-none (equalLengths c && small) 0 (orElse-first (cond (not (equalLengths c && small)) 1 0) after-use ok)
 
   content-rest : after-use ≡ 0
   unfolding addRefusal after-use after-content after-site after-room
-  content-rest = orElse-second (cond (useFault c n) 1 0) after-use ok
+  content-rest = orElse-second (cond (sizeFault c n) 1 0) after-use ok
 
   pub added-content : contentRefusal (sites (inUse n c)) ≡ 0
   unfolding after-use
@@ -127,7 +137,7 @@ module _ (c : Columns) (n : ℕ) (s : Site) (ok : addRefusal c n s ≡ 0) where
   room-rest = orElse-second (cond (not (lawfulSite s)) 2 0) after-site site-rest
 
   room-left : (leb (length (c .x)) n || leb 65_535 n) ≡ false
-  unfolding noRoom after-site
+  unfolding after-site
   room-left = no-fault (noRoom c n) 5 (orElse-first (cond (noRoom c n) 6 0) after-room room-rest)
 
   pub added-new : present s (sites (inUse n c)) ≡ false
@@ -141,8 +151,7 @@ module _ (c : Columns) (n : ℕ) (s : Site) (ok : addRefusal c n s ≡ 0) where
   added-few = leb-false 65_535 n (or-second (leb (length (c .x)) n) (leb 65_535 n) room-left)
 
   pub added-level : Level c
-  unfolding useFault
-  added-level = equal-level c (not-false (equalLengths c) (or-first (not (equalLengths c)) (ltb 65_535 n || ltb (length (c .x)) n) use-ok))
+  added-level = equal-level c (and-first (equalLengths c) small use-ok)
 
   -- What is answered, and what the columns hold.
   module _ {p : ℕ} {d : Columns} (e : p ≡ placeOf s (sites (inUse n c))) (f : d ≡ insertSite p n s c) where

@@ -1,6 +1,7 @@
 -- The laws of gaps and squared distances.
-use mathlib.Core.Path.{_≡_, refl, ap}
+use mathlib.Core.Path.{_≡_, refl, ap, ap₂}
 use mathlib.Core.Bool.{true}
+use mathlib.Core.List.{List, [], _∷_, map}
 use Prim.Native.Nat.{ℕ, _+_, _≤_}
 use native.Mathlib.Nat.{mul-le-mul, add-zero}
 use native.Mathlib.Omega.{arith}
@@ -11,7 +12,7 @@ use lib.Signed.{leZ}
 use Rattle.order.specs.Lists.{sum}
 use Rattle.site.specs.declared.Site.{Site}
 use Rattle.site.specs.SiteList.{site}
-use Rattle.site.specs.Site.{within, gap, square, squaredDistance}
+use Rattle.site.specs.Site.{within, plane, gap, square, squaredDistance}
 use Rattle.order.proofs.Order.{byTest}
 use Rattle.site.proofs.Cases.{and-first, and-second}
 use Rattle.site.proofs.Integers.{up, down, le-sides, le-total, le-trans as leZ-trans, size-up, size-down}
@@ -83,9 +84,27 @@ pub numberless : (x y u v : ℤ) (n m : ℕ) → squaredDistance (site x y n) (s
 unfolding squaredDistance
 numberless x y u v n m = refl
 
+-- The sum of the squared differences over any coordinates: symmetric,
+abbrev pub squaredOver : List (Site → ℤ) → Site → Site → ℕ
+squaredOver coordinates s t = sum (map (λ c. square (gap (c s) (c t))) coordinates)
+
+pub squared-over-sym : (l : List (Site → ℤ)) (s t : Site) → squaredOver l s t ≡ squaredOver l t s
+unfolding sum
+squared-over-sym [] s t = refl
+squared-over-sym (c ∷ l) s t = ap₂ _+_ (ap square (gap-sym (c s) (c t))) (squared-over-sym l s t)
+
 pub squared-distance-sym : (s t : Site) → squaredDistance s t ≡ squaredDistance t s
-squared-distance-sym s t =
-    omega (arith, squared-distance-is s t, squared-distance-is t s, ap square (gap-sym (s .x) (t .x)), ap square (gap-sym (s .y) (t .y)))
+unfolding squaredDistance
+squared-distance-sym s t = squared-over-sym plane s t
+
+-- and at least the squared gap of the first.
+pub squared-gap-under : (c : Site → ℤ) (l : List (Site → ℤ)) (s t : Site) → square (gap (c s) (c t)) ≤ squaredOver (c ∷ l) s t
+unfolding sum
+squared-gap-under c l s t = omega arith
+
+pub squared-rest-under : (c : Site → ℤ) (l : List (Site → ℤ)) (s t : Site) → squaredOver l s t ≤ squaredOver (c ∷ l) s t
+unfolding sum
+squared-rest-under c l s t = omega arith
 
 pub squared-gap-x : (s t : Site) → square (gap (s .x) (t .x)) ≤ squaredDistance s t
 squared-gap-x s t = omega (arith, squared-distance-is s t)

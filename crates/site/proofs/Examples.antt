@@ -5,7 +5,7 @@ use Prim.Native.Nat.{ℕ}
 use lib.IntN.{pos, negsuc}
 use Rattle.order.specs.Lists.{all, keep}
 use Rattle.order.specs.Order.{lex, ascending}
-use Rattle.site.specs.Addition.{useFault, placeOf, present, noRoom, addRefusal}
+use Rattle.site.specs.Addition.{placeOf, present, addRefusal}
 use Rattle.site.specs.Refusal.{equalLengths, sizeFault, contentRefusal, listRefusal, listsRefusal}
 use Rattle.site.specs.Site.{within, lawfulSite, siteBefore}
 use Rattle.site.specs.SiteList.{Columns, columns, site, sites, inUse}
@@ -39,9 +39,9 @@ two-lists = refl
 -- Adding (6, 0) to three columns of which so many are in use: full before already there; the site's 2 before both.
 adding :
     map (λ n. addRefusal (byX (4 ∷ 6 ∷ 9 ∷ [])) n (site (pos 6) (pos 0) 6)) (0 ∷ 1 ∷ 2 ∷ 3 ∷ 4 ∷ []) ≡ 0 ∷ 0 ∷ 11 ∷ 6 ∷ 1 ∷ []
-unfolding byX lex ascending all keep sites zipWith inUse orElse within lawfulSite siteBefore equalLengths contentRefusal useFault placeOf present noRoom addRefusal
+unfolding byX lex ascending all keep sites zipWith inUse orElse within lawfulSite siteBefore equalLengths sizeFault contentRefusal placeOf present addRefusal
 adding = refl
 
 outside : addRefusal (byX (4 ∷ [])) 1 (site (pos 1_000_000_001) (pos 0) 6) ≡ 2
-unfolding byX lex ascending all keep sites zipWith inUse orElse within lawfulSite siteBefore equalLengths contentRefusal useFault placeOf present noRoom addRefusal
+unfolding byX lex ascending all keep sites zipWith inUse orElse within lawfulSite siteBefore equalLengths sizeFault contentRefusal placeOf present addRefusal
 outside = refl

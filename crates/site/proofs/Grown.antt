@@ -23,12 +23,12 @@ use Rattle.site.specs.Answer.{afterwards}
 use Rattle.site.specs.Site.{lawfulSite, siteBefore}
 use Rattle.site.specs.SiteList.{Columns, columns, site, sites, inUse}
 use Rattle.site.specs.Terms.{Level}
-use Rattle.site.specs.Refusal.{listRefusal, LawfulList}
+use Rattle.site.specs.Refusal.{listRefusal}
 use Rattle.site.specs.Addition.{placeOf, present, addRefusal, insertSite, addAnswer}
 use Rattle.site.proofs.SiteOrder.{site-order}
 use Rattle.site.proofs.Columns.{sites-length}
 use Rattle.site.proofs.Kept.{place-le}
-use Rattle.site.proofs.Accepted.{content-inside, content-ascends, lawful-accepted}
+use Rattle.site.proofs.Accepted.{LawfulList, content-inside, content-ascends, lawful-accepted}
 use Rattle.site.proofs.Addition.{in-use-level, added-content, added-lawful, added-new, added-room, added-few, added-level, added-after}
 
 -- An element put in at a place.

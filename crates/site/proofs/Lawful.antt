@@ -68,7 +68,7 @@ module _ (c : Columns) where
     module _ (few : length (c .x) ≤ 65_535) where
       pub content-left : listRefusal c ≡ contentRefusal (sites c)
       unfolding listRefusal sizeFault orElse
-      content-left = simp (level-equal, le-leb (length (c .x)) 65_535 few)
+      content-left = let n = length (c .x) in simp (level-equal, le-leb n 65_535 few, le-leb n n (omega arith))
 
       pub outside-x : all within (c .x) ≡ false → 2 ≡ listRefusal c
       unfolding contentRefusal orElse

@@ -2,7 +2,7 @@
 use mathlib.Core.Bool.{Bool, not, _||_}
 use mathlib.Core.List.{List}
 use Prim.Native.Nat.{ℕ, _+_}
-use lib.Dec.{leb, ltb}
+use lib.Dec.{leb}
 use lib.ListN.{length}
 use Rattle.order.specs.Lists.{all, keep}
 use Rattle.column.specs.Column.{inserted}
@@ -12,11 +12,7 @@ use Rattle.site.specs.declared.Added.the-variants.{At, Refused}
 use Rattle.site.specs.Answer.{Answer, refused, answered, answerUnless, refuseIf, orElse}
 use Rattle.site.specs.Site.{lawfulSite, siteBefore}
 use Rattle.site.specs.SiteList.{Columns, columns, sites, inUse}
-use Rattle.site.specs.Refusal.{equalLengths, contentRefusal}
-
--- "1: columns unequal, more than 65,535 sites, or (adding) a count of sites in use above the columns' length."
-unfoldable pub useFault : Columns → ℕ → Bool
-useFault c count = not (equalLengths c) || (ltb 65_535 count || ltb (length (c .x)) count)
+use Rattle.site.specs.Refusal.{sizeFault, contentRefusal}
 
 -- The place of a site in a list: how many of its sites come before it.
 unfoldable pub placeOf : Site → List Site → ℕ
@@ -26,17 +22,14 @@ placeOf s l = length (keep (λ t. siteBefore t s) l)
 unfoldable pub present : Site → List Site → Bool
 present s l = not (all (λ t. siteBefore t s || siteBefore s t) l)
 
--- "6: adding when the columns are full or 65,535 sites are in use."
-unfoldable pub noRoom : Columns → ℕ → Bool
-noRoom c count = leb (length (c .x)) count || leb 65_535 count
-
--- 1, 2, 3 for the sites in use, then 2 for the site, then 6, then 11.
+-- 1, 2, 3 for the sites in use, 2 for the new one, "6: the columns are full or 65,535 sites are in use", 11.
 unfoldable pub addRefusal : Columns → ℕ → Site → ℕ
 addRefusal c count s =
-    orElse (refuseIf (useFault c count) 1)
+    orElse (refuseIf (sizeFault c count) 1)
     (orElse (contentRefusal (sites (inUse count c)))
     (orElse (refuseIf (not (lawfulSite s)) 2)
-    (orElse (refuseIf (noRoom c count) 6) (refuseIf (present s (sites (inUse count c))) 11))))
+    (orElse (refuseIf (leb (length (c .x)) count || leb 65_535 count) 6)
+    (refuseIf (present s (sites (inUse count c))) 11))))
 
 -- "Adding puts the site at its place and moves later ones up by one."
 unfoldable pub insertSite : ℕ → ℕ → Site → Columns → Columns
@@ -49,15 +42,12 @@ pub record AddValues : Type 0 where
   pub place : ℕ
   pub count : ℕ
 
-abbrev pub addValues : Columns → ℕ → ℕ → AddValues
-addValues c place count = record { columns = c; place = place; count = count }
-
 unfoldable pub addAnswer : Columns → ℕ → Site → Answer AddValues
 addAnswer c count s =
-    let place = placeOf s (sites (inUse count c)) in
-    answerUnless (addRefusal c count s) (addValues (insertSite place count s c) place (count + 1))
+    let p = placeOf s (sites (inUse count c)) in
+    answerUnless (addRefusal c count s) (record { columns = insertSite p count s c; place = p; count = count + 1 })
 
 -- The number and the values for each case of `Added`, with the columns at exit.
 unfoldable pub addedAnswer : Added → Columns → Answer AddValues
-addedAnswer (At place count) c = answered (addValues c place count)
+addedAnswer (At place count) c = answered (record { columns = c; place = place; count = count })
 addedAnswer (Refused number) c = refused number
