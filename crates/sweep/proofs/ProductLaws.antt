@@ -6,7 +6,7 @@ use Prim.Native.Nat.{_*_}
 use native.Mathlib.Nat.{zero-mul, suc-mul}
 use native.Mathlib.Omega.{arith}
 use lib.ListN.{length, length-append, length-map}
-use mathlib.Core.List.{List, [], _∷_, _++_, map, append-assoc, List·Memᴰ, List·Memᴰ·head, List·Memᴰ·tail, List·Memᴰ·not-nil, List·Memᴰ·cases-cons, List·Memᴰ·append-cases, Memᴰ·append-left, Memᴰ·append-right, Memᴰ·map, Memᴰ·of-map, List·Permᴰ, List·Permᴰ·nil, List·Permᴰ·cons, List·Permᴰ·trans, Permᴰ·refl, Permᴰ·symm, Permᴰ·append-left, Permᴰ·append-right, List·Permᴰ·append-comm}
+use mathlib.Core.List.{List, [], _∷_, _++_, map, flatMap, append-assoc, List·Memᴰ, List·Memᴰ·head, List·Memᴰ·tail, List·Memᴰ·not-nil, List·Memᴰ·cases-cons, List·Memᴰ·append-cases, Memᴰ·append-left, Memᴰ·append-right, Memᴰ·map, Memᴰ·of-map, List·Permᴰ, List·Permᴰ·nil, List·Permᴰ·cons, List·Permᴰ·trans, Permᴰ·refl, Permᴰ·symm, Permᴰ·append-left, Permᴰ·append-right, List·Permᴰ·append-comm}
 use Rattle.order.specs.Lists.{All}
 use Rattle.order.specs.Terms.{Ascends}
 use Rattle.order.proofs.Lists.{all-append, all-map, all-weaken, mem-all}
@@ -38,26 +38,26 @@ module _ {C : Type 0} where
 
 module _ {A B C : Type 0} (f : A → B → C) where
   pub product-nil : (q : List B) → product f [] q ≡ []
-  unfolding product
+  unfolding product flatMap
   product-nil q = refl
 
   pub product-cons : (a : A) (p : List A) (q : List B) → product f (a ∷ p) q ≡ map (f a) q ++ product f p q
-  unfolding product
+  unfolding product flatMap
   product-cons a p q = refl
 
   pub product-nil-right : (p : List A) → product f p [] ≡ []
-  unfolding product
+  unfolding product flatMap
   product-nil-right [] = refl
   product-nil-right (a ∷ p) = product-nil-right p
 
   pub product-append-left : (p p′ : List A) (q : List B) → product f (p ++ p′) q ≡ product f p q ++ product f p′ q
-  unfolding product
+  unfolding product flatMap
   product-append-left [] p′ q = refl
   product-append-left (a ∷ p) p′ q = rw (product-append-left p p′ q) (sym (append-assoc (map (f a) q) (product f p q) (product f p′ q)))
 
   -- By the first column.
   pub product-cons-right : (p : List A) (b : B) (q : List B) → List·Permᴰ (product f p (b ∷ q)) (map (λ a. f a b) p ++ product f p q)
-  unfolding product
+  unfolding product flatMap
   product-cons-right [] b q = List·Permᴰ·nil
   product-cons-right (a ∷ p) b q =
       List·Permᴰ·cons refl
@@ -74,14 +74,14 @@ module _ {A B C : Type 0} (f : A → B → C) where
 
   -- What holds of each pair.
   pub all-product : (P : C → Type 0) (p : List A) (q : List B) → All (λ a. All (λ b. P (f a b)) q) p → All P (product f p q)
-  unfolding product All
+  unfolding product flatMap All
   all-product P [] q h = tt
   all-product P (a ∷ p) q h = all-append P (map (f a) q) (product f p q) (all-map P (f a) q (h .0)) (all-product P p q (h .1))
 
   -- A pair is one of each list, and each such is there.
   pub mem-product : {c : C} (p : List A) (q : List B) → List·Memᴰ c (product f p q)
       → (a : A) × (b : B) × List·Memᴰ a p × List·Memᴰ b q × (c ≡ f a b)
-  unfolding product
+  unfolding product flatMap
   mem-product [] q m = absurd (List·Memᴰ·not-nil m)
   mem-product {c} (a ∷ p) q m =
       ⊎-elim (λ (h : List·Memᴰ c (map (f a) q)). let w = Memᴰ·of-map (f a) q h in (a, w .0, List·Memᴰ·head refl, w .1, sym (w .2)))
@@ -89,7 +89,7 @@ module _ {A B C : Type 0} (f : A → B → C) where
       (List·Memᴰ·append-cases (map (f a) q) m)
 
   pub product-mem : {a : A} {b : B} (p : List A) (q : List B) → List·Memᴰ a p → List·Memᴰ b q → List·Memᴰ (f a b) (product f p q)
-  unfolding product
+  unfolding product flatMap
   product-mem [] q m n = absurd (List·Memᴰ·not-nil m)
   product-mem {a} {b} (c ∷ p) q m n =
       ⊎-elim (λ (e : a ≡ c). rw e (Memᴰ·append-left (product f p q) (Memᴰ·map (f c) n)))
@@ -97,7 +97,7 @@ module _ {A B C : Type 0} (f : A → B → C) where
       (List·Memᴰ·cases-cons m)
 
   pub length-product : (p : List A) (q : List B) → length (product f p q) ≡ length p * length q
-  unfolding product
+  unfolding product flatMap
   length-product [] q = omega (arith, zero-mul (length q))
   length-product (a ∷ p) q =
       omega (arith, length-append (map (f a) q) (product f p q), length-map q (f a), length-product p q, suc-mul (length p) (length q))
@@ -107,7 +107,7 @@ module _ {A B C : Type 0} (f : A → B → C) where
       → ((a c : A) (b d : B) → beforeA a c ≡ true → before (f a b) (f c d) ≡ true)
       → ((a : A) (b d : B) → beforeB b d ≡ true → before (f a b) (f a d) ≡ true)
       → (p : List A) (q : List B) → Ascends beforeA p → Ascends beforeB q → Ascends before (product f p q)
-  unfolding product Ascends
+  unfolding product flatMap Ascends
   product-ascends beforeA beforeB before g h [] q sp sq = tt
   product-ascends beforeA beforeB before g h (a ∷ p) q sp sq =
       ascends-join before (map (f a) q) (product f p q) (row q sq) (product-ascends beforeA beforeB before g h p q (sp .1) sq)

@@ -1,5 +1,5 @@
 -- Sites with their places, strips, and the pairs of two strips.
-use mathlib.Core.List.{List, [], _∷_, _++_, map}
+use mathlib.Core.List.{List, [], _∷_, map, flatMap}
 use Prim.Native.Nat.{ℕ, suc, _-_}
 use lib.ListN.{take, drop}
 use Rattle.site.specs.declared.Site.{Site}
@@ -30,8 +30,7 @@ pair p q = entry (squaredDistance (p .site) (q .site)) (p .place) (q .place)
 
 -- All pairs of one thing each of two lists, in the order of the first list and then of the second.
 unfoldable pub product : {A B C : Type 0} → (A → B → C) → List A → List B → List C
-product f [] q = []
-product f (a ∷ p) q = map (f a) q ++ product f p q
+product f p q = flatMap (λ a. map (f a) q) p
 
 -- All pairs of two strips, by first place and then second. (01: pair, a job's pairs.)
 unfoldable pub pairs : List Placed → List Placed → List Entry
