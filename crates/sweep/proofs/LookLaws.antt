@@ -97,7 +97,7 @@ module _ (o : Reference) (xs ys : List ℤ) (i k : ℕ) (old : Tally) (r : Resul
   same-gap = look-gap o xs ys i ∙ sym gap-is
 
   gap-fits : lookFrom o (spot xs ys i) .gap < 2 ^ 64
-  gap-fits = omega (arith, look-gap o xs ys i, squared-gap-within (o .x) (getD xs i (pos 0)) (asked .across) (coordinate-x (asked .others) i (asked .inside)))
+  gap-fits = omega (arith, look-gap o xs ys i, squared-gap-within (o .x) (getD xs i (pos 0)) (asked .lawful .x) (coordinate-x (asked .lawful .others) i (asked .inside)))
 
   -- The x-difference squared is past the reach.
   pub look-stops : old .reach < g
@@ -113,8 +113,8 @@ module _ (o : Reference) (xs ys : List ℤ) (i k : ℕ) (old : Tally) (r : Resul
     look-passes h =
         let t = asked .tally in
         let same = look-distance o xs ys i d is in
-        let most = squared-distance-within (site (o .x) (o .y) 0) (site (getD xs i (pos 0)) (getD ys i (pos 0)) 0) (asked .across) (asked .up)
-        (coordinate-x (asked .others) i (asked .inside)) (coordinate-y (asked .others) i (asked .inside)) in
+        let most = squared-distance-within (site (o .x) (o .y) 0) (site (getD xs i (pos 0)) (getD ys i (pos 0)) 0) (asked .lawful .x) (asked .lawful .y)
+        (coordinate-x (asked .lawful .others) i (asked .inside)) (coordinate-y (asked .lawful .others) i (asked .inside)) in
         gone-on k (lookFrom o (spot xs ys i)) old r t gap-fits r (old .count) (old .reach) (omega (arith, same-gap)) (updated-none k (old .count) r (t .ready))
         (sym (reach-past k (lookFrom o (spot xs ys i) .entry) (old .count) r (t .some) (t .ready) (omega arith) (omega (arith, t .reach)))) (t .reach)
 

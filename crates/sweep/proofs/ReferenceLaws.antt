@@ -29,9 +29,7 @@ pub reference-asks : {rx ry xs ys : List ℤ} {i from to k : ℕ} (swapped : Boo
     → TallyReady k t r → (t .looks ≤ 2 ^ 62) × (t .distances ≤ 2 ^ 62) → ScanAsked o xs ys from to k t r
 unfolding referenceAt
 reference-asks {i = i} swapped own at is others range inside tally fits = record {
-  across = rw is (coordinate-x own i at);
-  up = rw is (coordinate-y own i at);
-  others = others;
+  lawful = record { x = rw is (coordinate-x own i at); y = rw is (coordinate-y own i at); others = others };
   range = range;
   to-inside = inside;
   tally = tally;

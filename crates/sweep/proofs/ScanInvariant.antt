@@ -46,7 +46,7 @@ tallied-at h = record { updated = h .updated; reach = h .reach; state = h .state
 module _ {o : Reference} {xs ys : List ℤ} {from to k : ℕ} {before : Results} {old : Tally} (asked : ScanAsked o xs ys from to k old before) where
   pub invariant-starts : (all : List Placed) → length all ≤ to → ScanInvariant k before old o all all before old
   invariant-starts all n =
-      let few = asked .others .few in
+      let few = asked .lawful .others .few in
       let inside = asked .to-inside in
       record {
         updated = updated-none k (old .count) before (asked .tally .ready);
@@ -72,9 +72,7 @@ module _ {o : Reference} {xs ys : List ℤ} {from to k : ℕ} {before : Results}
     invariant-asks i is under =
         let n = ap length is in
         record {
-          across = asked .across;
-          up = asked .up;
-          others = asked .others;
+          lawful = asked .lawful;
           inside = omega (arith, asked .to-inside);
           tally = record { some = asked .tally .some; ready = p .updated .ready; reach = p .reach };
           looks-fit = omega (arith, p .looks-fit);

@@ -50,11 +50,15 @@ pub record TallyReady (k : ℕ) (t : Tally) (r : Results) : Type 0 where
   pub ready : Ready k (t .count) r
   pub reach : t .reach ≡ reachOf k (entriesOf (t .count) r)
 
--- A look asks: a reference and another site within the limits, and room to count on.
-pub record LookAsked (o : Reference) (xs ys : List ℤ) (i k : ℕ) (old : Tally) (r : Results) : Type 0 where
-  pub across : within (o .x) ≡ true
-  pub up : within (o .y) ≡ true
+-- The reference is within the limits, and the others are coordinate columns of a lawful list.
+pub record LawfulLook (o : Reference) (xs ys : List ℤ) : Type 0 where
+  pub x : within (o .x) ≡ true
+  pub y : within (o .y) ≡ true
   pub others : Coordinates xs ys
+
+-- A look asks for a place of the others, and room to count on.
+pub record LookAsked (o : Reference) (xs ys : List ℤ) (i k : ℕ) (old : Tally) (r : Results) : Type 0 where
+  pub lawful : LawfulLook o xs ys
   pub inside : i < length xs
   pub tally : TallyReady k old r
   pub looks-fit : old .looks < 2 ^ 63
@@ -62,9 +66,7 @@ pub record LookAsked (o : Reference) (xs ys : List ℤ) (i k : ℕ) (old : Tally
 
 -- A scan asks the same for the sites from place `from` up to, not including, place `to`.
 pub record ScanAsked (o : Reference) (xs ys : List ℤ) (from to k : ℕ) (old : Tally) (r : Results) : Type 0 where
-  pub across : within (o .x) ≡ true
-  pub up : within (o .y) ≡ true
-  pub others : Coordinates xs ys
+  pub lawful : LawfulLook o xs ys
   pub range : from ≤ to
   pub to-inside : to ≤ length xs
   pub tally : TallyReady k old r

@@ -4,17 +4,16 @@ use super::Reference;
 use super::Tally;
 use entry::Entry;
 ghost use mathlib.Core.Path.{_≡_};
-ghost use mathlib.Core.Bool.{true, cond};
+ghost use mathlib.Core.Bool.{cond};
 ghost use Prim.Native.Nat.{_<_};
 ghost use lib.IntN.{pos};
 ghost use lib.ListN.{length, getD};
-ghost use Rattle.site.specs.Site.{within, gap, square, squaredDistance};
+ghost use Rattle.site.specs.Site.{gap, square, squaredDistance};
 ghost use Rattle.site.specs.SiteList.{site};
-ghost use Rattle.site.specs.Terms.{Coordinates};
 ghost use Rattle.entry.specs.Entry.{entry};
 ghost use Rattle.entry.specs.Results.{results, lentResults};
 ghost use Rattle.sweep.specs.Terms.{spot};
-ghost use Rattle.sweep.specs.Internal.{lookFrom, LookAsked, LookDone};
+ghost use Rattle.sweep.specs.Internal.{lookFrom, LawfulLook, LookAsked, LookDone};
 
 // The squared x-difference of a reference and the site at a place of the other list.
 fn squared_gap_at(reference: Reference, xs: &[i32], i: usize) -> u64
@@ -26,10 +25,7 @@ fn squared_gap_at(reference: Reference, xs: &[i32], i: usize) -> u64
 
 // The squared distance of a reference and the site at a place of the other list.
 fn squared_distance_at(reference: Reference, xs: &[i32], ys: &[i32], i: usize) -> u64
-    requires { ⌜
-        (within (reference .x) ≡ true) × (within (reference .y) ≡ true)
-        × Coordinates (now xs) (now ys) × (i < length (now xs))
-        ⌝ }
+    requires { ⌜ LawfulLook reference (now xs) (now ys) × (i < length (now xs)) ⌝ }
     ensures { λ r.
         let other = site (getD (now (xs .entry)) i (pos 0)) (getD (now (ys .entry)) i (pos 0)) 0 in
         ⌜ r ≡ squaredDistance (site (reference .x) (reference .y) 0) other ⌝ }

@@ -22,10 +22,10 @@ squared-distance-requires c κs =
     let v = c .before .before in
     let s = v .before .before in
     let p = s .pre in (
-      rw (toZ-ofZ (fits-x (c .before))) (p .0),
-      rw (toZ-ofZ (fits-y c)) (p .1),
-      rw (toZ-ofZ (sfits-of (v .before .squared-distance-arg .given))) (coordinate-x (p .2) _ (p .3)),
-      rw (toZ-ofZ (sfits-of (v .squared-distance-arg2 .given))) (coordinate-y (p .2) _ (p .3)),
+      rw (toZ-ofZ (fits-x (c .before))) (p .0 .x),
+      rw (toZ-ofZ (fits-y c)) (p .0 .y),
+      rw (toZ-ofZ (sfits-of (v .before .squared-distance-arg .given))) (coordinate-x (p .0 .others) _ (p .1)),
+      rw (toZ-ofZ (sfits-of (v .squared-distance-arg2 .given))) (coordinate-y (p .0 .others) _ (p .1)),
     )
 
 returns : tie.Need-returns
