@@ -13,6 +13,7 @@ use Rattle.column.specs.Column.{overwritten}
 use Rattle.column.proofs.Overwritten.{length-overwritten, overwritten-again, overwritten-self}
 use Rattle.entry.specs.declared.Entry.{Entry}
 use Rattle.entry.specs.Entry.{entry, lastDistance}
+use Rattle.entry.specs.Terms.{entryAt}
 use Rattle.entry.specs.Results.{Results, results, entriesOf, holding, roomFor}
 use Rattle.entry.proofs.Rank.{last-distance}
 
@@ -113,7 +114,7 @@ module _ (k count : ℕ) (r : Results) (room : roomFor k r ≡ true) (most : cou
 
   -- An entry by its place.
   pub entry-at : (i : ℕ) (e : Entry) → i < count
-      → getD (entriesOf count r) i e ≡ entry (getD (r .distance) i 0) (getD (r .first) i 0) (getD (r .second) i 0)
+      → getD (entriesOf count r) i e ≡ entryAt r i
   unfolding entriesOf
   entry-at i e h =
       let n = room-lengths k r room in

@@ -2,5 +2,5 @@
 pub mod Examples
 pub mod Rank
 pub mod Columns
-pub mod Search
-pub mod Offering
+pub mod PlaceOf
+pub mod Holds

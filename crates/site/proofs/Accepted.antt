@@ -22,7 +22,7 @@ use Rattle.site.specs.Terms.{Level, Coordinates}
 use Rattle.site.specs.Refusal.{equalLengths, sizeFault, contentRefusal, listRefusal, listsRefusal}
 use Rattle.site.proofs.Cases.{and-first, and-second}
 use Rattle.site.proofs.Answer.{orElse-first, orElse-second, fault-none}
-use Rattle.site.proofs.SiteOrder.{site-order}
+use Rattle.site.proofs.SiteBefore.{site-order}
 use Rattle.site.proofs.Columns.{columnsAt, sites-length, site-at}
 use Rattle.site.proofs.Lawful.{lawful-columns, equal-level, content-left}
 

@@ -1,7 +1,7 @@
 -- A pair takes its place: a search, and one shift for each column.
 use native.Mathlib.Omega.{arith}
 use borrow.Author.Needs.{needs}
-use Rattle.entry.proofs.Offering.{ready-whole, offer-keeps, offer-inside, offer-within, offer-puts}
+use Rattle.entry.proofs.Holds.{ready-whole, offer-keeps, offer-inside, offer-within, offer-puts}
 use Rattle.entry.proofs.offer.Statement.{statement}
 use Rattle.entry.proofs.offer.Tie as tie
 

@@ -1,6 +1,6 @@
 -- `site::Site::within` meets its contract.
 use mir.Facts.{toZ-ofZ}
-use Rattle.site.proofs.Limits.{within-upper, within-lower}
+use Rattle.site.proofs.Within.{within-upper, within-lower}
 use Rattle.site.proofs.Site.within.Statement.{statement}
 use Rattle.site.proofs.Site.within.Tie as tie
 

@@ -14,7 +14,7 @@ use Rattle.site.specs.Terms.{Level}
 use Rattle.site.specs.Addition.{placeOf, addRefusal}
 use Rattle.site.proofs.Machine.{at₂}
 use Rattle.site.proofs.Columns.{sites-length}
-use Rattle.site.proofs.Kept.{place-le}
+use Rattle.site.proofs.PlaceOf.{place-le}
 use Rattle.site.proofs.Addition.{in-use-level, added-level, added-room, added-few, added-answer, added-after, refused-answer, refused-after}
 use Rattle.site.proofs.adding.add.Statement.{statement}
 use Rattle.site.proofs.adding.add.Tie as tie

@@ -15,14 +15,14 @@ use Rattle.site.specs.SiteList.{Columns, columns, site, sites, siteAt}
 use Rattle.site.specs.Addition.{present}
 use Rattle.site.proofs.Machine.{at₂}
 use Rattle.site.proofs.Columns.{sites-length}
-use Rattle.site.proofs.Misses.{misses, miss-le, misses-step, misses-end}
-use Rattle.site.proofs.Kept.{apart, present-misses}
+use Rattle.site.proofs.Counting.{failing, no-le, failing-step, failing-end}
+use Rattle.site.proofs.PlaceOf.{apart, present-failing}
 use Rattle.site.proofs.adding.is_present.Statement.{statement}
 use Rattle.site.proofs.adding.is_present.Tie as tie
 
 abbrev Inv-loop : tie.InvT-loop
 Inv-loop x y number sx sy sn same₀ i₀ same i =
-    (i ≤ length x) × (same ≤ i) × (same + misses (apart (site (toZ w32 sx) (toZ w32 sy) sn)) (drop i (sites (columns x y number))) ≡ misses (apart (site (toZ w32 sx) (toZ w32 sy) sn)) (sites (columns x y number)))
+    (i ≤ length x) × (same ≤ i) × (same + failing (apart (site (toZ w32 sx) (toZ w32 sy) sn)) (drop i (sites (columns x y number))) ≡ failing (apart (site (toZ w32 sx) (toZ w32 sy) sn)) (sites (columns x y number)))
 
 abbrev μ-loop : tie.MeasureT-loop
 μ-loop x y number sx sy sn same₀ i₀ same i = length x - i
@@ -45,16 +45,16 @@ unfolding apart
 told c = c .same-at .ensures
 
 small : (c : tie.After-same-at Inv-loop μ-loop) → c .same-at .result ≤ 1
-small c = miss-le (apart (handed (entry c)) (siteAt (sites (lent (entry c))) (c .before .before .loop .i))) (told c)
+small c = no-le (apart (handed (entry c)) (siteAt (sites (lent (entry c))) (c .before .before .loop .i))) (told c)
 
-learnt : (c : tie.After-same-at Inv-loop μ-loop) → c .same-at .result + misses (apart (handed (entry c))) (drop (c .before .before .loop .i + 1) (sites (lent (entry c)))) ≡ misses (apart (handed (entry c))) (drop (c .before .before .loop .i) (sites (lent (entry c))))
+learnt : (c : tie.After-same-at Inv-loop μ-loop) → c .same-at .result + failing (apart (handed (entry c))) (drop (c .before .before .loop .i + 1) (sites (lent (entry c)))) ≡ failing (apart (handed (entry c))) (drop (c .before .before .loop .i) (sites (lent (entry c))))
 unfolding siteAt
 learnt c =
     let l = lent (entry c) in
     let level = entry c .pre .0 in
     let i = c .before .before .loop .i in
     let k : i < length (sites l) = omega (arith, c .before .loop-test .taken, sites-length l level) in
-    rw (misses-step (apart (handed (entry c))) (sites l) i (site (pos 0) (pos 0) 0) k) (ap (λ (n : ℕ). n + misses (apart (handed (entry c))) (drop (i + 1) (sites l))) (told c))
+    rw (failing-step (apart (handed (entry c))) (sites l) i (site (pos 0) (pos 0) 0) k) (ap (λ (n : ℕ). n + failing (apart (handed (entry c))) (drop (i + 1) (sites l))) (told c))
 
 add-same : tie.Need-add-same Inv-loop μ-loop
 add-same c = omega (arith, small c, c .before .before .loop .inv, c .before .loop-test .taken, entry c .pre .1)
@@ -69,9 +69,9 @@ returns c =
     let i = c .before .loop .i in
     let h = c .loop-test .left in
     let k : length (sites l) ≤ i = omega (arith, sites-length l (e .pre .0)) in
-    let q : c .before .loop .same ≡ misses (apart (handed e)) (sites l) = omega (arith, misses-end (apart (handed e)) (sites l) i k) in
+    let q : c .before .loop .same ≡ failing (apart (handed e)) (sites l) = omega (arith, failing-end (apart (handed e)) (sites l) i k) in
     at₂ (λ (x y : ℤ). present (site x y (e .args .sn)) (sites l)) (toZ-ofZ (e .fits .sx)) (toZ-ofZ (e .fits .sy))
-    (ap (λ (n : ℕ). not (eqb n 0)) q ∙ sym (present-misses (handed e) (sites l)))
+    (ap (λ (n : ℕ). not (eqb n 0)) q ∙ sym (present-failing (handed e) (sites l)))
 
 pub is-present-spec : {M : Type 1} → statement M
 is-present-spec =

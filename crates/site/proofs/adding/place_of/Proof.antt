@@ -14,7 +14,8 @@ use Rattle.site.specs.SiteList.{Columns, columns, site, sites, siteAt}
 use Rattle.site.specs.Addition.{placeOf}
 use Rattle.site.proofs.Machine.{at₂}
 use Rattle.site.proofs.Columns.{sites-length}
-use Rattle.site.proofs.Kept.{kept-le, place-step, place-end}
+use Rattle.site.proofs.Counting.{yes-le}
+use Rattle.site.proofs.PlaceOf.{place-step, place-end}
 use Rattle.site.proofs.adding.place_of.Statement.{statement}
 use Rattle.site.proofs.adding.place_of.Tie as tie
 
@@ -40,7 +41,7 @@ earlier-at-requires c κs = (c .before .before .before .pre .0, c .loop-test .ta
 
 small : (c : tie.After-earlier-at Inv-loop μ-loop) → c .earlier-at .result ≤ 1
 small c =
-    kept-le (siteBefore (siteAt (sites (lent (entry c))) (c .before .before .loop .i)) (handed (entry c))) (c .earlier-at .ensures)
+    yes-le (siteBefore (siteAt (sites (lent (entry c))) (c .before .before .loop .i)) (handed (entry c))) (c .earlier-at .ensures)
 
 learnt : (c : tie.After-earlier-at Inv-loop μ-loop) → c .earlier-at .result + placeOf (handed (entry c)) (drop (c .before .before .loop .i + 1) (sites (lent (entry c)))) ≡ placeOf (handed (entry c)) (drop (c .before .before .loop .i) (sites (lent (entry c))))
 unfolding siteAt

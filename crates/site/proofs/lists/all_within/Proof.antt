@@ -10,13 +10,13 @@ use lib.ListN.{length, drop, getD}
 use mir.Facts.{toZ-ofZ}
 use Rattle.site.specs.Site.{within}
 use Rattle.site.proofs.Machine.{at₁}
-use Rattle.site.proofs.Misses.{misses, misses-step, misses-end, all-misses, miss-le}
+use Rattle.site.proofs.Counting.{failing, failing-step, failing-end, all-failing, no-le}
 use Rattle.site.proofs.lists.all_within.Statement.{statement}
 use Rattle.site.proofs.lists.all_within.Tie as tie
 
 abbrev Inv-loop : tie.InvT-loop
 Inv-loop column faults₀ i₀ faults i =
-    (i ≤ length column) × (faults ≤ i) × (faults + misses within (drop i column) ≡ misses within column)
+    (i ≤ length column) × (faults ≤ i) × (faults + failing within (drop i column) ≡ failing within column)
 
 abbrev μ-loop : tie.MeasureT-loop
 μ-loop column faults₀ i₀ faults i = length column - i
@@ -27,7 +27,7 @@ learnt c =
 
 small : (c : tie.After-outside Inv-loop μ-loop) → c .outside .result ≤ 1
 small c =
-    miss-le (within (getD (c .before .before .before .before .args .column .now) (c .before .before .before .loop .i) (pos 0))) (learnt c)
+    no-le (within (getD (c .before .before .before .before .args .column .now) (c .before .before .before .loop .i) (pos 0))) (learnt c)
 
 add-faults : tie.Need-add-faults Inv-loop μ-loop
 add-faults c = omega (arith, small c, c .before .before .before .loop .inv, c .before .before .loop-test .taken, c .before .before .before .before .pre)
@@ -36,14 +36,14 @@ loop-again : tie.Need-loop-again Inv-loop μ-loop
 loop-again c =
     let column = c .before .before .before .before .args .column .now in
     let i = c .before .before .before .loop .i in
-    omega (arith, small c, learnt c, misses-step within column i (pos 0) (c .before .before .loop-test .taken))
+    omega (arith, small c, learnt c, failing-step within column i (pos 0) (c .before .before .loop-test .taken))
 
 returns : tie.Need-returns Inv-loop μ-loop
 returns c =
     let column = c .before .before .args .column .now in
     let i = c .before .loop .i in
-    let e : c .before .loop .faults ≡ misses within column = omega (arith, misses-end within column i (c .loop-test .left)) in
-    ap (λ (n : ℕ). eqb n 0) e ∙ sym (all-misses within column)
+    let e : c .before .loop .faults ≡ failing within column = omega (arith, failing-end within column i (c .loop-test .left)) in
+    ap (λ (n : ℕ). eqb n 0) e ∙ sym (all-failing within column)
 
 pub all-within-spec : {M : Type 1} → statement M
 all-within-spec =

@@ -9,8 +9,7 @@ use lib.ListN.{length, drop}
 use Rattle.site.specs.Site.{siteBefore}
 use Rattle.site.specs.SiteList.{Columns, columns, site, sites, siteAt}
 use Rattle.site.proofs.Columns.{sites-length}
-use Rattle.site.proofs.Misses.{miss-le}
-use Rattle.site.proofs.Breaks.{breaks, breaks-end, breaks-step, ascending-breaks}
+use Rattle.site.proofs.Counting.{no-le, breaks, breaks-end, breaks-step, ascending-breaks}
 use Rattle.site.proofs.lists.ascends.Statement.{statement}
 use Rattle.site.proofs.lists.ascends.Tie as tie
 
@@ -46,7 +45,7 @@ learnt c =
 small : (c : tie.After-break-at Inv-loop μ-loop) → c .break-at .result ≤ 1
 small c =
     let i = c .before .before .loop .i in
-    miss-le (siteBefore (siteAt (sites (lent (entry c))) i) (siteAt (sites (lent (entry c))) (i + 1))) (c .break-at .ensures)
+    no-le (siteBefore (siteAt (sites (lent (entry c))) i) (siteAt (sites (lent (entry c))) (i + 1))) (c .break-at .ensures)
 
 add-breaks : tie.Need-add-breaks Inv-loop μ-loop
 add-breaks c = omega (arith, small c, c .before .before .loop .inv, c .before .loop-test .taken, entry c .pre .1)

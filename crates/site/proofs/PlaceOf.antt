@@ -1,6 +1,6 @@
 -- The place of a site, and whether it is there, for loops that count.
 use mathlib.Core.Path.{_≡_, ap}
-use mathlib.Core.Bool.{Bool, true, false, not, cond, _||_}
+use mathlib.Core.Bool.{Bool, not, cond, _||_}
 use mathlib.Core.List.{List, [], _∷_}
 use Prim.Native.Nat.{ℕ, suc, _+_, _≤_, _<_}
 use native.Mathlib.Numerals.{add-one}
@@ -13,11 +13,7 @@ use Rattle.site.specs.declared.Site.{Site}
 use Rattle.site.specs.Site.{siteBefore}
 use Rattle.site.specs.Addition.{placeOf, present}
 use Rattle.order.proofs.Order.{byTest}
-use Rattle.site.proofs.Misses.{misses, all-misses}
-
-pub kept-le : {n : ℕ} (b : Bool) → n ≡ cond b 1 0 → n ≤ 1
-kept-le true e = omega arith
-kept-le false e = omega arith
+use Rattle.site.proofs.Counting.{failing, all-failing}
 
 module _ (s : Site) where
   -- The place by the first site.
@@ -41,6 +37,6 @@ module _ (s : Site) where
 unfoldable pub apart : Site → Site → Bool
 apart s t = siteBefore t s || siteBefore s t
 
-pub present-misses : (s : Site) (l : List Site) → present s l ≡ not (eqb (misses (apart s) l) 0)
+pub present-failing : (s : Site) (l : List Site) → present s l ≡ not (eqb (failing (apart s) l) 0)
 unfolding present apart
-present-misses s l = ap not (all-misses (apart s) l)
+present-failing s l = ap not (all-failing (apart s) l)

@@ -25,9 +25,9 @@ use Rattle.site.specs.SiteList.{Columns, columns, site, sites, inUse}
 use Rattle.site.specs.Terms.{Level}
 use Rattle.site.specs.Refusal.{listRefusal}
 use Rattle.site.specs.Addition.{placeOf, present, addRefusal, insertSite, addAnswer}
-use Rattle.site.proofs.SiteOrder.{site-order}
+use Rattle.site.proofs.SiteBefore.{site-order}
 use Rattle.site.proofs.Columns.{sites-length}
-use Rattle.site.proofs.Kept.{place-le}
+use Rattle.site.proofs.PlaceOf.{place-le}
 use Rattle.site.proofs.Accepted.{LawfulList, content-inside, content-ascends, lawful-accepted}
 use Rattle.site.proofs.Addition.{in-use-level, added-content, added-lawful, added-new, added-room, added-few, added-level, added-after}
 

@@ -1,6 +1,6 @@
--- How many neighbours are out of order, for a loop that counts them.
+-- How many elements fail a test, and how many neighbours are out of order, for loops that count them.
 use mathlib.Core.Path.{_≡_, refl, sym}
-use mathlib.Core.Bool.{Bool, cond}
+use mathlib.Core.Bool.{Bool, true, false, cond}
 use mathlib.Core.List.{List, [], _∷_}
 use Prim.Native.Nat.{ℕ, suc, _+_, _≤_, _<_}
 use native.Mathlib.Nat.{zero-add}
@@ -8,10 +8,44 @@ use native.Mathlib.Numerals.{add-one}
 use native.Mathlib.Omega.{arith}
 use borrow.Author.Tests.{ne-eqb}
 use lib.Dec.{eqb}
-use lib.ListN.{length, drop, getD, length-drop}
+use lib.ListN.{length, drop, getD, length-drop, drop-of-length-le}
 use lib.Seq.{drop-cons}
 use Rattle.order.specs.Order.{ascending}
+use Rattle.order.specs.Lists.{all}
 use Rattle.order.proofs.Order.{byTest}
+
+-- One step of a count adds at most one.
+pub yes-le : {n : ℕ} (b : Bool) → n ≡ cond b 1 0 → n ≤ 1
+yes-le true e = omega arith
+yes-le false e = omega arith
+
+pub no-le : {n : ℕ} (b : Bool) → n ≡ cond b 0 1 → n ≤ 1
+no-le true e = omega arith
+no-le false e = omega arith
+
+-- ---- elements that fail a test
+
+unfoldable pub failing : {A : Type 0} → (A → Bool) → List A → ℕ
+failing test [] = 0
+failing test (a ∷ l) = cond (test a) 0 1 + failing test l
+
+module _ {A : Type 0} (test : A → Bool) (l : List A) (i : ℕ) where
+  pub failing-step : (d : A) → i < length l → failing test (drop i l) ≡ cond (test (getD l i d)) 0 1 + failing test (drop (i + 1) l)
+  unfolding failing
+  failing-step d h = rw (add-one, drop-cons l i d)
+
+  pub failing-end : length l ≤ i → failing test (drop i l) ≡ 0
+  unfolding failing
+  failing-end h = rw (drop-of-length-le l h)
+
+-- None fails exactly where all pass.
+pub all-failing : {A : Type 0} (test : A → Bool) (l : List A) → all test l ≡ eqb (failing test l) 0
+unfolding failing all
+all-failing test [] = refl
+all-failing test (a ∷ l) =
+    byTest (test a) (λ h. rw (h, zero-add) (all-failing test l)) (λ h. rw h (sym (ne-eqb (1 + failing test l) 0 (omega arith))))
+
+-- ---- neighbours out of order
 
 unfoldable pub breaks : {A : Type 0} → (A → A → Bool) → List A → ℕ
 breaks before [] = 0

@@ -1,11 +1,20 @@
--- The order of sites, by its steps.
+-- The order of sites: it is strict, and its steps.
 use mathlib.Core.Path.{_≡_, refl}
 use mathlib.Core.Bool.{true, false, cond}
 use lib.Dec.{ltb}
 use lib.Signed.{ltZ}
 use Rattle.order.specs.Order.{lex}
+use Rattle.order.specs.Terms.{StrictOrder}
+use Rattle.order.proofs.Order.{strict, lex-order, by-integer, by-number}
 use Rattle.site.specs.declared.Site.{Site}
 use Rattle.site.specs.Site.{siteBefore}
+
+pub site-order : StrictOrder siteBefore
+unfolding siteBefore
+site-order =
+    strict
+    (lex-order (by-integer (λ (s : Site). s .x)) (lex-order (by-integer (λ (s : Site). s .y)) (by-number (λ (s : Site). s .number))))
+    (λ a b e i. record { x = e .0 i; y = e .1 .0 i; number = e .1 .1 i })
 
 module _ (s t : Site) where
   pub before-is : siteBefore s t ≡ cond (ltZ (s .x) (t .x)) true (cond (ltZ (t .x) (s .x)) false (cond (ltZ (s .y) (t .y)) true (cond (ltZ (t .y) (s .y)) false (ltb (s .number) (t .number)))))

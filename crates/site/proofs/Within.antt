@@ -1,4 +1,4 @@
--- The coordinate limits.
+-- The laws of the coordinate limits.
 use mathlib.Core.Path.{_≡_}
 use mathlib.Core.Bool.{true, false}
 use lib.IntN.{ℤ, pos, negsuc}

@@ -5,10 +5,10 @@ use Prim.Native.Nat.{ℕ, _+_, _≤_, _<_}
 use native.Mathlib.Omega.{arith}
 use lib.ListN.{getD}
 use Rattle.entry.specs.declared.Entry.{Entry}
-use Rattle.entry.specs.Entry.{entry, rankBefore}
+use Rattle.entry.specs.Entry.{rankBefore}
 use Rattle.entry.specs.Results.{Results, entriesOf}
 use Rattle.entry.specs.Internal.{PlaceOf}
-use Rattle.entry.specs.Terms.{Ready}
+use Rattle.entry.specs.Terms.{Ready, entryAt}
 use Rattle.entry.proofs.Columns.{entry-at, length-entries}
 use Rattle.entry.proofs.Rank.{rank-order, insert-split, sorted-front}
 
@@ -24,13 +24,13 @@ module _ (e : Entry) (count : ℕ) (r : Results) (ready : Ready count count r) w
   between-starts = record { order = omega arith; within = omega arith; front = λ i h. absurd (omega arith); past = λ h. absurd (omega arith) }
 
   -- The test of an entry, as it is read from the columns.
-  read-test : (m : ℕ) (x : Entry) (t : Bool) → m < count → x ≡ entry (getD (r .distance) m 0) (getD (r .first) m 0) (getD (r .second) m 0)
+  read-test : (m : ℕ) (x : Entry) (t : Bool) → m < count → x ≡ entryAt r m
       → t ≡ rankBefore x e → rankBefore (getD (entriesOf count r) m e) e ≡ t
   read-test m x t h is test =
       ap (λ (y : Entry). rankBefore y e) (entry-at count count r (ready .room) (omega arith) m e h ∙ sym is) ∙ sym test
 
   module _ (low high m : ℕ) (x : Entry) (t : Bool) (under : m < high)
-      (is : x ≡ entry (getD (r .distance) m 0) (getD (r .first) m 0) (getD (r .second) m 0)) (test : t ≡ rankBefore x e)
+      (is : x ≡ entryAt r m) (test : t ≡ rankBefore x e)
       (b : Between e count r low high) where
     -- The entry in the middle comes before it.
     pub between-raised : t ≡ true → Between e count r (m + 1) high
