@@ -4,10 +4,11 @@ use mathlib.Core.Bool.{true}
 use mathlib.Core.List.{List, [], _∷_, map}
 use Prim.Native.Nat.{_≤_}
 use native.Mathlib.Omega.{arith}
-use lib.ListN.{length}
+use lib.ListN.{length, take}
 use Rattle.order.proofs.Best.{length-best}
 use Rattle.site.specs.SiteList.{Columns, sites}
 use Rattle.site.proofs.Answer.{answer-number, answered-values}
+use Rattle.column.specs.Column.{overwritten}
 use Rattle.entry.specs.declared.Entry.{Entry}
 use Rattle.entry.specs.Entry.{rankBefore, bestK}
 use Rattle.entry.specs.Results.{Results, entriesOf, holding}
@@ -17,75 +18,81 @@ use Rattle.pairs.specs.KList.{kList}
 use Rattle.campaign.specs.Grid.{jobsPairs}
 use Rattle.campaign.specs.Calls.{newCampaign, openRefusal, openAnswer, jobRefusal, jobAnswer}
 use Rattle.demands.specs.Book.{Book, openBook, bookEntries, noneOpen}
-use Rattle.demands.specs.History.{own, otherLists, otherColumns, Call, job, status, opening, Bench, benchAfter, AllAllowed, bookAfterCall}
-use Rattle.demands.specs.Demand3.{SameEntries, LikeBenchA, Agrees, AnswersByBook, Throughout, opened, Demand3}
-use Rattle.demands.proofs.Closest.{k-list-none-better}
-use Rattle.demands.proofs.Listed.{written, counted, list-told, list-left}
-use Rattle.demands.proofs.BookLaws.{book-finished}
-use Rattle.demands.proofs.Invariant.{Kept, ledger, kept-refusal, kept-status}
-use Rattle.demands.proofs.Steps.{kept-call, kept-opened}
+use Rattle.demands.specs.History.{own, otherLists, otherColumns, Call, job, status, opening, Bench, benchOf, benchAfter, bookAfter}
+use Rattle.demands.specs.Demand3.{below, LikeBenchA, Agrees, AtCall, Throughout, Demand3}
+use Rattle.demands.proofs.KClosest.{k-list-none-better, written, k-list-values}
+use Rattle.demands.proofs.Book.{book-finished}
+use Rattle.demands.proofs.Invariant.{Invariant, lawful-book, job-refusal, status-answer}
+use Rattle.demands.proofs.History.{after-job, after-refusal, after-opening}
 
-module _ (a b : Columns) (bench : Bench) (book : Book) (i : Kept a b bench book) where
+module _ (a b : Columns) (bench : Bench) (book : Book) (i : Invariant a b bench book) where
   few-entries : bench .campaign .entries ≤ book .k
   unfolding bookEntries bestK
   few-entries =
       omega (arith, i .count, length-best rankBefore (book .k) (jobsPairs (book .ends) (book .ends') (sites a) (sites b) (book .done)))
 
-  -- Where B holds the K list, it is beside A the same.
-  same-as-written : (l : List Entry) (r : Results) → entriesOf (bench .campaign .entries) (bench .results) ≡ l → bench .campaign .entries ≡ length l
-      → SameEntries (bench .campaign .entries) (bench .results) (length l) (holding l r)
+  -- B's columns below the count are those that the same entries are written into.
+  same-below : (l : List Entry) (r : Results) → entriesOf (bench .campaign .entries) (bench .results) ≡ l
+      → below (bench .campaign .entries) (bench .results) ≡ below (length l) (holding l r)
   unfolding holding
-  same-as-written l r e n =
-      let c = entries-columns (book .k) (bench .campaign .entries) (bench .results) (i .room) few-entries in
-      record {
-        count = n;
-        distance = sym (c .0) ∙ ap (map (λ x. x .distance)) e ∙ sym (written l (λ x. x .distance) (r .distance));
-        first = sym (c .1) ∙ ap (map (λ x. x .first)) e ∙ sym (written l (λ x. x .first) (r .first));
-        second = sym (c .2) ∙ ap (map (λ x. x .second)) e ∙ sym (written l (λ x. x .second) (r .second));
-      }
+  same-below l r e =
+      let n = bench .campaign .entries in
+      let c = entries-columns (book .k) n (bench .results) (i .room) few-entries in
+      let distance : take n (bench .results .distance) ≡ take (length l) (overwritten (map (λ x. x .distance) l) (r .distance)) =
+      sym (c .0) ∙ ap (map (λ x. x .distance)) e ∙ sym (written l (λ x. x .distance) (r .distance)) in
+      let first : take n (bench .results .first) ≡ take (length l) (overwritten (map (λ x. x .first) l) (r .first)) =
+      sym (c .1) ∙ ap (map (λ x. x .first)) e ∙ sym (written l (λ x. x .first) (r .first)) in
+      let second : take n (bench .results .second) ≡ take (length l) (overwritten (map (λ x. x .second) l) (r .second)) =
+      sym (c .2) ∙ ap (map (λ x. x .second)) e ∙ sym (written l (λ x. x .second) (r .second)) in
+      rw (distance, first, second)
 
-  like-bench-a : noneOpen book ≡ true → LikeBenchA a b bench (book .k)
-  like-bench-a h =
+  -- Where no job is open, B's entries are the K list.
+  finished : noneOpen book ≡ true → entriesOf (bench .campaign .entries) (bench .results) ≡ kList (book .k) (sites a) (sites b)
+  finished h = i .entries ∙ book-finished (sites a) (sites b) book (lawful-book a b bench book i) h
+
+  like-bench-a : noneOpen book ≡ true → LikeBenchA a b (book .k) bench
+  unfolding LikeBenchA
+  like-bench-a h r v accepted =
       let l = kList (book .k) (sites a) (sites b) in
-      let finished = book-finished (sites a) (sites b) book (ledger a b bench book i) h in
-      let here : entriesOf (bench .campaign .entries) (bench .results) ≡ l = i .entries ∙ finished in
-      let count : bench .campaign .entries ≡ length l = i .count ∙ ap (λ (x : List Entry). length x) finished in
-      record {
-        same = λ r ok. (
-          counted Classic a b (book .k) r ok,
-          list-told Classic a b (book .k) r ok,
-          rw (list-left Classic a b (book .k) r ok) (same-as-written l r here count),
-        );
-        noneBetter = rw here (k-list-none-better (sites a) (sites b) (book .k));
-      }
+      let count : bench .campaign .entries ≡ length l =
+      i .count ∙ ap (λ (x : List Entry). length x) (book-finished (sites a) (sites b) book (lawful-book a b bench book i) h) in
+      rw (← k-list-values Classic a b (book .k) r v accepted) (count, same-below l r (finished h))
 
   agrees : Agrees a b bench book
-  agrees = record { count = i .count; entries = i .entries; finished = like-bench-a }
+  agrees = record {
+    count = i .count;
+    entries = i .entries;
+    finished = like-bench-a;
+    noneBetter = λ h. rw (finished h) (k-list-none-better (sites a) (sites b) (book .k));
+  }
 
-  answers : (c : Call) → AnswersByBook a b bench book c
-  unfolding AnswersByBook jobAnswer
-  answers (job own j way) = answer-number (jobRefusal (bench .campaign) a b (bench .results) j) _ ∙ kept-refusal a b bench book i j
-  answers (job (otherLists a' b') j way) = tt
-  answers (job (otherColumns a' b' r) j way) = tt
-  answers (status own) = kept-status a b bench book i
-  answers (status (otherLists a' b')) = tt
-  answers (status (otherColumns a' b' r)) = tt
-  answers (opening a' b' k ends ends' r) = tt
+  -- At each call: the answer, and what holds after it.
+  at-call : (c : Call) (Next : Type 0) → (Invariant a b (benchAfter a b bench c) (bookAfter book c) → Next) → AtCall a b bench book c Next
+  unfolding AtCall benchAfter bookAfter jobAnswer
+  at-call (job own j way) Next next = (
+    answer-number (jobRefusal (bench .campaign) a b (bench .results) j) _ ∙ job-refusal a b bench book i j,
+    next (after-job a b bench book i j way),
+  )
+  at-call (job (otherLists a' b') j way) Next next = λ h. next (after-refusal a b bench book i _ _ h)
+  at-call (job (otherColumns a' b' r) j way) Next next = λ h. next (after-refusal a b bench book i _ _ h)
+  at-call (status own) Next next = (status-answer a b bench book i, next i)
+  at-call (status (otherLists a' b')) Next next = λ h. next i
+  at-call (status (otherColumns a' b' r)) Next next = λ h. next i
+  at-call (opening a' b' k ends ends' r) Next next = λ h. next i
 
 -- Along any list of calls.
-throughout : (a b : Columns) (bench : Bench) (book : Book) → Kept a b bench book → (calls : List Call) → AllAllowed a b bench calls
-    → Throughout a b bench book calls
-unfolding Throughout AllAllowed
-throughout a b bench book i [] h = agrees a b bench book i
-throughout a b bench book i (c ∷ l) h = (
+throughout : (a b : Columns) (bench : Bench) (book : Book) → Invariant a b bench book → (calls : List Call) → Throughout a b bench book calls
+unfolding Throughout
+throughout a b bench book i [] = agrees a b bench book i
+throughout a b bench book i (c ∷ l) = (
   agrees a b bench book i,
-  answers a b bench book i c,
-  throughout a b (benchAfter a b bench c) (bookAfterCall book c) (kept-call a b bench book i c (h .0)) l (h .1),
+  at-call a b bench book i c (Throughout a b (benchAfter a b bench c) (bookAfter book c) l)
+      (λ after. throughout a b (benchAfter a b bench c) (bookAfter book c) after l),
 )
 
 pub demand3 : Demand3
 unfolding Demand3 openAnswer
-demand3 a b k ends ends' r c told calls =
-    let w = answered-values (openRefusal a b k ends ends' r) (newCampaign k ends ends') c told in
-    let start : Kept a b (opened c r) (openBook k ends ends') = rw (w .1) at (kept-opened a b k ends ends' r (w .0)) in
-    throughout a b (opened c r) (openBook k ends ends') start calls
+demand3 a b k ends ends' r c accepted =
+    let w = answered-values (openRefusal a b k ends ends' r) (newCampaign k ends ends') c accepted in
+    let start : Invariant a b (benchOf c r) (openBook k ends ends') = rw (w .1) at (after-opening a b k ends ends' r (w .0)) in
+    throughout a b (benchOf c r) (openBook k ends ends') start

@@ -29,7 +29,7 @@ use Rattle.campaign.proofs.CutLaws.{lawful-cut}
 use Rattle.campaign.proofs.GridLaws.{InGrid, jobs-in-grid, jobs-entry, jobs-pairs-perm}
 use Rattle.demands.specs.Book.{Book, isDone, bookRefusal, bookEntries, bookStatus}
 use Rattle.demands.specs.History.{Bench}
-use Rattle.demands.proofs.BookLaws.{Ledger, mem-done, done-kept, settled-pairs-distinct}
+use Rattle.demands.proofs.Book.{LawfulBook, mem-done, done-kept, settled-pairs-distinct}
 
 -- Both strip numbers are below the strip counts.
 pub in-grid : (rows cols : ℕ) (j : Job) → (ltb (j .first) rows && ltb (j .second) cols) ≡ true → InGrid rows cols j
@@ -38,7 +38,7 @@ in-grid rows cols j h =
     record { row = ltb-true (j .first) rows (w .0); column = ltb-true (j .second) cols (w .1) }
 
 -- B's lists, campaign and result columns beside the book.
-pub record Kept (a b : Columns) (bench : Bench) (book : Book) : Type 0 where
+pub record Invariant (a b : Columns) (bench : Bench) (book : Book) : Type 0 where
   pub lists : listsRefusal a b ≡ 0
   pub lawful : lawfulK (book .k) ≡ true
   pub ends : lawfulEnds (length (sites a)) (book .ends) ≡ true
@@ -60,9 +60,9 @@ pub record Kept (a b : Columns) (bench : Bench) (book : Book) : Type 0 where
   pub count : bench .campaign .entries ≡ length (bookEntries (sites a) (sites b) book)
   pub entries : entriesOf (bench .campaign .entries) (bench .results) ≡ bookEntries (sites a) (sites b) book
 
-module _ (a b : Columns) (bench : Bench) (book : Book) (i : Kept a b bench book) where
-  pub ledger : Ledger (sites a) (sites b) book
-  ledger = record {
+module _ (a b : Columns) (bench : Bench) (book : Book) (i : Invariant a b bench book) where
+  pub lawful-book : LawfulBook (sites a) (sites b) book
+  lawful-book = record {
     cut = lawful-cut (length (sites a)) (book .ends) (i .ends);
     cut' = lawful-cut (length (sites b)) (book .ends') (i .ends');
     once = i .once;
@@ -80,30 +80,30 @@ module _ (a b : Columns) (bench : Bench) (book : Book) (i : Kept a b bench book)
       (λ j m. i .settles j (jobs-in-grid rows cols j m)) in
       rw same (done-kept rows cols (book .done) (i .once) (i .inside))
 
-  kept-ends : soundEnds (bench .campaign) (length (sites a)) (length (sites b)) ≡ true
+  sound-ends : soundEnds (bench .campaign) (length (sites a)) (length (sites b)) ≡ true
   unfolding soundEnds
-  kept-ends =
-      let few = le-leb (bench .campaign .«first_strips») 32 (omega (arith, i .rows, ledger .cut .few)) in
-      let few' = le-leb (bench .campaign .«second_strips») 32 (omega (arith, i .columns, ledger .cut' .few)) in
+  sound-ends =
+      let few = le-leb (bench .campaign .«first_strips») 32 (omega (arith, i .rows, lawful-book .cut .few)) in
+      let few' = le-leb (bench .campaign .«second_strips») 32 (omega (arith, i .columns, lawful-book .cut' .few)) in
       simp (few, few', i .firsts, i .seconds, i .ends, i .ends')
 
-  kept-marks : lawfulMarks (bench .campaign .«first_strips») (bench .campaign .«second_strips») 0 (bench .campaign .marks) ≡ true
-  kept-marks = rw (i .rows, i .columns) (i .marks)
+  sound-marks : lawfulMarks (bench .campaign .«first_strips») (bench .campaign .«second_strips») 0 (bench .campaign .marks) ≡ true
+  sound-marks = rw (i .rows, i .columns) (i .marks)
 
-  kept-order : ascending rankBefore (entriesOf (bench .campaign .entries) (bench .results)) ≡ true
+  sound-order : ascending rankBefore (entriesOf (bench .campaign .entries) (bench .results)) ≡ true
   unfolding bookEntries bestK
-  kept-order =
+  sound-order =
       rw (i .entries)
-      (ascends-ascending rank-order _ (ascends-best rank-order (book .k) _ (settled-pairs-distinct (sites a) (sites b) book ledger)))
+      (ascends-ascending rank-order _ (ascends-best rank-order (book .k) _ (settled-pairs-distinct (sites a) (sites b) book lawful-book)))
 
   -- An entry is of a settled job.
-  kept-entry : (e : Entry) → List·Memᴰ e (entriesOf (bench .campaign .entries) (bench .results))
+  sound-entry : (e : Entry) → List·Memᴰ e (entriesOf (bench .campaign .entries) (bench .results))
       → soundEntry (bench .campaign) (sites a) (sites b) e ≡ true
   unfolding soundEntry fits bookEntries bestK
-  kept-entry e m =
+  sound-entry e m =
       let pairs = jobsPairs (book .ends) (book .ends') (sites a) (sites b) (book .done) in
       let n : List·Memᴰ e pairs = mem-best rankBefore (book .k) pairs (rw (i .entries) at m) in
-      let w = jobs-entry (book .ends) (book .ends') (sites a) (sites b) (ledger .cut) (ledger .cut') (book .done) (i .inside) e n in
+      let w = jobs-entry (book .ends) (book .ends') (sites a) (sites b) (lawful-book .cut) (lawful-book .cut') (book .done) (i .inside) e n in
       let j = w .0 in
       let o = w .2 in
       let done : settled (bench .campaign .marks) j ≡ true =
@@ -119,46 +119,46 @@ module _ (a b : Columns) (bench : Bench) (book : Book) (i : Kept a b bench book)
       ) done
 
   -- The pair total of the settled jobs.
-  kept-total : settledTotal (bench .campaign) (sites a) (sites b) ≡ length (jobsPairs (book .ends) (book .ends') (sites a) (sites b) (book .done))
+  pair-total : settledTotal (bench .campaign) (sites a) (sites b) ≡ length (jobsPairs (book .ends) (book .ends') (sites a) (sites b) (book .done))
   unfolding settledTotal
-  kept-total =
+  pair-total =
       rw (i .firsts, i .seconds, i .rows, i .columns)
       (sym (perm-length (jobs-pairs-perm (book .ends) (book .ends') (sites a) (sites b) settled-done)))
 
-  kept-count : bench .campaign .entries ≡ min (bench .campaign .k) (settledTotal (bench .campaign) (sites a) (sites b))
+  right-count : bench .campaign .entries ≡ min (bench .campaign .k) (settledTotal (bench .campaign) (sites a) (sites b))
   unfolding bookEntries bestK
-  kept-count =
+  right-count =
       i .count
       ∙ length-best rankBefore (book .k) (jobsPairs (book .ends) (book .ends') (sites a) (sites b) (book .done))
-      ∙ ap₂ min (sym (i .k)) (sym kept-total)
+      ∙ ap₂ min (sym (i .k)) (sym pair-total)
 
-  pub kept-sound : sound (bench .campaign) (sites a) (sites b) (bench .results) ≡ true
+  pub campaign-sound : sound (bench .campaign) (sites a) (sites b) (bench .results) ≡ true
   unfolding sound rightCount
-  kept-sound =
+  campaign-sound =
       let l = entriesOf (bench .campaign .entries) (bench .results) in
       let lawful : lawfulK (bench .campaign .k) ≡ true = rw (i .k) (i .lawful) in
       let room : roomFor (bench .campaign .k) (bench .results) ≡ true = rw (i .k) (i .room) in
       let entries : all (soundEntry (bench .campaign) (sites a) (sites b)) l ≡ true =
       holds-all (soundEntry (bench .campaign) (sites a) (sites b)) l
-      (mem-all (λ e. soundEntry (bench .campaign) (sites a) (sites b) e ≡ true) l kept-entry) in
-      simp (lawful, kept-ends, kept-marks, room, kept-order, entries, eq-eqb _ _ kept-count)
+      (mem-all (λ e. soundEntry (bench .campaign) (sites a) (sites b) e ≡ true) l sound-entry) in
+      simp (lawful, sound-ends, sound-marks, room, sound-order, entries, eq-eqb _ _ right-count)
 
   -- Never 7, and never 1, 2 or 3.
-  pub kept-passes : campaignRefusal (bench .campaign) a b (bench .results) ≡ 0
+  pub campaign-accepted : campaignRefusal (bench .campaign) a b (bench .results) ≡ 0
   unfolding campaignRefusal
-  kept-passes = or-none (listsRefusal a b) _ (i .lists) ∙ rw kept-sound
+  campaign-accepted = or-none (listsRefusal a b) _ (i .lists) ∙ rw campaign-sound
 
   -- "its job refusals .. are those of document 01's book".
-  pub kept-refusal : (j : Job) → jobRefusal (bench .campaign) a b (bench .results) j ≡ bookRefusal book j
+  pub job-refusal : (j : Job) → jobRefusal (bench .campaign) a b (bench .results) j ≡ bookRefusal book j
   unfolding jobRefusal bookRefusal orElse
-  kept-refusal j =
-      or-none (campaignRefusal (bench .campaign) a b (bench .results)) _ kept-passes
+  job-refusal j =
+      or-none (campaignRefusal (bench .campaign) a b (bench .results)) _ campaign-accepted
       ∙ rw (i .rows, i .columns)
       (byTest (ltb (j .first) (length (book .ends)) && ltb (j .second) (length (book .ends')))
       (λ t. rw t (ap (λ (s : Bool). cond s 9 0) (i .settles j (in-grid (length (book .ends)) (length (book .ends')) j t))))
       (λ f. rw f))
 
   -- "and status answers".
-  pub kept-status : statusAnswer (bench .campaign) a b (bench .results) ≡ answered (bookStatus (sites a) (sites b) book)
+  pub status-answer : statusAnswer (bench .campaign) a b (bench .results) ≡ answered (bookStatus (sites a) (sites b) book)
   unfolding statusAnswer bookStatus
-  kept-status = sym (answer-values kept-passes) ∙ rw (i .rows, i .columns, ← perm-length settled-done, i .count, i .k)
+  status-answer = sym (answer-values campaign-accepted) ∙ rw (i .rows, i .columns, ← perm-length settled-done, i .count, i .k)

@@ -1,18 +1,18 @@
 -- "a book kept from the calls, never from the campaign or its result columns."
 use mathlib.Core.Bool.{Bool, false, not, _&&_, _||_}
-use mathlib.Core.List.{List, [], _∷_, _++_}
+use mathlib.Core.List.{List, [], _∷_}
 use Prim.Native.Nat.{ℕ, _*_}
 use lib.Dec.{ltb, eqb}
 use lib.ListN.{length}
 use Rattle.order.specs.Lists.{all}
 use Rattle.site.specs.declared.Site.{Site}
-use Rattle.site.specs.Answer.{unlessRefused, refuseIf, orElse}
+use Rattle.site.specs.Answer.{refuseIf, orElse}
 use Rattle.entry.specs.declared.Entry.{Entry}
 use Rattle.entry.specs.Entry.{bestK}
 use Rattle.campaign.specs.Grid.{Job, jobs, jobsPairs}
 use Rattle.campaign.specs.Calls.{StatusValues}
 
--- K and the cut ends of the opening, and the settled jobs in the sequence in which they were settled.
+-- K and the cut ends of the opening, and the settled jobs.
 pub record Book : Type 0 where
   pub k : ℕ
   pub ends : List ℕ
@@ -20,7 +20,7 @@ pub record Book : Type 0 where
   pub done : List Job
 
 -- "It starts at an accepted opening, with its lists, K and cut ends, and no job settled."
-unfoldable pub openBook : ℕ → List ℕ → List ℕ → Book
+abbrev pub openBook : ℕ → List ℕ → List ℕ → Book
 openBook k ends ends' = record { k = k; ends = ends; ends' = ends'; done = [] }
 
 unfoldable pub isDone : Job → List Job → Bool
@@ -33,12 +33,6 @@ bookRefusal book j =
     orElse
     (refuseIf (not (ltb (j .first) (length (book .ends)) && ltb (j .second) (length (book .ends')))) 8)
     (refuseIf (isDone j (book .done)) 9)
-
--- "otherwise it is accepted and settles its job, swept or skipped."
-unfoldable pub bookAfter : Book → Job → Book
-bookAfter book j =
-    unlessRefused (bookRefusal book j) book
-    (record { k = book .k; ends = book .ends; ends' = book .ends'; done = book .done ++ (j ∷ []) })
 
 -- "the first K by rank of the settled jobs' pairs, or all where there are fewer, in rank order."
 unfoldable pub bookEntries : List Site → List Site → Book → List Entry

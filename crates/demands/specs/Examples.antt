@@ -1,6 +1,5 @@
 -- The fixed examples M1 to M10 of document 01: what the definitions compute beside what it states, both as numbers.
 use mathlib.Core.Path.{_≡_}
-use mathlib.Core.Bool.{cond}
 use mathlib.Core.List.{List, [], _∷_, map, flatMap}
 use Prim.Native.Nat.{ℕ}
 use lib.IntN.{ℤ, pos, negsuc}
@@ -19,7 +18,7 @@ use Rattle.pairs.specs.KList.{kList}
 use Rattle.pairs.specs.DistanceList.{distanceList}
 use Rattle.campaign.specs.declared.Campaign.{Campaign}
 use Rattle.campaign.specs.Grid.{Job, jobOf}
-use Rattle.campaign.specs.Calls.{openAnswer, jobAnswer, jobResults, statusAnswer}
+use Rattle.campaign.specs.Calls.{openAnswer, jobAnswer, statusAnswer}
 
 -- The two places of each entry.
 unfoldable pub places : List Entry → List ℕ
@@ -34,8 +33,7 @@ unfoldable pub course : Columns → Columns → List Job → Campaign → Result
 course a b [] c r =
     afterwards (λ v. v .jobs ∷ v .entries ∷ places (entriesOf (c .entries) r)) (statusAnswer c a b r) []
 course a b (j ∷ l) c r =
-    afterwards (λ v. cond (v .swept) 1 0 ∷ course a b l (v .campaign) (jobResults c a b r j))
-    (jobAnswer Classic c a b r j) []
+    afterwards (λ v. v .swept ∷ course a b l (v .campaign) (v .results)) (jobAnswer Classic c a b r j) []
 
 -- The run of a campaign from its opening on.
 unfoldable pub run : Columns → Columns → ℕ → List ℕ → List ℕ → List Job → List ℕ

@@ -1,4 +1,4 @@
--- Laws of the book's settled jobs.
+-- The laws of the book: its settled jobs and its entries.
 use mathlib.Core.Path.{_≡_, refl, sym, ap}
 use mathlib.Core.Logic.{⊎-elim}
 use mathlib.Core.Bool.{Bool, true, false, _&&_, _||_, or-true, and-eq-true-iff}
@@ -71,13 +71,13 @@ module _ (rows cols : ℕ) where
 -- ---- the book's entries
 
 -- A book of two lists: lawful ends, and each settled job once and inside the grid.
-pub record Ledger (a b : List Site) (book : Book) : Type 0 where
+pub record LawfulBook (a b : List Site) (book : Book) : Type 0 where
   pub cut : Cut (length a) (book .ends)
   pub cut' : Cut (length b) (book .ends')
   pub once : Distinct (book .done)
   pub inside : All (InGrid (length (book .ends)) (length (book .ends'))) (book .done)
 
-module _ (a b : List Site) (book : Book) (o : Ledger a b book) where
+module _ (a b : List Site) (book : Book) (o : LawfulBook a b book) where
   pub settled-pairs-distinct : Distinct (jobsPairs (book .ends) (book .ends') a b (book .done))
   settled-pairs-distinct =
       jobs-pairs-distinct (book .ends) (book .ends') a b (o .cut) (o .cut') (λ j. isDone j (book .done)) (book .done)

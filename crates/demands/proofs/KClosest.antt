@@ -1,9 +1,10 @@
--- The K list holds the K closest pairs, and no other choice is better at any place.
+-- The K list holds the K closest pairs, and no other choice is better at any place. What an accepted K list answers.
 use mathlib.Core.Path.{_≡_, ap, _∙_}
 use mathlib.Core.Bool.{true}
-use mathlib.Core.List.{List, map, List·Memᴰ}
+use mathlib.Core.List.{List, [], map, List·Memᴰ}
 use Prim.Native.Nat.{ℕ, _≤_}
 use lib.Dec.{ltb}
+use lib.ListN.{length, take, length-map}
 use borrow.Author.Tests.{ltb-true, ltb-false}
 use Rattle.order.specs.Best.{best, sortNumbers}
 use Rattle.order.proofs.Order.{byTest, never-both}
@@ -11,13 +12,21 @@ use Rattle.order.proofs.Lists.{all-mem}
 use Rattle.order.proofs.Best.{length-best}
 use Rattle.order.proofs.Sorted.{mem-best, distinct-best, sorted-best, sort-sorted, ascends-best, ascends-ascending}
 use Rattle.order.proofs.Choice.{sort-weights, no-equal-choice-better, best-none-better}
+use Rattle.column.specs.Column.{overwritten}
+use Rattle.column.proofs.Overwritten.{take-overwritten}
 use Rattle.site.specs.declared.Site.{Site}
+use Rattle.site.specs.Answer.{answered}
+use Rattle.site.specs.SiteList.{Columns, sites}
+use Rattle.site.proofs.Answer.{answered-values}
 use Rattle.entry.specs.declared.Entry.{Entry}
 use Rattle.entry.specs.Entry.{rankBefore, bestK}
+use Rattle.entry.specs.Results.{Results, holding}
 use Rattle.entry.proofs.Rank.{rank-order, rank-farther}
-use Rattle.sweep.specs.Strip.{allPairs}
+use Rattle.sweep.specs.declared.Way.{Way}
+use Rattle.sweep.specs.Strip.{whole, allPairs}
+use Rattle.sweep.specs.Sweep.{sweep}
 use Rattle.sweep.proofs.PlaceLaws.{whole-pairs-distinct}
-use Rattle.pairs.specs.KList.{kList}
+use Rattle.pairs.specs.KList.{kList, kListRefusal, KListValues, kListValues, kListAnswer}
 use Rattle.demands.specs.Demand3.{NoChoiceBetter}
 use Rattle.demands.specs.Demand2.{KClosest}
 
@@ -42,10 +51,10 @@ module _ (a b : List Site) (k : ℕ) where
       rw best-distances
       (no-equal-choice-better rank-order (λ e. e .distance) rank-grows k (allPairs a b) choice (whole-pairs-distinct a b) d among n i h)
 
-  k-list-before : (e : Entry) → List·Memᴰ e (allPairs a b) → (List·Memᴰ e (kList k a b) → ⊥) → (h : Entry) → List·Memᴰ h (kList k a b)
+  k-list-before : (e h : Entry) → List·Memᴰ e (allPairs a b) → (List·Memᴰ e (kList k a b) → ⊥) → List·Memᴰ h (kList k a b)
       → rankBefore h e ≡ true
   unfolding kList bestK
-  k-list-before e m out h n =
+  k-list-before e h m out n =
       all-mem (λ x. rankBefore x e ≡ true) (best-none-better rank-order k (allPairs a b) (whole-pairs-distinct a b) e m out .0) n
 
   pub k-list-closest : KClosest a b k (kList k a b)
@@ -56,6 +65,18 @@ module _ (a b : List Site) (k : ℕ) where
     among = λ e m. mem-best rankBefore k (allPairs a b) m;
     ranked = ascends-ascending rank-order (best rankBefore k (allPairs a b))
         (ascends-best rank-order k (allPairs a b) (whole-pairs-distinct a b));
-    closest = λ e m out h n. let t = k-list-before e m out h n in (t, rank-grows h e t);
+    closest = λ e h m out n. let t = k-list-before e h m out n in (t, rank-grows h e t);
     noneBetter = k-list-none-better;
   }
+
+-- The written columns begin with the entries' numbers.
+pub written : (l : List Entry) (f : Entry → ℕ) (column : List ℕ) → take (length l) (overwritten (map f l) column) ≡ map f l
+written l f column = rw (← length-map l f) (take-overwritten (map f l) column)
+
+-- The values of an accepted K list.
+pub k-list-values : (way : Way) (a b : Columns) (k : ℕ) (r : Results) (v : KListValues) → kListAnswer way a b k r ≡ answered v
+    → (let l = kList k (sites a) (sites b) in
+    let swept = sweep way k (whole (sites a)) (whole (sites b)) [] in
+    kListValues (holding l r) (length l) (swept .looks) (swept .distances) ≡ v)
+unfolding kListAnswer
+k-list-values way a b k r v accepted = answered-values (kListRefusal a b k r) _ v accepted .1

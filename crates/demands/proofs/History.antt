@@ -1,44 +1,45 @@
--- Each call keeps what holds of B and the book.
+-- What holds of B and the book after the opening and after each call.
 use mathlib.Core.Path.{_≡_, refl, sym, ap, _∙_}
 use mathlib.Core.Bool.{false, not, cond, _&&_, and-eq-true-iff}
 use mathlib.Core.List.{List, [], _∷_, _++_, List·Memᴰ·head, List·Memᴰ·eq-of-singleton, Memᴰ·append-right}
 use Prim.Native.Nat.{ℕ, zero, suc, _-_, _≤_, _<_}
 use native.Mathlib.Omega.{arith}
-use lib.Dec.{ltb}
+use lib.Dec.{ltb, eqb}
 use lib.ListN.{length, replicate, length-replicate}
 use lib.Seq.{take-append-seam}
+use borrow.Author.Tests.{ne-eqb}
 use Rattle.order.specs.Lists.{Distinct}
 use Rattle.order.specs.Best.{best}
 use Rattle.order.proofs.Order.{byTest, never-both}
 use Rattle.order.proofs.Lists.{all-nil}
 use Rattle.order.proofs.Best.{length-best, best-nil}
 use Rattle.order.proofs.Sorted.{best-of-best}
-use Rattle.site.specs.Answer.{unlessRefused}
+use Rattle.site.specs.Answer.{answerUnless, afterwards}
 use Rattle.site.specs.SiteList.{Columns, sites}
 use Rattle.site.specs.Refusal.{listsRefusal}
-use Rattle.site.proofs.Answer.{unless-kept, orElse-first, orElse-second, no-fault, fault-none}
+use Rattle.site.proofs.Answer.{after-refused, orElse-first, orElse-second, no-fault, fault-none}
 use Rattle.site.proofs.Accepted.{both-accepted, accepted-length}
 use Rattle.entry.specs.declared.Entry.{Entry}
 use Rattle.entry.specs.Entry.{rankBefore, bestK, lawfulK}
 use Rattle.entry.specs.Results.{Results, entriesOf, holding, roomFor}
 use Rattle.entry.proofs.Rank.{rank-order}
 use Rattle.entry.proofs.Columns.{entries-holding, room-holding}
+use Rattle.sweep.specs.declared.Way.{Way}
 use Rattle.campaign.specs.Grid.{lawfulEnds, Job, markOf, settled, settle, jobPairs, jobsPairs}
 use Rattle.campaign.specs.Keeper.{firstEnds, secondEnds}
-use Rattle.campaign.specs.Calls.{slots, newCampaign, openRefusal, jobRefusal, jobEntries, afterJob, jobCampaign, jobResults}
+use Rattle.campaign.specs.Calls.{slots, newCampaign, openRefusal, jobEntries, afterJob, JobValues, jobValues, jobAnswer}
 use Rattle.campaign.proofs.GridLaws.{InGrid, same-job, jobs-pairs-snoc}
 use Rattle.campaign.proofs.MarkLaws.{none-settled, lawful-zeros, lawful-settled, mark-below, mark-apart, length-settle, settled-same, settled-other}
-use Rattle.demands.specs.Book.{Book, openBook, isDone, bookRefusal, bookAfter, bookEntries}
-use Rattle.demands.specs.History.{own, otherLists, otherColumns, Call, job, status, opening, Bench, lentFirst, lentSecond, lentResults, resultsAfter, benchAfter, Allowed, bookAfterCall}
-use Rattle.demands.specs.Demand3.{opened}
-use Rattle.demands.proofs.BookLaws.{mem-done, done-mem, done-other, once-more, inside-more}
-use Rattle.demands.proofs.Invariant.{Kept, in-grid, ledger, kept-refusal}
+use Rattle.demands.specs.Book.{Book, openBook, isDone, bookRefusal, bookEntries}
+use Rattle.demands.specs.History.{own, job, Bench, benchOf, benchAfter, bookAfter}
+use Rattle.demands.proofs.Book.{mem-done, done-mem, done-other, once-more, inside-more}
+use Rattle.demands.proofs.Invariant.{Invariant, in-grid, lawful-book, job-refusal}
 
 -- The book with one job more.
 abbrev withJob : Book → Job → Book
 withJob book j = record { k = book .k; ends = book .ends; ends' = book .ends'; done = book .done ++ (j ∷ []) }
 
-module _ (a b : Columns) (bench : Bench) (book : Book) (i : Kept a b bench book) (j : Job) where
+module _ (a b : Columns) (bench : Bench) (book : Book) (i : Invariant a b bench book) (j : Job) where
   -- The list after the job is the book's with the job.
   job-entries : jobEntries (bench .campaign) (sites a) (sites b) (entriesOf (bench .campaign .entries) (bench .results)) j
       ≡ bookEntries (sites a) (sites b) (withJob book j)
@@ -54,10 +55,10 @@ module _ (a b : Columns) (bench : Bench) (book : Book) (i : Kept a b bench book)
 
   module _ (g : InGrid (length (book .ends)) (length (book .ends')) j) where
     few : length (book .ends) ≤ 32
-    few = ledger a b bench book i .cut .few
+    few = lawful-book a b bench book i .cut .few
 
     few' : length (book .ends') ≤ 32
-    few' = ledger a b bench book i .cut' .few
+    few' = lawful-book a b bench book i .cut' .few
 
     -- The marks tell the settled jobs and this one.
     job-settles : (x : Job) → InGrid (length (book .ends)) (length (book .ends')) x
@@ -76,18 +77,12 @@ module _ (a b : Columns) (bench : Bench) (book : Book) (i : Kept a b bench book)
         λ e. never-both (mem-done x (j ∷ []) (List·Memᴰ·head (same-job x j (mark-apart (length (book .ends)) (length (book .ends')) few' j g x h e)))) f in
         settled-other (bench .campaign .marks) x j apart ∙ i .settles x h ∙ sym (done-other x j (book .done) f))
 
-    -- What B holds after the job.
-    afterwards : Bench
-    afterwards =
-        record {
-          campaign = afterJob (bench .campaign) (length (bookEntries (sites a) (sites b) (withJob book j))) j;
-          results = holding (bookEntries (sites a) (sites b) (withJob book j)) (bench .results);
-        }
-
     -- An accepted job.
-    kept-accepted : isDone j (book .done) ≡ false → Kept a b afterwards (withJob book j)
-    unfolding afterwards afterJob firstEnds secondEnds
-    kept-accepted new =
+    after-accepted : isDone j (book .done) ≡ false
+        → (let l = bookEntries (sites a) (sites b) (withJob book j) in
+        Invariant a b (benchOf (afterJob (bench .campaign) (length l) j) (holding l (bench .results))) (withJob book j))
+    unfolding afterJob firstEnds secondEnds
+    after-accepted new =
         let l = bookEntries (sites a) (sites b) (withJob book j) in
         record {
           lists = i .lists;
@@ -119,55 +114,37 @@ accepted-job book j h =
       no-fault (isDone j (book .done)) 8 (orElse-second (cond (not below) 8 0) (cond (isDone j (book .done)) 9 0) h),
     )
 
-module _ (a b : Columns) (bench : Bench) (book : Book) (i : Kept a b bench book) where
+module _ (a b : Columns) (bench : Bench) (book : Book) (i : Invariant a b bench book) where
   -- A job lent B's own lists and columns, by the book's refusal number.
-  kept-number : (j : Job) (n : ℕ) → bookRefusal book j ≡ n
+  after-number : (j : Job) (n swept looks distances : ℕ) → bookRefusal book j ≡ n
       → (let c = bench .campaign in
       let r = bench .results in
       let l = jobEntries c (sites a) (sites b) (entriesOf (c .entries) r) j in
-      Kept a b
-      (record { campaign = unlessRefused n c (afterJob c (length l) j); results = unlessRefused n r (holding l r) })
-      (unlessRefused n book (withJob book j)))
-  unfolding unlessRefused afterwards
-  kept-number j zero e =
+      Invariant a b
+      (afterwards (λ v. benchOf (v .campaign) (v .results))
+      (answerUnless n (jobValues (afterJob c (length l) j) (holding l r) swept looks distances)) bench)
+      (cond (eqb n 0) (withJob book j) book))
+  unfolding afterwards answerUnless
+  after-number j zero swept looks distances e =
       let w = accepted-job book j e in
-      rw (job-entries a b bench book i j) (kept-accepted a b bench book i j (w .0) (w .1))
-  kept-number j (suc n) e = i
+      rw (job-entries a b bench book i j) (after-accepted a b bench book i j (w .0) (w .1))
+  after-number j (suc n) swept looks distances e = rw (ne-eqb (suc n) 0 (λ z. omega arith)) i
 
-  kept-job : (j : Job)
-      → Kept a b
-      (record { campaign = jobCampaign (bench .campaign) a b (bench .results) j; results = jobResults (bench .campaign) a b (bench .results) j })
-      (bookAfter book j)
-  unfolding jobCampaign jobResults bookAfter
-  kept-job j = rw (kept-refusal a b bench book i j) (kept-number j (bookRefusal book j) refl)
+  pub after-job : (j : Job) (way : Way) → Invariant a b (benchAfter a b bench (job own j way)) (bookAfter book (job own j way))
+  unfolding benchAfter bookAfter jobAnswer
+  after-job j way = rw (job-refusal a b bench book i j) (after-number j (bookRefusal book j) _ _ _ refl)
 
-  -- A refused job lent other lists or columns: nothing of B's changes.
-  refused-campaign : (a' b' : Columns) (r : Results) (j : Job) → (jobRefusal (bench .campaign) a' b' r j ≡ 0 → ⊥)
-      → jobCampaign (bench .campaign) a' b' r j ≡ bench .campaign
-  unfolding jobCampaign
-  refused-campaign a' b' r j h = sym (unless-kept _ _ refl h)
-
-  refused-results : (a' b' : Columns) (r : Results) (j : Job) → (jobRefusal (bench .campaign) a' b' r j ≡ 0 → ⊥)
-      → jobResults (bench .campaign) a' b' r j ≡ r
-  unfolding jobResults
-  refused-results a' b' r j h = sym (unless-kept _ _ refl h)
-
-  -- Each call that may be made.
-  pub kept-call : (c : Call) → Allowed a b bench c → Kept a b (benchAfter a b bench c) (bookAfterCall book c)
-  unfolding Allowed benchAfter bookAfterCall lentFirst lentSecond lentResults resultsAfter
-  kept-call (job own j way) h = kept-job j
-  kept-call (job (otherLists a' b') j way) h =
-      rw (refused-campaign a' b' (bench .results) j h, refused-results a' b' (bench .results) j h) i
-  kept-call (job (otherColumns a' b' r) j way) h = rw (refused-campaign a' b' r j h) i
-  kept-call (status lent) h = i
-  kept-call (opening a' b' k ends ends' r) h = i
+  -- A refused job: nothing of B's changes.
+  pub after-refusal : (value : JobValues → Bench) {n : ℕ} (values : JobValues) → (n ≡ 0 → ⊥)
+      → Invariant a b (afterwards value (answerUnless n values) bench) book
+  after-refusal value values h = rw (← after-refused value values bench refl h) i
 
 -- ---- the opening
 
 module _ (a b : Columns) (k : ℕ) (ends ends' : List ℕ) (r : Results) (ok : openRefusal a b k ends ends' r ≡ 0) where
-  pub kept-opened : Kept a b (opened (newCampaign k ends ends') r) (openBook k ends ends')
-  unfolding openRefusal opened newCampaign openBook firstEnds secondEnds slots bookEntries jobsPairs bestK Distinct isDone entriesOf
-  kept-opened =
+  pub after-opening : Invariant a b (benchOf (newCampaign k ends ends') r) (openBook k ends ends')
+  unfolding openRefusal newCampaign firstEnds secondEnds slots bookEntries jobsPairs bestK Distinct isDone entriesOf
+  after-opening =
       let first = lawfulEnds (length (a .x)) ends in
       let second = lawfulEnds (length (b .x)) ends' in
       let later = orElse-second (listsRefusal a b) _ ok in
