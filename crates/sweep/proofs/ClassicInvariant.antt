@@ -1,4 +1,4 @@
--- Laws of the classic sweep on its way.
+-- What holds at each turn of the classic sweep.
 use mathlib.Core.Path.{_≡_, refl, sym, _∙_}
 use mathlib.Core.Bool.{Bool, true, false}
 use mathlib.Core.Logic.{_⊎_, ⊎-elim}

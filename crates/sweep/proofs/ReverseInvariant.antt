@@ -1,4 +1,4 @@
--- Laws of Reverse Run on its way.
+-- What holds at each turn of Reverse Run.
 use mathlib.Core.Path.{_≡_, sym, _∙_}
 use mathlib.Core.Bool.{Bool, true, false}
 use mathlib.Core.List.{List, [], _∷_, map}

@@ -1,4 +1,4 @@
--- Laws of a scan on its way, whichever way it goes.
+-- What holds at each turn of a scan, to the right or to the left.
 use mathlib.Core.Path.{_≡_, refl, sym, ap, _∙_}
 use mathlib.Core.Bool.{true, false}
 use mathlib.Core.List.{List, [], _∷_, map}
@@ -23,7 +23,7 @@ use Rattle.sweep.proofs.Updated.{updated-none, updated-twice}
 abbrev scanned : ℕ → Reference → List Placed → Results → Tally → Scanned
 scanned k o run r t = scan k (map (lookFrom o) run) (stateOf t r)
 
--- A scan on its way: the sites left, from the state held now, lead where all of them led from the first state.
+-- The sites left, from the state held now, lead where all of them led from the first state.
 pub record ScanInvariant (k : ℕ) (before : Results) (old : Tally) (o : Reference) (all left : List Placed) (r : Results) (t : Tally) : Type 0 where
   pub updated : Updated k before (old .count) r (t .count)
   pub reach : t .reach ≡ reachOf k (entriesOf (t .count) r)
