@@ -19,7 +19,7 @@ use Rattle.sweep.specs.Strip.{whole, strip}
 use Rattle.sweep.proofs.PlaceLaws.{length-whole, length-strip-within}
 use Rattle.campaign.specs.Grid.{lawfulEnds, stripAt, stripHolding, countFrom}
 use Rattle.campaign.specs.Internal.{lastEnd, stripFrom, stripTo}
-use Rattle.campaign.proofs.Gathered.{flat-map}
+use Rattle.campaign.proofs.FlatMap.{flat-map}
 
 -- What lawful ends of a list of `n` are.
 pub record Cut (n : ℕ) (ends : List ℕ) : Type 0 where

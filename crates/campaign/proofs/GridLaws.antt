@@ -23,7 +23,8 @@ use Rattle.sweep.proofs.ProductLaws.{perm-eq, mem-product, product-mem, length-
 use Rattle.sweep.proofs.PlaceLaws.{mem-pairs, mem-strip-pairs, whole-pairs-distinct}
 use Rattle.campaign.specs.Grid.{stripAt, stripHolding, Job, jobOf, countFrom, jobs, jobPairs, jobsPairs}
 use Rattle.campaign.specs.Internal.{stripFrom, stripTo}
-use Rattle.campaign.proofs.Gathered.{flat-append, flat-perm, flat-mem, product-flat, keep-split, members-perm}
+use Rattle.campaign.proofs.FlatMap.{flat-append, flat-perm, flat-mem, product-flat}
+use Rattle.campaign.proofs.Gathered.{keep-split, members-perm}
 use Rattle.campaign.proofs.CutLaws.{Cut, strips-whole, length-strip, strip-holds}
 
 -- ---- the numbers of a count

@@ -1,19 +1,22 @@
--- The laws of cut ends, strips, jobs and marks, and examples.
+-- The laws of cut ends, strips, jobs, marks and campaigns, and examples.
+pub mod FlatMap
 pub mod Gathered
 pub mod CutLaws
 pub mod GridLaws
 pub mod MarkLaws
-pub mod EndTests
-pub mod EndLaws
-pub mod MarkTests
-pub mod TallyLaws
-pub mod Walks
-pub mod KeeperTests
-pub mod PlanTests
-pub mod SoundTests
-pub mod SoundLaws
-pub mod OpenTests
-pub mod GapLaws
-pub mod StripTests
-pub mod JobTests
+pub mod EndsInvariant
+pub mod Cuts
+pub mod MarksInvariant
+pub mod Tally
+pub mod AllAscending
+pub mod SoundEntry
+pub mod SoundPlan
+pub mod Sound
+pub mod SoundCampaign
+pub mod OpenAnswer
+pub mod StatusAnswer
+pub mod SquaredStripGap
+pub mod StripRange
+pub mod JobRefusal
+pub mod JobAnswer
 pub mod Examples

@@ -5,8 +5,8 @@ use super::Opened;
 use super::Outcome;
 use super::Status;
 use super::jobs;
-use super::keeper;
 use super::opening;
+use super::soundness;
 use sweep::Way;
 ghost use mathlib.Core.Path.{_≡_};
 ghost use Rattle.site.specs.Answer.{afterwards};
@@ -90,12 +90,12 @@ pub fn status(
         let l = lentResults distance first second .entry in
         ⌜ statusOf r ≡ statusAnswer c a b l ⌝ }
 {
-    let refused = keeper::refusal(c, ax, ay, an, bx, by, bn, distance, first, second);
+    let refused = soundness::refusal(c, ax, ay, an, bx, by, bn, distance, first, second);
     if refused != 0 {
         return Status::Refused(refused);
     }
     Status::Counts {
-        settled: keeper::settled(c).jobs,
+        settled: soundness::settled(c).jobs,
         jobs: c.first_strips * c.second_strips,
         entries: c.entries,
         k: c.k,

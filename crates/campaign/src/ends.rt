@@ -8,7 +8,7 @@ ghost use Rattle.campaign.specs.Calls.{slots};
 ghost use Rattle.campaign.specs.Internal.{lawfulSlots, stripFrom, stripTo, Cuts, StripOf};
 
 // Whether cut ends are lawful for a list of `n` sites.
-pub fn lawful(n: usize, ends: &[u32]) -> bool
+pub(super) fn lawful(n: usize, ends: &[u32]) -> bool
     ensures { λ r. ⌜ r ≡ lawfulEnds n (now (ends .entry)) ⌝ }
 {
     if 32 < ends.len() {
@@ -27,7 +27,7 @@ pub fn lawful(n: usize, ends: &[u32]) -> bool
 }
 
 // Whether at most 32 slots are in use, and the ends in them are lawful.
-pub fn lawful_slots(n: usize, slots: [u32; 32], used: u32) -> bool
+pub(super) fn lawful_slots(n: usize, slots: [u32; 32], used: u32) -> bool
     ensures { λ r. ⌜ r ≡ lawfulSlots n used slots ⌝ }
 {
     let count = used as usize;
@@ -38,7 +38,7 @@ pub fn lawful_slots(n: usize, slots: [u32; 32], used: u32) -> bool
 }
 
 // The strip that holds a place: how many ends are at most the place.
-pub fn holding(ends: &[u32], place: u32) -> usize
+pub(super) fn holding(ends: &[u32], place: u32) -> usize
     ensures { λ r. ⌜ r ≡ stripHolding (now (ends .entry)) place ⌝ }
 {
     let mut before = 0;
@@ -53,7 +53,7 @@ pub fn holding(ends: &[u32], place: u32) -> usize
 }
 
 // The ends in the 32 slots of a campaign.
-pub fn in_slots(ends: &[u32]) -> [u32; 32]
+pub(super) fn in_slots(ends: &[u32]) -> [u32; 32]
     requires { ⌜ length (now ends) ≤ 32 ⌝ }
     ensures { λ r. ⌜ r ≡ slots (now (ends .entry)) ⌝ }
 {
@@ -67,7 +67,7 @@ pub fn in_slots(ends: &[u32]) -> [u32; 32]
 }
 
 // Where a strip starts.
-pub fn from(ends: &[u32], s: usize) -> u32
+fn from(ends: &[u32], s: usize) -> u32
     requires { ⌜ s < length (now ends) ⌝ }
     ensures { λ r. ⌜ r ≡ stripFrom (now (ends .entry)) s ⌝ }
 {
@@ -75,7 +75,7 @@ pub fn from(ends: &[u32], s: usize) -> u32
 }
 
 // Where a strip ends.
-pub fn to(ends: &[u32], s: usize) -> u32
+fn to(ends: &[u32], s: usize) -> u32
     requires { ⌜ s < length (now ends) ⌝ }
     ensures { λ r. ⌜ r ≡ stripTo (now (ends .entry)) s ⌝ }
 {
@@ -83,7 +83,7 @@ pub fn to(ends: &[u32], s: usize) -> u32
 }
 
 // Where a strip starts and ends, by the slots in use.
-pub fn strip(slots: [u32; 32], used: u32, s: u32) -> Strip
+pub(super) fn strip(slots: [u32; 32], used: u32, s: u32) -> Strip
     requires { ⌜ (used ≤ 32) × (s < used) ⌝ }
     ensures { λ r. ⌜ StripOf (take used slots) s r ⌝ }
 {
@@ -97,7 +97,7 @@ pub fn strip(slots: [u32; 32], used: u32, s: u32) -> Strip
 }
 
 // How many sites a strip has.
-pub fn width(ends: &[u32], s: usize) -> u64
+pub(super) fn width(ends: &[u32], s: usize) -> u64
     requires { ⌜ Cuts (now ends) × (s < length (now ends)) ⌝ }
     ensures { λ r. ⌜ r ≡ stripTo (now (ends .entry)) s - stripFrom (now (ends .entry)) s ⌝ }
 {

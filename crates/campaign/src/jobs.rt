@@ -1,8 +1,8 @@
 // One job: its refusal, whether it is skipped, its sweep, its mark.
 use super::Campaign;
 use super::ends;
-use super::keeper;
 use super::marks;
+use super::soundness;
 use super::strips;
 use sweep::Swept;
 use sweep::Way;
@@ -22,7 +22,7 @@ ghost use Rattle.campaign.specs.Internal.{BothCoordinates, NumberedLent,
 ghost use Rattle.campaign.specs.Calls.{jobRefusal, skips, afterJob};
 
 // The refusal of a job; 0 for none.
-pub fn refusal(
+pub(super) fn refusal(
     c: Campaign,
     ax: &[i32],
     ay: &[i32],
@@ -42,7 +42,7 @@ pub fn refusal(
         let l = lentResults distance first second .entry in
         ⌜ r ≡ jobRefusal c a b l (jobOf s t) ⌝ }
 {
-    let refused = keeper::refusal(c, ax, ay, an, bx, by, bn, distance, first, second);
+    let refused = soundness::refusal(c, ax, ay, an, bx, by, bn, distance, first, second);
     if refused != 0 {
         return refused;
     }
@@ -61,7 +61,7 @@ pub fn refusal(
 }
 
 // Whether a job is skipped: the list has K entries and the gap squared is greater than the last squared distance.
-pub fn skips(c: Campaign, ax: &[i32], bx: &[i32], distance: &[u64], s: u32, t: u32) -> bool
+pub(super) fn skips(c: Campaign, ax: &[i32], bx: &[i32], distance: &[u64], s: u32, t: u32) -> bool
     requires { ⌜ JobAsked c (length (now ax)) (length (now bx)) (jobOf s t) ⌝ }
     requires { ⌜ (c .entries ≤ c .k) × (c .k ≤ length (now distance)) ⌝ }
     ensures { λ r.
@@ -83,7 +83,7 @@ pub fn skips(c: Campaign, ax: &[i32], bx: &[i32], distance: &[u64], s: u32, t: u
 }
 
 // Sweeps the strips of a job.
-pub fn swept(
+pub(super) fn swept(
     c: Campaign,
     ax: &[i32],
     ay: &[i32],
@@ -129,7 +129,7 @@ pub fn swept(
 }
 
 // The campaign with a job settled and `count` entries.
-pub fn settle(c: Campaign, s: u32, t: u32, count: u32) -> Campaign
+pub(super) fn settle(c: Campaign, s: u32, t: u32, count: u32) -> Campaign
     requires { ⌜ (s < 32) × (t < 32) ⌝ }
     ensures { λ r. ⌜ r ≡ afterJob c count (jobOf s t) ⌝ }
 {

@@ -2,9 +2,9 @@
 pub mod calls;
 mod ends;
 mod jobs;
-mod keeper;
 mod marks;
 mod opening;
+mod soundness;
 mod strips;
 
 use sweep::Distances;
@@ -22,9 +22,9 @@ pub struct Campaign {
 }
 
 // How many jobs are settled, and how many pairs they have.
-pub struct Settled {
-    pub jobs: u32,
-    pub pairs: u64,
+struct Settled {
+    jobs: u32,
+    pairs: u64,
 }
 
 // Where a strip starts and ends.

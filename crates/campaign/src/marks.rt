@@ -26,7 +26,7 @@ fn lawful_at(mark: u8, i: usize, rows: usize, cols: usize) -> bool
 }
 
 // Whether each mark is lawful.
-pub fn lawful(rows: usize, cols: usize, marks: &[u8]) -> bool
+pub(super) fn lawful(rows: usize, cols: usize, marks: &[u8]) -> bool
     ensures { λ r. ⌜ r ≡ lawfulMarks rows cols 0 (now (marks .entry)) ⌝ }
 {
     let mut i = 0;
@@ -40,7 +40,7 @@ pub fn lawful(rows: usize, cols: usize, marks: &[u8]) -> bool
 }
 
 // Whether a job is settled.
-pub fn is_settled(marks: &[u8], a: usize, b: usize) -> bool
+pub(super) fn is_settled(marks: &[u8], a: usize, b: usize) -> bool
     requires { ⌜ (a ≤ 32) × (b ≤ 32) ⌝ }
     ensures { λ r. ⌜ r ≡ settled (now (marks .entry)) (jobOf a b) ⌝ }
 {
@@ -53,7 +53,7 @@ pub fn is_settled(marks: &[u8], a: usize, b: usize) -> bool
 }
 
 // The marks with a job settled.
-pub fn settle(marks: [u8; 1024], a: usize, b: usize) -> [u8; 1024]
+pub(super) fn settle(marks: [u8; 1024], a: usize, b: usize) -> [u8; 1024]
     requires { ⌜ (a < 32) × (b < 32) ⌝ }
     ensures { λ r. ⌜ r ≡ set marks (markOf (jobOf a b)) 1 ⌝ }
 {
@@ -86,7 +86,7 @@ fn row(marks: &[u8], first_ends: &[u32], a: usize, second_ends: &[u32]) -> Settl
 }
 
 // The settled jobs.
-pub fn tally(marks: &[u8], first_ends: &[u32], second_ends: &[u32]) -> Settled
+pub(super) fn tally(marks: &[u8], first_ends: &[u32], second_ends: &[u32]) -> Settled
     requires { ⌜ Cuts (now «first_ends») × Cuts (now «second_ends») ⌝ }
     ensures { λ r.
         let first = now («first_ends» .entry) in

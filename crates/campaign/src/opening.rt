@@ -9,7 +9,7 @@ ghost use Rattle.entry.specs.Results.{lentResults};
 ghost use Rattle.campaign.specs.Calls.{openRefusal, newCampaign, noCampaign};
 
 // The refusal of an opening; 0 for none.
-pub fn refusal(
+pub(super) fn refusal(
     ax: &[i32],
     ay: &[i32],
     an: &[u32],
@@ -50,7 +50,7 @@ pub fn refusal(
 }
 
 // A campaign with no job settled.
-pub fn new(k: u32, first_ends: &[u32], second_ends: &[u32]) -> Campaign
+pub(super) fn new(k: u32, first_ends: &[u32], second_ends: &[u32]) -> Campaign
     requires { ⌜ (length (now «first_ends») ≤ 32) × (length (now «second_ends») ≤ 32) ⌝ }
     ensures { λ r. ⌜ r ≡ newCampaign k (now («first_ends» .entry)) (now («second_ends» .entry)) ⌝ }
 {
@@ -66,7 +66,7 @@ pub fn new(k: u32, first_ends: &[u32], second_ends: &[u32]) -> Campaign
 }
 
 // What a refused opening leaves in the place of a campaign.
-pub fn none() -> Campaign
+pub(super) fn none() -> Campaign
     ensures { λ r. ⌜ r ≡ noCampaign ⌝ }
 {
     let first = [0; 1];

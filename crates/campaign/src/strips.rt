@@ -22,7 +22,7 @@ fn range_gap(from: i32, to: i32, other_from: i32, other_to: i32) -> u64
 }
 
 // The square of the gap of two strips.
-pub fn squared_gap(ax: &[i32], bx: &[i32], p: Strip, q: Strip) -> u64
+pub(super) fn squared_gap(ax: &[i32], bx: &[i32], p: Strip, q: Strip) -> u64
     requires { ⌜ (p .from < p .to) × (p .to ≤ length (now ax)) × (q .from < q .to) × (q .to ≤ length (now bx)) ⌝ }
     ensures { λ r. ⌜
         Across (now (ax .entry)) (now (bx .entry))

@@ -7,7 +7,8 @@ use Rattle.site.specs.Terms.{Level}
 use Rattle.entry.specs.Results.{Results, results, entriesOf}
 use Rattle.campaign.specs.Grid.{Job, jobOf}
 use Rattle.campaign.specs.Calls.{jobRefusal, skips}
-use Rattle.campaign.proofs.JobTests.{job-kept, job-few, job-levels, skip-asked, sweep-asked, job-refused, job-skipped, job-swept}
+use Rattle.campaign.proofs.JobRefusal.{job-sound, job-few, job-levels, skip-asked, sweep-asked}
+use Rattle.campaign.proofs.JobAnswer.{job-refused, job-skipped, job-swept}
 use Rattle.campaign.proofs.calls.job.Statement.{statement}
 use Rattle.campaign.proofs.calls.job.Tie as tie
 
@@ -49,7 +50,7 @@ judged c =
     let s = start e in
     let level = levels e in
     c .skips .ensures .across _ _ .numbered _ _ (level .0) (level .1) _ _
-    (job-kept (s .args .c) (one s) (other s) (held s) _ _ (accepted e) .room)
+    (job-sound (s .args .c) (one s) (other s) (held s) _ _ (accepted e) .room)
 
 returns : tie.Need-returns
 returns c =

@@ -1,7 +1,7 @@
 -- `campaign::calls::open` meets its contract.
 use borrow.Author.Needs.{needs}
 use mathlib.Core.Path.{sym, _∙_}
-use Rattle.campaign.proofs.OpenTests.{opened-few, open-refused, open-done}
+use Rattle.campaign.proofs.OpenAnswer.{opened-few, open-refused, open-done}
 use Rattle.campaign.proofs.calls.open.Statement.{statement}
 use Rattle.campaign.proofs.calls.open.Tie as tie
 

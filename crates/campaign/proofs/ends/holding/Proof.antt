@@ -8,7 +8,7 @@ use lib.Dec.{leb}
 use lib.ListN.{length, drop}
 use Rattle.order.specs.Lists.{keep}
 use Rattle.campaign.specs.Grid.{stripHolding}
-use Rattle.campaign.proofs.EndTests.{held-none, held-one, held-other, held-all}
+use Rattle.campaign.proofs.EndsInvariant.{held-none, held-one, held-other, held-all}
 use Rattle.campaign.proofs.ends.holding.Statement.{statement}
 use Rattle.campaign.proofs.ends.holding.Tie as tie
 

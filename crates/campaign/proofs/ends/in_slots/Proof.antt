@@ -4,7 +4,7 @@ use Prim.Native.Nat.{_-_, _≤_}
 use mathlib.Core.Path.{_≡_, refl}
 use mathlib.Core.List.{_++_}
 use lib.ListN.{length, take, replicate}
-use Rattle.campaign.proofs.EndTests.{slots-more, slots-all}
+use Rattle.campaign.proofs.EndsInvariant.{slots-more, slots-all}
 use Rattle.campaign.proofs.ends.in_slots.Statement.{statement}
 use Rattle.campaign.proofs.ends.in_slots.Tie as tie
 

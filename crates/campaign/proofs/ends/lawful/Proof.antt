@@ -3,12 +3,12 @@ use borrow.Author.Needs.{needs}
 use Prim.Native.Nat.{_-_, _≤_, _<_, _^_}
 use native.Mathlib.Omega.{arith}
 use lib.ListN.{length}
-use Rattle.campaign.proofs.EndTests.{Walked, walked-none, walked-more, walked-falls, walked-all, too-many}
+use Rattle.campaign.proofs.EndsInvariant.{Tested, tested-none, tested-more, tested-falls, tested-all, too-many}
 use Rattle.campaign.proofs.ends.lawful.Statement.{statement}
 use Rattle.campaign.proofs.ends.lawful.Tie as tie
 
 abbrev Inv-loop : tie.InvT-loop
-Inv-loop n ends last₀ i₀ last i = (i ≤ length ends) × (last < 2 ^ 32) × Walked ends last i
+Inv-loop n ends last₀ i₀ last i = (i ≤ length ends) × (last < 2 ^ 32) × Tested ends last i
 
 abbrev μ-loop : tie.MeasureT-loop
 μ-loop n ends last₀ i₀ last i = length ends - i
@@ -17,24 +17,24 @@ returns : tie.Need-returns Inv-loop μ-loop
 returns c = too-many _ _ (c .if1 .taken)
 
 loop-holds : tie.Need-loop-holds Inv-loop μ-loop
-loop-holds c = (search needs, search needs, walked-none _)
+loop-holds c = (search needs, search needs, tested-none _)
 
 returns-2 : tie.Need-returns-2 Inv-loop μ-loop
 returns-2 c =
     let l = c .before .before .before .loop in
-    walked-falls _ _ (l .i) (c .before .before .loop-test .taken) (l .inv .2) _ (c .before .before .before .before .if1 .left) (c .if2 .taken)
+    tested-falls _ _ (l .i) (c .before .before .loop-test .taken) (l .inv .2) _ (c .before .before .before .before .if1 .left) (c .if2 .taken)
 
 loop-again : tie.Need-loop-again Inv-loop μ-loop
 loop-again c =
     let l = c .before .before .before .before .loop in (
       search needs,
       omega (arith, c .shared-slice-known2 .given (l .i)),
-      walked-more _ _ (l .i) (c .before .before .before .loop-test .taken) (l .inv .2) (c .before .if2 .left),
+      tested-more _ _ (l .i) (c .before .before .before .loop-test .taken) (l .inv .2) (c .before .if2 .left),
     )
 
 returns-3 : tie.Need-returns-3 Inv-loop μ-loop
 returns-3 c =
-    walked-all _ _ _ _ (c .loop-test .left) (c .before .before .if1 .left) (c .before .loop .inv .2)
+    tested-all _ _ _ _ (c .loop-test .left) (c .before .before .if1 .left) (c .before .loop .inv .2)
 
 pub lawful-spec : {M : Type 1} → statement M
 lawful-spec =

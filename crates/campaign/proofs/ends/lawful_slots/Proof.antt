@@ -2,8 +2,8 @@
 use borrow.Author.Needs.{needs}
 use mathlib.Core.Path.{_≡_}
 use lib.ListN.{length}
-use Rattle.campaign.proofs.PlanTests.{in-use}
-use Rattle.campaign.proofs.EndTests.{slots-fail, slots-decide}
+use Rattle.campaign.proofs.SoundPlan.{in-use}
+use Rattle.campaign.proofs.EndsInvariant.{slots-fail, slots-decide}
 use Rattle.campaign.proofs.ends.lawful_slots.Statement.{statement}
 use Rattle.campaign.proofs.ends.lawful_slots.Tie as tie
 

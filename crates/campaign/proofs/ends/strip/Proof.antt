@@ -3,7 +3,7 @@ use borrow.Author.Needs.{needs}
 use mathlib.Core.Path.{_≡_}
 use native.Mathlib.Omega.{arith}
 use lib.ListN.{length, take}
-use Rattle.campaign.proofs.PlanTests.{in-use}
+use Rattle.campaign.proofs.SoundPlan.{in-use}
 use Rattle.campaign.proofs.ends.strip.Statement.{statement}
 use Rattle.campaign.proofs.ends.strip.Tie as tie
 

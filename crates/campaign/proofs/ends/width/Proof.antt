@@ -1,7 +1,7 @@
 -- `campaign::ends::width` meets its contract: a strip starts before it ends.
 use borrow.Author.Needs.{needs}
 use native.Mathlib.Omega.{arith}
-use Rattle.campaign.proofs.EndLaws.{cut-wide}
+use Rattle.campaign.proofs.Cuts.{cut-wide}
 use Rattle.campaign.proofs.ends.width.Statement.{statement}
 use Rattle.campaign.proofs.ends.width.Tie as tie
 

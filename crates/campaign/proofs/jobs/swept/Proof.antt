@@ -3,8 +3,8 @@ use borrow.Author.Needs.{needs}
 use mathlib.Core.Path.{_≡_}
 use native.Mathlib.Omega.{arith}
 use lib.ListN.{length}
-use Rattle.campaign.proofs.PlanTests.{asked-parts, some-k}
-use Rattle.campaign.proofs.JobTests.{places, by-number}
+use Rattle.campaign.proofs.SoundPlan.{asked-parts, some-k}
+use Rattle.campaign.proofs.JobAnswer.{places, by-number}
 use Rattle.campaign.proofs.jobs.swept.Statement.{statement}
 use Rattle.campaign.proofs.jobs.swept.Tie as tie
 

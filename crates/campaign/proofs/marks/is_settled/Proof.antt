@@ -1,6 +1,6 @@
 -- `campaign::marks::is_settled` meets its contract.
 use borrow.Author.Needs.{needs}
-use Rattle.campaign.proofs.MarkTests.{settled-at, settled-past}
+use Rattle.campaign.proofs.MarksInvariant.{settled-at, settled-past}
 use Rattle.campaign.proofs.marks.is_settled.Statement.{statement}
 use Rattle.campaign.proofs.marks.is_settled.Tie as tie
 

@@ -5,7 +5,7 @@ use Prim.Native.Nat.{_-_, _≤_}
 use borrow.Author.Tests.{not-true, not-false}
 use lib.ListN.{length, drop}
 use Rattle.campaign.specs.Grid.{lawfulMarks}
-use Rattle.campaign.proofs.MarkTests.{marks-more, marks-fall, marks-end}
+use Rattle.campaign.proofs.MarksInvariant.{marks-more, marks-fall, marks-end}
 use Rattle.campaign.proofs.marks.lawful.Statement.{statement}
 use Rattle.campaign.proofs.marks.lawful.Tie as tie
 

@@ -6,8 +6,8 @@ use Prim.Native.Nat.{_*_, _-_, _≤_, _<_}
 use native.Mathlib.Omega.{arith}
 use lib.ListN.{length}
 use Rattle.campaign.specs.Grid.{jobOf}
-use Rattle.campaign.proofs.EndLaws.{cuts-cut}
-use Rattle.campaign.proofs.TallyLaws.{stripWidth, Left, left-all, left-one, left-none, rowFrom, row-done, row-settled, row-open, widths-low}
+use Rattle.campaign.proofs.Cuts.{cuts-cut}
+use Rattle.campaign.proofs.Tally.{stripWidth, Left, left-all, left-one, left-none, rowFrom, row-done, row-settled, row-open, widths-low}
 use Rattle.campaign.proofs.marks.row.Statement.{statement}
 use Rattle.campaign.proofs.marks.row.Tie as tie
 

@@ -3,8 +3,8 @@ use borrow.Author.Needs.{needs}
 use Prim.Native.Nat.{_*_, _-_, _≤_}
 use native.Mathlib.Omega.{arith}
 use lib.ListN.{length}
-use Rattle.campaign.proofs.EndLaws.{cuts-cut}
-use Rattle.campaign.proofs.TallyLaws.{Left, left-all, left-many, rowsFrom, rows-on, rows-done, row-small}
+use Rattle.campaign.proofs.Cuts.{cuts-cut}
+use Rattle.campaign.proofs.Tally.{Left, left-all, left-many, rowsFrom, rows-on, rows-done, row-small}
 use Rattle.campaign.proofs.marks.tally.Statement.{statement}
 use Rattle.campaign.proofs.marks.tally.Tie as tie
 

@@ -1,6 +1,6 @@
 -- `campaign::opening::new` meets its contract.
 use borrow.Author.Needs.{needs}
-use Rattle.campaign.proofs.OpenTests.{new-is}
+use Rattle.campaign.proofs.OpenAnswer.{new-is}
 use Rattle.campaign.proofs.opening.new.Statement.{statement}
 use Rattle.campaign.proofs.opening.new.Tie as tie
 

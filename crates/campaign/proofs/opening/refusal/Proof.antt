@@ -6,7 +6,7 @@ use borrow.Author.Tests.{not-true, not-false}
 use lib.ListN.{length}
 use Rattle.entry.specs.Entry.{lawfulK}
 use Rattle.campaign.specs.Grid.{lawfulEnds}
-use Rattle.campaign.proofs.OpenTests.{opens-lists, opens-k, opens-first, opens-second, opens}
+use Rattle.campaign.proofs.OpenAnswer.{opens-lists, opens-k, opens-first, opens-second, opens}
 use Rattle.campaign.proofs.opening.refusal.Statement.{statement}
 use Rattle.campaign.proofs.opening.refusal.Tie as tie
 

@@ -7,7 +7,7 @@ use Rattle.site.specs.Site.{square}
 use Rattle.site.specs.SiteList.{columns}
 use Rattle.site.proofs.Machine.{at₄}
 use Rattle.campaign.specs.Grid.{rangeGap}
-use Rattle.campaign.proofs.StripTests.{strip-gap}
+use Rattle.campaign.proofs.StripRange.{strip-gap}
 use Rattle.campaign.proofs.strips.squared_gap.Statement.{statement}
 use Rattle.campaign.proofs.strips.squared_gap.Tie as tie
 

@@ -1,4 +1,4 @@
--- `campaign::keeper::refusal` meets its contract.
+-- `campaign::soundness::refusal` meets its contract.
 use borrow.Author.Needs.{needs}
 use mathlib.Core.Path.{_≡_, sym, _∙_}
 use mathlib.Core.Bool.{Bool, not, cond}
@@ -7,9 +7,9 @@ use Rattle.site.specs.Refusal.{listRefusal}
 use Rattle.entry.specs.Results.{Results, results}
 use Rattle.campaign.specs.Keeper.{campaignRefusal}
 use Rattle.site.proofs.Accepted.{both-accepted, accepted-level, accepted-coordinates}
-use Rattle.campaign.proofs.SoundTests.{lists-refused, sound-decides}
-use Rattle.campaign.proofs.keeper.refusal.Statement.{statement}
-use Rattle.campaign.proofs.keeper.refusal.Tie as tie
+use Rattle.campaign.proofs.Sound.{lists-refused, sound-decides}
+use Rattle.campaign.proofs.soundness.refusal.Statement.{statement}
+use Rattle.campaign.proofs.soundness.refusal.Tie as tie
 
 -- What was lent.
 abbrev one : tie.Start → Columns

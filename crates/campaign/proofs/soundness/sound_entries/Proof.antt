@@ -1,4 +1,4 @@
--- `campaign::keeper::sound_entries` meets its contract: the tests read the first `count` elements of each column.
+-- `campaign::soundness::sound_entries` meets its contract: the tests read the first `count` elements of each column.
 use borrow.Author.Needs.{needs}
 use mathlib.Core.Path.{_≡_, sym, ap, _∙_}
 use Prim.Native.Nat.{_≤_}
@@ -10,10 +10,10 @@ use Rattle.order.specs.Order.{ascending}
 use Rattle.entry.specs.Entry.{rankBefore}
 use Rattle.entry.specs.Results.{Results, results, entriesOf}
 use Rattle.entry.proofs.Columns.{room-lengths, room-first, entries-first}
-use Rattle.campaign.proofs.PlanTests.{in-use}
-use Rattle.campaign.proofs.SoundTests.{order-fails, entries-decide}
-use Rattle.campaign.proofs.keeper.sound_entries.Statement.{statement}
-use Rattle.campaign.proofs.keeper.sound_entries.Tie as tie
+use Rattle.campaign.proofs.SoundPlan.{in-use}
+use Rattle.campaign.proofs.Sound.{order-fails, entries-decide}
+use Rattle.campaign.proofs.soundness.sound_entries.Statement.{statement}
+use Rattle.campaign.proofs.soundness.sound_entries.Tie as tie
 
 abbrev start : tie.After-marks → tie.Start
 start c = c .before .before .before .before .before .before .before .before .before

@@ -1,12 +1,12 @@
--- `campaign::keeper::fits` meets its contract.
+-- `campaign::soundness::fits` meets its contract.
 use borrow.Author.Needs.{needs}
 use Rattle.site.specs.SiteList.{Columns, columns}
 use Prim.Native.Nat.{ℕ}
 use mathlib.Core.List.{List}
 use native.Mathlib.Omega.{arith}
-use Rattle.campaign.proofs.KeeperTests.{holding-few, first-outside, second-outside, wrong-distance, its-job}
-use Rattle.campaign.proofs.keeper.fits.Statement.{statement}
-use Rattle.campaign.proofs.keeper.fits.Tie as tie
+use Rattle.campaign.proofs.SoundEntry.{holding-few, first-outside, second-outside, wrong-distance, its-job}
+use Rattle.campaign.proofs.soundness.fits.Statement.{statement}
+use Rattle.campaign.proofs.soundness.fits.Tie as tie
 
 -- The lists with their numbers.
 abbrev first : tie.Start → List ℕ → Columns

@@ -1,8 +1,8 @@
--- `campaign::keeper::right_count` meets its contract.
+-- `campaign::soundness::right_count` meets its contract.
 use borrow.Author.Needs.{needs}
-use Rattle.campaign.proofs.PlanTests.{count-k, count-total}
-use Rattle.campaign.proofs.keeper.right_count.Statement.{statement}
-use Rattle.campaign.proofs.keeper.right_count.Tie as tie
+use Rattle.campaign.proofs.SoundPlan.{count-k, count-total}
+use Rattle.campaign.proofs.soundness.right_count.Statement.{statement}
+use Rattle.campaign.proofs.soundness.right_count.Tie as tie
 
 returns : tie.Need-returns
 returns c = count-k _ _ (c .before .before .before .settled .ensures) (c .before .if1 .taken)

@@ -1,8 +1,8 @@
--- `campaign::keeper::in_order` meets its contract. The loop's invariant: the entries from place `i` on stand in order where all do.
+-- `campaign::soundness::in_order` meets its contract. The loop's invariant: the entries from place `i` on stand in order where all do.
 use borrow.Author.Needs.{needs}
 use mathlib.Core.List.{List}
 use Rattle.entry.specs.declared.Entry.{Entry}
-use Rattle.campaign.proofs.KeeperTests.{stands-at, entries-many}
+use Rattle.campaign.proofs.SoundEntry.{stands-at, entries-many}
 use mathlib.Core.Path.{_≡_, refl, ap₂, _∙_}
 use Prim.Native.Nat.{_+_, _-_, _≤_}
 use native.Mathlib.Omega.{arith}
@@ -12,9 +12,9 @@ use Rattle.order.specs.Order.{ascending}
 use Rattle.entry.specs.Entry.{entry, rankBefore}
 use Rattle.entry.specs.Results.{results, entriesOf}
 use Rattle.entry.proofs.Columns.{room-lengths, entry-at}
-use Rattle.campaign.proofs.Walks.{order-more, order-falls, order-end}
-use Rattle.campaign.proofs.keeper.in_order.Statement.{statement}
-use Rattle.campaign.proofs.keeper.in_order.Tie as tie
+use Rattle.campaign.proofs.AllAscending.{order-more, order-falls, order-end}
+use Rattle.campaign.proofs.soundness.in_order.Statement.{statement}
+use Rattle.campaign.proofs.soundness.in_order.Tie as tie
 
 abbrev Inv-loop : tie.InvT-loop
 Inv-loop distance first second count i₀ i =

@@ -16,7 +16,7 @@ use Rattle.site.proofs.Columns.{nowhere, sites-length, sites-at}
 use Rattle.sweep.specs.Strip.{Placed, strip}
 use Rattle.sweep.proofs.PlaceLaws.{placed, strip-at, length-strip-within}
 use Rattle.campaign.specs.Grid.{rangeGap, squaredStripGap}
-use Rattle.campaign.proofs.GapLaws.{firstX, lastX, gap-by-x}
+use Rattle.campaign.proofs.SquaredStripGap.{firstX, lastX, gap-by-x}
 
 first-x : (p : List Placed) (d : Placed) → 0 < length p → firstX p ≡ getD p 0 d .site .x
 unfolding firstX

@@ -1,4 +1,4 @@
--- `campaign::keeper::all_fit` meets its contract. The loop's invariant: the entries from place `i` on have no fault where none has.
+-- `campaign::soundness::all_fit` meets its contract. The loop's invariant: the entries from place `i` on have no fault where none has.
 use borrow.Author.Needs.{needs}
 use mathlib.Core.Path.{_≡_, refl, ap, _∙_}
 use mathlib.Core.Bool.{Bool}
@@ -14,10 +14,10 @@ use Rattle.entry.specs.declared.Entry.{Entry}
 use Rattle.entry.specs.Entry.{entry}
 use Rattle.entry.specs.Results.{results, entriesOf}
 use Rattle.campaign.specs.Keeper.{soundEntry}
-use Rattle.campaign.proofs.KeeperTests.{stands-at, entries-many}
-use Rattle.campaign.proofs.Walks.{all-more, all-falls, all-end}
-use Rattle.campaign.proofs.keeper.all_fit.Statement.{statement}
-use Rattle.campaign.proofs.keeper.all_fit.Tie as tie
+use Rattle.campaign.proofs.SoundEntry.{stands-at, entries-many}
+use Rattle.campaign.proofs.AllAscending.{all-more, all-falls, all-end}
+use Rattle.campaign.proofs.soundness.all_fit.Statement.{statement}
+use Rattle.campaign.proofs.soundness.all_fit.Tie as tie
 
 abbrev Inv-loop : tie.InvT-loop
 Inv-loop distance first second count ax ay bx by first-ends second-ends marks i₀ i =

@@ -1,12 +1,12 @@
--- `campaign::keeper::settled` meets its contract.
+-- `campaign::soundness::settled` meets its contract.
 use borrow.Author.Needs.{needs}
 use mathlib.Core.Path.{_≡_}
 use native.Mathlib.Omega.{arith}
 use lib.ListN.{length}
 use Rattle.campaign.specs.Keeper.{firstEnds, secondEnds}
-use Rattle.campaign.proofs.PlanTests.{in-use, tally-plan}
-use Rattle.campaign.proofs.keeper.settled.Statement.{statement}
-use Rattle.campaign.proofs.keeper.settled.Tie as tie
+use Rattle.campaign.proofs.SoundPlan.{in-use, tally-plan}
+use Rattle.campaign.proofs.soundness.settled.Statement.{statement}
+use Rattle.campaign.proofs.soundness.settled.Tie as tie
 
 long : (s : tie.Start) → (length (s .args .c .«first_ends») ≡ 32) × (length (s .args .c .«second_ends») ≡ 32) × (length (s .args .c .marks) ≡ 1024)
 long s = (search needs, search needs, search needs)

@@ -1,27 +1,24 @@
--- A job, test by test, and what it leaves, skipped or swept.
-use mathlib.Core.Path.{_≡_, refl, sym, ap, ap₂, _∙_}
-use mathlib.Core.Bool.{Bool, true, false, cond, _&&_}
+-- Whether a job is skipped, and what it leaves, skipped or swept.
+use mathlib.Core.Path.{_≡_, sym, ap, ap₂, _∙_}
+use mathlib.Core.Bool.{true, false}
 use mathlib.Core.List.{List}
 use Prim.Native.Nat.{ℕ, _-_, _≤_, _<_}
 use native.Mathlib.Omega.{arith}
 use lib.Dec.{ltb}
 use lib.ListN.{length, getD, take}
 use lib.Seq.{take-all}
-use borrow.Author.Tests.{lt-ltb, le-ltb, ltb-true, eq-eqb, ne-eqb}
+use borrow.Author.Tests.{eq-eqb, ne-eqb}
 use Rattle.order.specs.Terms.{Sorted}
 use Rattle.order.proofs.Sorted.{best-sorted}
 use Rattle.site.specs.declared.Site.{Site}
-use Rattle.site.specs.Answer.{answered, afterwards, orElse}
+use Rattle.site.specs.Answer.{answered, afterwards}
 use Rattle.site.specs.SiteList.{Columns, sites}
-use Rattle.site.specs.Terms.{Level, Coordinates}
-use Rattle.site.proofs.Cases.{and-first, and-second}
-use Rattle.site.proofs.Answer.{answer-values, answer-refused, after-refused, after-answered, first-refused, next-decides, orElse-first, orElse-second, fault-none}
+use Rattle.site.proofs.Answer.{answer-values, answer-refused, after-refused, after-answered}
 use Rattle.entry.specs.declared.Entry.{Entry}
 use Rattle.entry.specs.Entry.{bestK}
 use Rattle.entry.specs.Results.{Results, entriesOf, holding, roomFor}
-use Rattle.entry.specs.Terms.{Ready}
 use Rattle.entry.proofs.Rank.{rank-order}
-use Rattle.entry.proofs.Columns.{room-lengths, length-entries, last-distance-column, holding-self}
+use Rattle.entry.proofs.Columns.{length-entries, last-distance-column, holding-self}
 use Rattle.sweep.specs.declared.Way.{Way}
 use Rattle.sweep.specs.declared.Swept.{Swept}
 use Rattle.sweep.specs.Strip.{Placed, strip, pairs}
@@ -35,74 +32,15 @@ use Rattle.campaign.specs.declared.Campaign.{Campaign}
 use Rattle.campaign.specs.declared.Outcome.the-variants as outcome
 use Rattle.campaign.specs.declared.JobDone.{JobDone}
 use Rattle.campaign.specs.declared.Strip.{Strip}
-use Rattle.campaign.specs.Grid.{stripAt, jobOf, settled, jobPairs, squaredStripGap}
-use Rattle.campaign.specs.Keeper.{firstEnds, secondEnds, campaignRefusal}
+use Rattle.campaign.specs.Grid.{stripAt, jobOf, jobPairs, squaredStripGap}
+use Rattle.campaign.specs.Keeper.{firstEnds, secondEnds}
 use Rattle.campaign.specs.Calls.{jobRefusal, skips, jobEntries, afterJob, JobValues, jobValues, jobAnswer, jobDoneAnswer}
 use Rattle.campaign.specs.Internal.{stripFrom, stripTo, StripOf, JobAsked}
-use Rattle.site.proofs.Accepted.{accepted-level, accepted-order, accepted-coordinates}
-use Rattle.campaign.proofs.PlanTests.{asked-parts, first-strip, second-strip}
-use Rattle.campaign.proofs.SoundLaws.{Kept, kept, kept-sorted, kept-ready, kept-length}
-use Rattle.campaign.proofs.GapLaws.{pairs-far}
-
--- ---- the refusal of a job
-
-module _ (c : Campaign) (a b : Columns) (r : Results) (s t : ℕ) where
-  module _ {q : ℕ} (is : q ≡ campaignRefusal c a b r) where
-    pub refuses-campaign : (q ≡ 0 → ⊥) → q ≡ jobRefusal c a b r (jobOf s t)
-    unfolding jobRefusal
-    refuses-campaign h = first-refused _ is h
-
-    module _ (z : q ≡ 0) where
-      pub past-rows : c .«first_strips» ≤ s → 8 ≡ jobRefusal c a b r (jobOf s t)
-      unfolding jobRefusal orElse
-      past-rows h = next-decides is z (simp (le-ltb s (c .«first_strips») h))
-
-      module _ (row : s < c .«first_strips») where
-        pub past-cols : c .«second_strips» ≤ t → 8 ≡ jobRefusal c a b r (jobOf s t)
-        unfolding jobRefusal orElse
-        past-cols h = next-decides is z (simp (lt-ltb s (c .«first_strips») row, le-ltb t (c .«second_strips») h))
-
-        module _ (col : t < c .«second_strips») where
-          pub mark-decides : {m : Bool} → settled (c .marks) (jobOf s t) ≡ m → cond m 9 0 ≡ jobRefusal c a b r (jobOf s t)
-          unfolding jobRefusal orElse
-          mark-decides h =
-              next-decides is z (simp (lt-ltb s (c .«first_strips») row, lt-ltb t (c .«second_strips») col, h))
-
-  -- What an accepted job is.
-  module _ (ok : jobRefusal c a b r (jobOf s t) ≡ 0) where
-    pub job-kept : Kept c a b r
-    unfolding jobRefusal
-    job-kept = kept c a b r refl (orElse-first (campaignRefusal c a b r) _ ok)
-
-    numbers : (ltb s (c .«first_strips») && ltb t (c .«second_strips»)) ≡ true
-    unfolding jobRefusal
-    numbers = fault-none _ 7 (orElse-first _ _ (orElse-second (campaignRefusal c a b r) _ ok))
-
-    pub job-row : s < c .«first_strips»
-    job-row = ltb-true s (c .«first_strips») (and-first (ltb s (c .«first_strips»)) (ltb t (c .«second_strips»)) numbers)
-
-    pub job-col : t < c .«second_strips»
-    job-col = ltb-true t (c .«second_strips») (and-second (ltb s (c .«first_strips»)) (ltb t (c .«second_strips»)) numbers)
-
-    pub job-asked : JobAsked c (length (a .x)) (length (b .x)) (jobOf s t)
-    job-asked = record { plan = job-kept .plan; row = job-row; column = job-col }
-
-    pub job-few : (s < 32) × (t < 32)
-    job-few = let p = asked-parts job-asked in (omega (arith, job-row, p .rows), omega (arith, job-col, p .cols))
-
-    pub skip-asked : JobAsked c (length (a .x)) (length (b .x)) (jobOf s t) ×
-        ((c .entries ≤ c .k) × (c .k ≤ length (r .distance)))
-    skip-asked = (job-asked, (job-kept .most, room-lengths (c .k) r (job-kept .room) .0))
-
-    pub sweep-asked : (Coordinates (a .x) (a .y) × Coordinates (b .x) (b .y)) ×
-        (JobAsked c (length (a .x)) (length (b .x)) (jobOf s t) × Ready (c .k) (c .entries) r)
-    sweep-asked = (
-      (accepted-coordinates a (job-kept .lists .0), accepted-coordinates b (job-kept .lists .1)),
-      (job-asked, kept-ready c a b r job-kept),
-    )
-
-    pub job-levels : Level a × Level b
-    job-levels = (accepted-level a (job-kept .lists .0), accepted-level b (job-kept .lists .1))
+use Rattle.site.proofs.Accepted.{accepted-order}
+use Rattle.campaign.proofs.SoundPlan.{first-strip, second-strip}
+use Rattle.campaign.proofs.SoundCampaign.{campaign-sorted, campaign-length}
+use Rattle.campaign.proofs.SquaredStripGap.{pairs-far}
+use Rattle.campaign.proofs.JobRefusal.{job-sound}
 
 -- ---- the columns that a sweep is lent
 
@@ -178,19 +116,19 @@ module _ (way : Way) (c : Campaign) (a b : Columns) (r : Results) (s t : ℕ) wh
 
     first-sorted : Sorted leftOf firstStrip
     unfolding firstStrip stripAt
-    first-sorted = strip-sorted _ _ (sites a) (accepted-order a (job-kept c a b r s t ok .lists .0))
+    first-sorted = strip-sorted _ _ (sites a) (accepted-order a (job-sound c a b r s t ok .lists .0))
 
     second-sorted : Sorted leftOf secondStrip
     unfolding secondStrip stripAt
-    second-sorted = strip-sorted _ _ (sites b) (accepted-order b (job-kept c a b r s t ok .lists .1))
+    second-sorted = strip-sorted _ _ (sites b) (accepted-order b (job-sound c a b r s t ok .lists .1))
 
     -- The entries are the best of themselves.
     own-best : bestK (c .k) entries ≡ entries
     unfolding bestK entries
     own-best =
-        let w = job-kept c a b r s t ok in
-        best-sorted rank-order (c .k) (entriesOf (c .entries) r) (kept-sorted c a b r w)
-        ∙ take-all (c .k) (entriesOf (c .entries) r) (omega (arith, kept-length c a b r w, w .most))
+        let w = job-sound c a b r s t ok in
+        best-sorted rank-order (c .k) (entriesOf (c .entries) r) (campaign-sorted c a b r w)
+        ∙ take-all (c .k) (entriesOf (c .entries) r) (omega (arith, campaign-length c a b r w, w .most))
 
     -- A skip leaves out no pair that could enter.
     skipped-entries : skips c (sites a) (sites b) entries (jobOf s t) ≡ true → jobEntries c (sites a) (sites b) entries (jobOf s t) ≡ entries
@@ -210,11 +148,11 @@ module _ (way : Way) (c : Campaign) (a b : Columns) (r : Results) (s t : ℕ) wh
         → c' ≡ afterJob c (c .entries) (jobOf s t) → Done-as (record { campaign = c'; outcome = outcome.Skipped }) r
     unfolding jobDoneAnswer jobAnswer entries
     job-skipped h {c'} e =
-        let w = job-kept c a b r s t ok in
+        let w = job-sound c a b r s t ok in
         let same : jobEntries c (sites a) (sites b) (entriesOf (c .entries) r) (jobOf s t) ≡ entriesOf (c .entries) r =
         skipped-entries h in
         let count : length (jobEntries c (sites a) (sites b) (entriesOf (c .entries) r) (jobOf s t)) ≡ c .entries =
-        ap (λ (l : List Entry). length l) same ∙ kept-length c a b r w in
+        ap (λ (l : List Entry). length l) same ∙ campaign-length c a b r w in
         let after : c' ≡ afterJob c (length (jobEntries c (sites a) (sites b) (entriesOf (c .entries) r) (jobOf s t))) (jobOf s t) =
         e ∙ ap (λ (n : ℕ). afterJob c n (jobOf s t)) (sym count) in
         let columns : r ≡ holding (jobEntries c (sites a) (sites b) (entriesOf (c .entries) r) (jobOf s t)) r =

@@ -1,4 +1,4 @@
--- `campaign::keeper::distance_at` meets its contract.
+-- `campaign::soundness::distance_at` meets its contract.
 use borrow.Author.Needs.{needs, sfits-of}
 use lib.IntN.{ℤ}
 use mir.Facts.{toZ-ofZ}
@@ -6,9 +6,9 @@ use Rattle.site.specs.Site.{squaredDistance}
 use Rattle.site.specs.SiteList.{columns, site}
 use Rattle.site.proofs.Machine.{at₄}
 use Rattle.site.proofs.Accepted.{coordinate-x, coordinate-y}
-use Rattle.campaign.proofs.KeeperTests.{apart-at}
-use Rattle.campaign.proofs.keeper.distance_at.Statement.{statement}
-use Rattle.campaign.proofs.keeper.distance_at.Tie as tie
+use Rattle.campaign.proofs.SoundEntry.{apart-at}
+use Rattle.campaign.proofs.soundness.distance_at.Statement.{statement}
+use Rattle.campaign.proofs.soundness.distance_at.Tie as tie
 
 squared-distance-requires : tie.Need-squared-distance-requires
 squared-distance-requires c κs =

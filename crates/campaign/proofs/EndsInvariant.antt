@@ -1,6 +1,6 @@
 -- Cut ends taken one at a time: the test of them, the strip that holds a place, and the slots.
 use mathlib.Core.Path.{_≡_, refl, sym, _∙_}
-use mathlib.Core.Bool.{Bool, true, false, _&&_}
+use mathlib.Core.Bool.{Bool, true, false}
 use mathlib.Core.List.{List, [], _∷_, _++_, append-assoc}
 use Prim.Native.Nat.{ℕ, suc, _+_, _-_, _≤_, _<_}
 use native.Mathlib.Numerals.{add-one}
@@ -19,12 +19,12 @@ use Rattle.campaign.specs.Internal.{lastEnd, lawfulSlots}
 -- ---- lawful ends
 
 -- `last` is the end before place `i`: what the rest of the ends tells is what all tell.
-pub record Walked (ends : List ℕ) (last i : ℕ) : Type 0 where
+pub record Tested (ends : List ℕ) (last i : ℕ) : Type 0 where
   pub order : ascending ltb (0 ∷ ends) ≡ ascending ltb (last ∷ drop i ends)
   pub end : lastEnd ends ≡ ending last (drop i ends)
 
-pub walked-none : (ends : List ℕ) → Walked ends 0 0
-walked-none ends = record { order = refl; end = refl }
+pub tested-none : (ends : List ℕ) → Tested ends 0 0
+tested-none ends = record { order = refl; end = refl }
 
 ascending-on : (a b : ℕ) (l : List ℕ) → a < b → ascending ltb (a ∷ (b ∷ l)) ≡ ascending ltb (b ∷ l)
 unfolding ascending
@@ -34,20 +34,20 @@ ascending-off : (a b : ℕ) (l : List ℕ) → b ≤ a → ascending ltb (a ∷ 
 unfolding ascending
 ascending-off a b l h = rw (le-ltb a b h)
 
-module _ (ends : List ℕ) (last i : ℕ) (inside : i < length ends) (w : Walked ends last i) where
+module _ (ends : List ℕ) (last i : ℕ) (inside : i < length ends) (w : Tested ends last i) where
   rest : drop i ends ≡ getD ends i 0 ∷ drop (suc i) ends
   rest = drop-cons ends i 0 inside
 
-  pub walked-more : last < getD ends i 0 → Walked ends (getD ends i 0) (i + 1)
+  pub tested-more : last < getD ends i 0 → Tested ends (getD ends i 0) (i + 1)
   unfolding ending
-  walked-more h = record {
+  tested-more h = record {
     order = w .order ∙ rw (rest, add-one) (ascending-on last (getD ends i 0) (drop (suc i) ends) h);
     end = w .end ∙ rw (rest, add-one);
   }
 
-  pub walked-falls : (n : ℕ) → length ends ≤ 32 → getD ends i 0 ≤ last → false ≡ lawfulEnds n ends
+  pub tested-falls : (n : ℕ) → length ends ≤ 32 → getD ends i 0 ≤ last → false ≡ lawfulEnds n ends
   unfolding lawfulEnds
-  walked-falls n s h =
+  tested-falls n s h =
       let off : ascending ltb (0 ∷ ends) ≡ false = w .order ∙ rw rest (ascending-off last (getD ends i 0) (drop (suc i) ends) h) in
       simp (le-leb (length ends) 32 s, off)
 
@@ -55,9 +55,9 @@ one : (a : ℕ) → ascending ltb (a ∷ []) ≡ true
 unfolding ascending
 one a = refl
 
-pub walked-all : (n : ℕ) (ends : List ℕ) (last i : ℕ) → length ends ≤ i → length ends ≤ 32 → Walked ends last i → eqb last n ≡ lawfulEnds n ends
+pub tested-all : (n : ℕ) (ends : List ℕ) (last i : ℕ) → length ends ≤ i → length ends ≤ 32 → Tested ends last i → eqb last n ≡ lawfulEnds n ends
 unfolding lawfulEnds ending
-walked-all n ends last i h s w =
+tested-all n ends last i h s w =
     let none : drop i ends ≡ [] = drop-of-length-le ends h in
     let order : ascending ltb (0 ∷ ends) ≡ true = w .order ∙ rw none (one last) in
     let end : lastEnd ends ≡ last = w .end ∙ rw none in

@@ -1,12 +1,12 @@
--- `campaign::keeper::sound_plan` meets its contract.
+-- `campaign::soundness::sound_plan` meets its contract.
 use borrow.Author.Needs.{needs}
 use mathlib.Core.Path.{_≡_, sym, _∙_}
 use mathlib.Core.Bool.{true}
 use borrow.Author.Tests.{not-true, not-false}
 use Rattle.entry.specs.Entry.{lawfulK}
-use Rattle.campaign.proofs.PlanTests.{unlawful-k, unlawful-first, unlawful-second, marks-decide}
-use Rattle.campaign.proofs.keeper.sound_plan.Statement.{statement}
-use Rattle.campaign.proofs.keeper.sound_plan.Tie as tie
+use Rattle.campaign.proofs.SoundPlan.{unlawful-k, unlawful-first, unlawful-second, marks-decide}
+use Rattle.campaign.proofs.soundness.sound_plan.Statement.{statement}
+use Rattle.campaign.proofs.soundness.sound_plan.Tie as tie
 
 lawful : (c : tie.Else1) → lawfulK (c .before .before .args .c .k) ≡ true
 lawful c = sym (c .before .lawful-k .ensures) ∙ not-false _ (c .if1 .left)

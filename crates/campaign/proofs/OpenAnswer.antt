@@ -1,23 +1,19 @@
--- The tests of an opening, one after another, and what an answer tells.
+-- The tests of an opening, one after another, and what an opening answers.
 use mathlib.Core.Path.{_≡_, refl, sym, ap₂, _∙_}
 use mathlib.Core.Bool.{Bool, true, false, not, cond, _&&_}
 use mathlib.Core.List.{List}
-use Prim.Native.Nat.{ℕ, _*_, _≤_}
+use Prim.Native.Nat.{ℕ, _≤_}
 use lib.ListN.{length, replicate}
 use Rattle.site.specs.Answer.{answerUnless, afterwards, orElse}
 use Rattle.site.specs.SiteList.{Columns}
 use Rattle.site.specs.Refusal.{listsRefusal}
 use Rattle.site.proofs.Cases.{and-first, and-second}
-use Rattle.site.proofs.Answer.{answer-values, answer-refused, after-refused, after-answered, first-refused, next-decides, orElse-first, orElse-second, fault-none}
+use Rattle.site.proofs.Answer.{answer-refused, after-refused, after-answered, first-refused, next-decides, orElse-first, orElse-second, fault-none}
 use Rattle.entry.specs.Results.{Results, roomFor}
 use Rattle.entry.specs.Entry.{lawfulK}
 use Rattle.campaign.specs.declared.Campaign.{Campaign}
-use Rattle.campaign.specs.declared.Settled.{Settled}
-use Rattle.campaign.specs.declared.Status.the-variants as status
-use Rattle.campaign.specs.Grid.{lawfulEnds, settledJobs}
-use Rattle.campaign.specs.Keeper.{firstEnds, secondEnds, campaignRefusal}
-use Rattle.campaign.specs.Calls.{slots, campaignOf, openRefusal, newCampaign, noCampaign, openAnswer, openedAnswer, statusAnswer, statusOf}
-use Rattle.campaign.specs.Internal.{Tally}
+use Rattle.campaign.specs.Grid.{lawfulEnds}
+use Rattle.campaign.specs.Calls.{slots, campaignOf, openRefusal, newCampaign, noCampaign, openAnswer, openedAnswer}
 use Rattle.campaign.proofs.CutLaws.{lawful-cut}
 
 module _ (a b : Columns) (k : ℕ) (ends ends' : List ℕ) (r : Results) where
@@ -82,18 +78,6 @@ module _ (a b : Columns) (k : ℕ) (ends ends' : List ℕ) (r : Results) where
       ap₂ answerUnless is e,
       e ∙ after-answered _ (newCampaign k ends ends') noCampaign (sym is ∙ z),
     )
-
--- ---- what status answers
-
-module _ (c : Campaign) (a b : Columns) (r : Results) {q : ℕ} (is : q ≡ campaignRefusal c a b r) where
-  pub status-refused : (q ≡ 0 → ⊥) → statusOf (status.Refused q) ≡ statusAnswer c a b r
-  unfolding statusOf statusAnswer
-  status-refused h = answer-refused _ is h
-
-  pub status-told : q ≡ 0 → (s : Settled) → Tally (firstEnds c) (secondEnds c) (settledJobs c) s
-      → statusOf (status.Counts (s .jobs) (c .«first_strips» * c .«second_strips») (c .entries) (c .k)) ≡ statusAnswer c a b r
-  unfolding statusOf statusAnswer
-  status-told z s t = rw (t .jobs) (answer-values (sym is ∙ z))
 
 -- ---- a new campaign
 

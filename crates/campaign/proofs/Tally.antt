@@ -17,7 +17,7 @@ use Rattle.campaign.specs.declared.Settled.{Settled}
 use Rattle.campaign.specs.Grid.{stripAt, Job, jobOf, countFrom, jobs, settled, jobPairs, jobsPairs}
 use Rattle.campaign.specs.Internal.{lastEnd, stripFrom, stripTo, Cuts, Cutting, Tally}
 use Rattle.campaign.proofs.CutLaws.{lawful-cut}
-use Rattle.campaign.proofs.EndLaws.{cut-low, sampled}
+use Rattle.campaign.proofs.Cuts.{cut-low, sampled}
 use Rattle.campaign.proofs.GridLaws.{InGrid, jobs-pairs-append, pairs-one, length-job}
 
 -- No strip has more sites than its list.

@@ -23,11 +23,11 @@ use Rattle.campaign.specs.declared.Campaign.{Campaign}
 use Rattle.campaign.specs.Keeper.{firstEnds, secondEnds, soundEntry, sound, campaignRefusal}
 use Rattle.campaign.specs.Internal.{SoundPlan, soundPlan, rightCount, entriesSound}
 use Rattle.site.proofs.Accepted.{accepted-level, accepted-few, both-accepted}
-use Rattle.campaign.proofs.PlanTests.{sound-plan}
-use Rattle.campaign.proofs.SoundTests.{steps}
+use Rattle.campaign.proofs.SoundPlan.{sound-plan}
+use Rattle.campaign.proofs.Sound.{steps}
 
 -- The lists, the plan, room for the entries, and the entries in rank order.
-pub record Kept (c : Campaign) (a b : Columns) (r : Results) : Type 0 where
+pub record SoundCampaign (c : Campaign) (a b : Columns) (r : Results) : Type 0 where
   pub lists : (listRefusal a ≡ 0) × (listRefusal b ≡ 0)
   pub plan : soundPlan c (length (a .x)) (length (b .x)) ≡ true
   pub room : roomFor (c .k) r ≡ true
@@ -35,9 +35,9 @@ pub record Kept (c : Campaign) (a b : Columns) (r : Results) : Type 0 where
   pub order : ascending rankBefore (entriesOf (c .entries) r) ≡ true
 
 module _ (c : Campaign) (a b : Columns) (r : Results) where
-  kept-by : (listRefusal a ≡ 0) × (listRefusal b ≡ 0) → sound c (sites a) (sites b) r ≡ true → Kept c a b r
+  sound-by-tests : (listRefusal a ≡ 0) × (listRefusal b ≡ 0) → sound c (sites a) (sites b) r ≡ true → SoundCampaign c a b r
   unfolding entriesSound rightCount
-  kept-by ok h =
+  sound-by-tests ok h =
       let p = soundPlan c (length (a .x)) (length (b .x)) in
       let q = roomFor (c .k) r in
       let n = rightCount c (sites a) (sites b) in
@@ -55,24 +55,24 @@ module _ (c : Campaign) (a b : Columns) (r : Results) where
         order = and-first o e (and-second n (o && e) v);
       }
 
-  pub kept : {q : ℕ} → q ≡ campaignRefusal c a b r → q ≡ 0 → Kept c a b r
+  pub sound-campaign : {q : ℕ} → q ≡ campaignRefusal c a b r → q ≡ 0 → SoundCampaign c a b r
   unfolding campaignRefusal
-  kept is z =
+  sound-campaign is z =
       let e : orElse (listsRefusal a b) (cond (not (sound c (sites a) (sites b) r)) 7 0) ≡ 0 = sym is ∙ z in
-      kept-by (both-accepted a b (orElse-first (listsRefusal a b) _ e))
+      sound-by-tests (both-accepted a b (orElse-first (listsRefusal a b) _ e))
       (fault-none _ 6 (orElse-second (listsRefusal a b) _ e))
 
-  module _ (w : Kept c a b r) where
-    pub kept-plan : SoundPlan c
-    kept-plan =
+  module _ (w : SoundCampaign c a b r) where
+    pub campaign-plan : SoundPlan c
+    campaign-plan =
         sound-plan c (length (a .x)) (length (b .x)) (accepted-few a (w .lists .0)) (accepted-few b (w .lists .1))
         (w .plan)
 
-    pub kept-sorted : Sorted rankBefore (entriesOf (c .entries) r)
-    kept-sorted = ascends-sorted rank-order (entriesOf (c .entries) r) (ascending-ascends rank-order (entriesOf (c .entries) r) (w .order))
+    pub campaign-sorted : Sorted rankBefore (entriesOf (c .entries) r)
+    campaign-sorted = ascends-sorted rank-order (entriesOf (c .entries) r) (ascending-ascends rank-order (entriesOf (c .entries) r) (w .order))
 
-    pub kept-ready : Ready (c .k) (c .entries) r
-    kept-ready = record { room = w .room; most = w .most; sorted = kept-sorted }
+    pub campaign-ready : Ready (c .k) (c .entries) r
+    campaign-ready = record { room = w .room; most = w .most; sorted = campaign-sorted }
 
-    pub kept-length : length (entriesOf (c .entries) r) ≡ c .entries
-    kept-length = length-entries (c .k) (c .entries) r (w .room) (w .most)
+    pub campaign-length : length (entriesOf (c .entries) r) ≡ c .entries
+    campaign-length = length-entries (c .k) (c .entries) r (w .room) (w .most)

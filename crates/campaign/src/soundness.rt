@@ -145,7 +145,7 @@ fn sound_plan(c: Campaign, n: usize, m: usize) -> bool
 }
 
 // How many jobs of a sound plan are settled, and how many pairs they have.
-pub fn settled(c: Campaign) -> Settled
+pub(super) fn settled(c: Campaign) -> Settled
     requires { ⌜ SoundPlan c ⌝ }
     ensures { λ r. ⌜ Tally (firstEnds c) (secondEnds c) (settledJobs c) r ⌝ }
 {
@@ -244,7 +244,7 @@ fn sound(
 }
 
 // The refusal of a campaign, its lists and its columns; 0 for none.
-pub fn refusal(
+pub(super) fn refusal(
     c: Campaign,
     ax: &[i32],
     ay: &[i32],

@@ -19,7 +19,7 @@ use Rattle.campaign.specs.declared.Campaign.{Campaign}
 use Rattle.campaign.specs.Grid.{lawfulMarks}
 use Rattle.campaign.specs.Internal.{lawfulSlots, Cutting, soundPlan, rightCount, entriesSound}
 use Rattle.campaign.specs.Keeper.{firstEnds, secondEnds, soundEntry, sound, campaignRefusal}
-use Rattle.campaign.proofs.PlanTests.{plan-parts}
+use Rattle.campaign.proofs.SoundPlan.{plan-parts}
 
 -- ---- the tests
 

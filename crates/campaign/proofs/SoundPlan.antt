@@ -19,7 +19,7 @@ use Rattle.campaign.specs.Grid.{lawfulEnds, jobOf, jobs, lawfulMarks, se
 use Rattle.campaign.specs.Keeper.{firstEnds, secondEnds}
 use Rattle.campaign.specs.Internal.{stripFrom, stripTo, lawfulSlots, Cutting, Tally, SoundPlan, JobAsked, soundPlan, rightCount}
 use Rattle.campaign.proofs.CutLaws.{lawful-cut, strip-inside}
-use Rattle.campaign.proofs.EndLaws.{lawful-cuts, sampled}
+use Rattle.campaign.proofs.Cuts.{lawful-cuts, sampled}
 
 -- ---- the tests in their order
 

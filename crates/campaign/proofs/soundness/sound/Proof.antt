@@ -1,4 +1,4 @@
--- `campaign::keeper::sound` meets its contract.
+-- `campaign::soundness::sound` meets its contract.
 use borrow.Author.Needs.{needs}
 use mathlib.Core.Path.{_≡_, sym, _∙_}
 use mathlib.Core.Bool.{true}
@@ -9,10 +9,10 @@ use borrow.Author.Tests.{not-true, not-false}
 use Rattle.site.specs.SiteList.{Columns, columns}
 use Rattle.entry.specs.Results.{results, roomFor}
 use Rattle.campaign.specs.Internal.{SoundPlan, soundPlan}
-use Rattle.campaign.proofs.PlanTests.{sound-plan, count-few}
-use Rattle.campaign.proofs.SoundTests.{plan-fails, room-fails, count-fails, sound-decided}
-use Rattle.campaign.proofs.keeper.sound.Statement.{statement}
-use Rattle.campaign.proofs.keeper.sound.Tie as tie
+use Rattle.campaign.proofs.SoundPlan.{sound-plan, count-few}
+use Rattle.campaign.proofs.Sound.{plan-fails, room-fails, count-fails, sound-decided}
+use Rattle.campaign.proofs.soundness.sound.Statement.{statement}
+use Rattle.campaign.proofs.soundness.sound.Tie as tie
 
 -- The lists with their numbers.
 abbrev first : tie.Start → List ℕ → Columns
