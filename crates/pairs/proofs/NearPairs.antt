@@ -1,7 +1,7 @@
 -- A distance list row by row.
 use mathlib.Core.Path.{_≡_, refl, sym, ap, ap₂, _∙_, fun-ext}
 use mathlib.Core.Bool.{Bool}
-use mathlib.Core.List.{List, [], _∷_, _++_, map, map-map}
+use mathlib.Core.List.{List, [], _∷_, _++_, map, map-map, flatMap}
 use Prim.Native.Nat.{ℕ, _+_, _*_, _-_, _≤_, _<_}
 use native.Mathlib.Nat.{mul-le-mul}
 use native.Mathlib.Omega.{arith}
@@ -39,7 +39,7 @@ pair-bare p q =
     λ i. record { distance = e i; first = p .place; second = q .place }
 
 pairs-bare : (p q : List Placed) → pairs p q ≡ pairs (map bare p) (map bare q)
-unfolding pairs product
+unfolding pairs product flatMap
 pairs-bare [] q = refl
 pairs-bare (a ∷ p) q =
     ap₂ (λ (l m : List Entry). l ++ m)

@@ -21,8 +21,9 @@ distanceList e a b = keep (λ p. leb (p .distance) (square e)) (allPairs a b)
 
 -- 1, 2, 3 for each list, then "6: a distance list with more pairs than its shorter column".
 unfoldable pub distanceRefusal : Columns → Columns → ℕ → List ℕ → List ℕ → ℕ
-distanceRefusal a b e f s =
-    orElse (listsRefusal a b) (refuseIf (ltb (min (length f) (length s)) (length (distanceList e (sites a) (sites b)))) 6)
+distanceRefusal a b e first second =
+    let count = length (distanceList e (sites a) (sites b)) in
+    orElse (listsRefusal a b) (refuseIf (ltb (min (length first) (length second)) count) 6)
 
 -- "Its count is the exact number of pairs"; and what the two columns then hold.
 pub record DistanceValues : Type 0 where

@@ -1,4 +1,4 @@
--- Terms that only this crate's functions cite: the run of sites near a reference in x, the near ones, their pairs written.
+-- Terms that only this crate's functions cite: the run of sites near a reference in x, the near ones, and their pairs.
 use mathlib.Core.Path.{_≡_}
 use mathlib.Core.Bool.{Bool, true}
 use mathlib.Core.List.{List, map}
@@ -42,7 +42,7 @@ pub record Skipped (xs : List ℤ) (from limit r : ℕ) : Type 0 where
   pub below : (k : ℕ) → from ≤ k → k < r → offsetAt xs k < limit
   pub stop : r < length xs → limit ≤ offsetAt xs r
 
--- Each place before the run's left end is further than `e` to the left of the reference at `i`; both ends are in the column.
+-- Each place before the run's left end is further than `e` to the left of the reference at `i`; both ends are inside.
 pub record Behind (a b : List ℤ) (e i : ℕ) (run : Run) : Type 0 where
   pub left : run .left ≤ length b
   pub right : run .right ≤ length b

@@ -22,7 +22,8 @@ kList k a b = bestK k (allPairs a b)
 
 -- 1, 2, 3 for each list, then "4: K is 0 or above 4,096", then "6: a whole K list with a result column shorter than K".
 unfoldable pub kListRefusal : Columns → Columns → ℕ → Results → ℕ
-kListRefusal a b k r = orElse (listsRefusal a b) (orElse (refuseIf (not (lawfulK k)) 4) (refuseIf (not (roomFor k r)) 6))
+kListRefusal a b k r =
+    orElse (listsRefusal a b) (orElse (refuseIf (not (lawfulK k)) 4) (refuseIf (not (roomFor k r)) 6))
 
 -- "a K list, the entry count, looks and distances", the sweep's own; and what the result columns then hold.
 pub record KListValues : Type 0 where

@@ -7,7 +7,7 @@ ghost use Rattle.site.specs.SiteList.{lentList};
 ghost use Rattle.entry.specs.Results.{lentResults};
 ghost use Rattle.pairs.specs.KList.{kListRefusal, kListAnswer, listedAnswer};
 
-// The refusal of a K list: 1, 2, 3 of the first list, then of the second, then 4 for K, then 6 for short columns; 0 for none.
+// The refusal of a K list: 1, 2, 3 of each list, then 4 for K, then 6 for columns too short; 0 for none.
 fn k_list_refusal(
     ax: &[i32],
     ay: &[i32],

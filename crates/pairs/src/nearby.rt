@@ -143,7 +143,7 @@ fn write_all(
     n
 }
 
-// The refusal of a distance list: 1, 2, 3 of the first list, then of the second, then 6 for short columns; 0 for none.
+// The refusal of a distance list: 1, 2, 3 of each list, then 6 for columns too short; 0 for none.
 fn distance_refusal(
     ax: &[i32],
     ay: &[i32],
