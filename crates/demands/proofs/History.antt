@@ -1,11 +1,11 @@
 -- What holds of B and the book after the opening and after each call.
 use mathlib.Core.Path.{_≡_, refl, sym, ap, _∙_}
 use mathlib.Core.Bool.{false, not, cond, _&&_, and-eq-true-iff}
-use mathlib.Core.List.{List, [], _∷_, _++_, List·Memᴰ·head, List·Memᴰ·eq-of-singleton, Memᴰ·append-right}
+use mathlib.Core.List.{List, [], _∷_, _++_, flatMap, List·Memᴰ·head, List·Memᴰ·eq-of-singleton, Memᴰ·append-right}
 use Prim.Native.Nat.{ℕ, zero, suc, _-_, _≤_, _<_}
 use native.Mathlib.Omega.{arith}
 use lib.Dec.{ltb, eqb}
-use lib.ListN.{length, replicate, length-replicate}
+use lib.ListN.{length, replicate, set, length-replicate}
 use lib.Seq.{take-append-seam}
 use borrow.Author.Tests.{ne-eqb}
 use Rattle.order.specs.Lists.{Distinct}
@@ -25,7 +25,7 @@ use Rattle.entry.specs.Results.{Results, entriesOf, holding, roomFor}
 use Rattle.entry.proofs.Rank.{rank-order}
 use Rattle.entry.proofs.Columns.{entries-holding, room-holding}
 use Rattle.sweep.specs.declared.Way.{Way}
-use Rattle.campaign.specs.Grid.{lawfulEnds, Job, markOf, settled, settle, jobPairs, jobsPairs}
+use Rattle.campaign.specs.Grid.{lawfulEnds, Job, markOf, settled, jobPairs, jobsPairs}
 use Rattle.campaign.specs.Keeper.{firstEnds, secondEnds}
 use Rattle.campaign.specs.Calls.{slots, newCampaign, openRefusal, jobEntries, afterJob, JobValues, jobValues, jobAnswer}
 use Rattle.campaign.proofs.GridLaws.{InGrid, same-job, jobs-pairs-snoc}
@@ -62,7 +62,7 @@ module _ (a b : Columns) (bench : Bench) (book : Book) (i : Invariant a b bench 
 
     -- The marks tell the settled jobs and this one.
     job-settles : (x : Job) → InGrid (length (book .ends)) (length (book .ends')) x
-        → settled (settle (bench .campaign .marks) j) x ≡ isDone x (book .done ++ (j ∷ []))
+        → settled (set (bench .campaign .marks) (markOf j) 1) x ≡ isDone x (book .done ++ (j ∷ []))
     job-settles x h =
         byTest (isDone x (j ∷ []))
         (λ t.
@@ -143,7 +143,7 @@ module _ (a b : Columns) (bench : Bench) (book : Book) (i : Invariant a b bench 
 
 module _ (a b : Columns) (k : ℕ) (ends ends' : List ℕ) (r : Results) (ok : openRefusal a b k ends ends' r ≡ 0) where
   pub after-opening : Invariant a b (benchOf (newCampaign k ends ends') r) (openBook k ends ends')
-  unfolding openRefusal newCampaign firstEnds secondEnds slots bookEntries jobsPairs bestK Distinct isDone entriesOf
+  unfolding openRefusal newCampaign firstEnds secondEnds slots bookEntries jobsPairs flatMap bestK Distinct isDone entriesOf
   after-opening =
       let first = lawfulEnds (length (a .x)) ends in
       let second = lawfulEnds (length (b .x)) ends' in

@@ -1,9 +1,8 @@
 -- What holds of B and the book between any two calls, and what follows from it: B's campaign passes every test for 7.
-use mathlib.Core.Path.{_≡_, sym, ap, ap₂, _∙_}
+use mathlib.Core.Path.{_≡_, sym, ap, _∙_}
 use mathlib.Core.Bool.{Bool, true, cond, _&&_, and-eq-true-iff}
 use mathlib.Core.List.{List·Memᴰ, List·Permᴰ}
 use Prim.Native.Nat.{ℕ, min}
-use native.Mathlib.Omega.{arith}
 use lib.Dec.{ltb}
 use lib.ListN.{length}
 use borrow.Author.Tests.{le-leb, lt-ltb, eq-eqb, ltb-true}
@@ -22,7 +21,7 @@ use Rattle.entry.specs.Entry.{rankBefore, bestK, lawfulK}
 use Rattle.entry.specs.Results.{entriesOf, roomFor}
 use Rattle.entry.proofs.Rank.{rank-order}
 use Rattle.campaign.specs.Grid.{lawfulEnds, Job, jobs, settled, settledJobs, lawfulMarks, jobsPairs}
-use Rattle.campaign.specs.Keeper.{firstEnds, secondEnds, soundEnds, fits, soundEntry, settledTotal, rightCount, sound, campaignRefusal}
+use Rattle.campaign.specs.Keeper.{firstEnds, secondEnds, soundEntry, sound, campaignRefusal}
 use Rattle.campaign.specs.Calls.{jobRefusal, statusAnswer}
 use Rattle.campaign.proofs.Gathered.{keep-same}
 use Rattle.campaign.proofs.CutLaws.{lawful-cut}
@@ -70,7 +69,7 @@ module _ (a b : Columns) (bench : Bench) (book : Book) (i : Invariant a b bench 
   }
 
   -- The marks tell the settled jobs of the book.
-  pub settled-done : List·Permᴰ (book .done) (settledJobs (bench .campaign .marks) (length (book .ends)) (length (book .ends')))
+  pub settled-done : List·Permᴰ (book .done) (settledJobs (bench .campaign))
   unfolding settledJobs
   settled-done =
       let rows = length (book .ends) in
@@ -78,17 +77,7 @@ module _ (a b : Columns) (bench : Bench) (book : Book) (i : Invariant a b bench 
       let same : keep (settled (bench .campaign .marks)) (jobs rows cols) ≡ keep (λ j. isDone j (book .done)) (jobs rows cols) =
       keep-same (settled (bench .campaign .marks)) (λ j. isDone j (book .done)) (jobs rows cols)
       (λ j m. i .settles j (jobs-in-grid rows cols j m)) in
-      rw same (done-kept rows cols (book .done) (i .once) (i .inside))
-
-  sound-ends : soundEnds (bench .campaign) (length (sites a)) (length (sites b)) ≡ true
-  unfolding soundEnds
-  sound-ends =
-      let few = le-leb (bench .campaign .«first_strips») 32 (omega (arith, i .rows, lawful-book .cut .few)) in
-      let few' = le-leb (bench .campaign .«second_strips») 32 (omega (arith, i .columns, lawful-book .cut' .few)) in
-      simp (few, few', i .firsts, i .seconds, i .ends, i .ends')
-
-  sound-marks : lawfulMarks (bench .campaign .«first_strips») (bench .campaign .«second_strips») 0 (bench .campaign .marks) ≡ true
-  sound-marks = rw (i .rows, i .columns) (i .marks)
+      rw (i .rows, i .columns, same) (done-kept rows cols (book .done) (i .once) (i .inside))
 
   sound-order : ascending rankBefore (entriesOf (bench .campaign .entries) (bench .results)) ≡ true
   unfolding bookEntries bestK
@@ -98,8 +87,8 @@ module _ (a b : Columns) (bench : Bench) (book : Book) (i : Invariant a b bench 
 
   -- An entry is of a settled job.
   sound-entry : (e : Entry) → List·Memᴰ e (entriesOf (bench .campaign .entries) (bench .results))
-      → soundEntry (bench .campaign) (sites a) (sites b) e ≡ true
-  unfolding soundEntry fits bookEntries bestK
+      → soundEntry (bench .campaign .marks) (book .ends) (book .ends') (sites a) (sites b) e ≡ true
+  unfolding soundEntry bookEntries bestK
   sound-entry e m =
       let pairs = jobsPairs (book .ends) (book .ends') (sites a) (sites b) (book .done) in
       let n : List·Memᴰ e pairs = mem-best rankBefore (book .k) pairs (rw (i .entries) at m) in
@@ -112,36 +101,44 @@ module _ (a b : Columns) (bench : Bench) (book : Book) (i : Invariant a b bench 
         lt-ltb (e .first) (length (sites a)) (o .first),
         lt-ltb (e .second) (length (sites b)) (o .second),
         eq-eqb _ _ (o .distance),
-        i .firsts,
-        i .seconds,
         o .holding,
         o .holding',
       ) done
 
-  -- The pair total of the settled jobs.
-  pair-total : settledTotal (bench .campaign) (sites a) (sites b) ≡ length (jobsPairs (book .ends) (book .ends') (sites a) (sites b) (book .done))
-  unfolding settledTotal
-  pair-total =
-      rw (i .firsts, i .seconds, i .rows, i .columns)
-      (sym (perm-length (jobs-pairs-perm (book .ends) (book .ends') (sites a) (sites b) settled-done)))
-
-  right-count : bench .campaign .entries ≡ min (bench .campaign .k) (settledTotal (bench .campaign) (sites a) (sites b))
+  -- The entries are as many as K or the settled jobs' pair total, the lesser.
+  right-count : bench .campaign .entries
+      ≡ min (book .k) (length (jobsPairs (book .ends) (book .ends') (sites a) (sites b) (settledJobs (bench .campaign))))
   unfolding bookEntries bestK
   right-count =
       i .count
       ∙ length-best rankBefore (book .k) (jobsPairs (book .ends) (book .ends') (sites a) (sites b) (book .done))
-      ∙ ap₂ min (sym (i .k)) (sym pair-total)
+      ∙ ap (min (book .k)) (perm-length (jobs-pairs-perm (book .ends) (book .ends') (sites a) (sites b) settled-done))
 
   pub campaign-sound : sound (bench .campaign) (sites a) (sites b) (bench .results) ≡ true
-  unfolding sound rightCount
+  unfolding sound
   campaign-sound =
       let l = entriesOf (bench .campaign .entries) (bench .results) in
-      let lawful : lawfulK (bench .campaign .k) ≡ true = rw (i .k) (i .lawful) in
-      let room : roomFor (bench .campaign .k) (bench .results) ≡ true = rw (i .k) (i .room) in
-      let entries : all (soundEntry (bench .campaign) (sites a) (sites b)) l ≡ true =
-      holds-all (soundEntry (bench .campaign) (sites a) (sites b)) l
-      (mem-all (λ e. soundEntry (bench .campaign) (sites a) (sites b) e ≡ true) l sound-entry) in
-      simp (lawful, sound-ends, sound-marks, room, sound-order, entries, eq-eqb _ _ right-count)
+      let test = soundEntry (bench .campaign .marks) (book .ends) (book .ends') (sites a) (sites b) in
+      let entries : all test l ≡ true = holds-all test l (mem-all (λ e. test e ≡ true) l sound-entry) in
+      let few = le-leb (length (book .ends)) 32 (lawful-book .cut .few) in
+      let few' = le-leb (length (book .ends')) 32 (lawful-book .cut' .few) in
+      simp (
+        i .k,
+        i .rows,
+        i .columns,
+        i .firsts,
+        i .seconds,
+        i .lawful,
+        few,
+        few',
+        i .ends,
+        i .ends',
+        i .marks,
+        i .room,
+        sound-order,
+        entries,
+        eq-eqb _ _ right-count,
+      )
 
   -- Never 7, and never 1, 2 or 3.
   pub campaign-accepted : campaignRefusal (bench .campaign) a b (bench .results) ≡ 0
@@ -161,4 +158,4 @@ module _ (a b : Columns) (bench : Bench) (book : Book) (i : Invariant a b bench 
   -- "and status answers".
   pub status-answer : statusAnswer (bench .campaign) a b (bench .results) ≡ answered (bookStatus (sites a) (sites b) book)
   unfolding statusAnswer bookStatus
-  status-answer = sym (answer-values campaign-accepted) ∙ rw (i .rows, i .columns, ← perm-length settled-done, i .count, i .k)
+  status-answer = sym (answer-values campaign-accepted) ∙ rw (← perm-length settled-done, i .rows, i .columns, i .count, i .k)

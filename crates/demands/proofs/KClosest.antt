@@ -6,7 +6,7 @@ use Prim.Native.Nat.{ℕ, _≤_}
 use lib.Dec.{ltb}
 use lib.ListN.{length, take, length-map}
 use borrow.Author.Tests.{ltb-true, ltb-false}
-use Rattle.order.specs.Best.{best, sortNumbers}
+use Rattle.order.specs.Best.{best, sort}
 use Rattle.order.proofs.Order.{byTest, never-both}
 use Rattle.order.proofs.Lists.{all-mem}
 use Rattle.order.proofs.Best.{length-best}
@@ -39,7 +39,7 @@ rank-grows e f h =
 
 module _ (a b : List Site) (k : ℕ) where
   -- The distances of the best K are in ascending order already.
-  best-distances : sortNumbers (map (λ e. e .distance) (kList k a b)) ≡ map (λ e. e .distance) (kList k a b)
+  best-distances : sort ltb (map (λ e. e .distance) (kList k a b)) ≡ map (λ e. e .distance) (kList k a b)
   unfolding kList bestK
   best-distances =
       sort-weights rank-order (λ e. e .distance) rank-grows (best rankBefore k (allPairs a b))

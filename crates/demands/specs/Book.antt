@@ -10,7 +10,7 @@ use Rattle.site.specs.Answer.{refuseIf, orElse}
 use Rattle.entry.specs.declared.Entry.{Entry}
 use Rattle.entry.specs.Entry.{bestK}
 use Rattle.campaign.specs.Grid.{Job, jobs, jobsPairs}
-use Rattle.campaign.specs.Calls.{StatusValues}
+use Rattle.campaign.specs.Calls.{StatusValues, statusValues}
 
 -- K and the cut ends of the opening, and the settled jobs.
 pub record Book : Type 0 where
@@ -41,12 +41,8 @@ bookEntries a b book = bestK (book .k) (jobsPairs (book .ends) (book .ends') a b
 -- "the number of settled jobs, the product of the strip counts, the number of book entries, and K."
 unfoldable pub bookStatus : List Site → List Site → Book → StatusValues
 bookStatus a b book =
-    record {
-      settled = length (book .done);
-      jobs = length (book .ends) * length (book .ends');
-      entries = length (bookEntries a b book);
-      k = book .k;
-    }
+    statusValues (length (book .done)) (length (book .ends) * length (book .ends'))
+    (length (bookEntries a b book)) (book .k)
 
 -- "A job not settled is open": there is none.
 unfoldable pub noneOpen : Book → Bool

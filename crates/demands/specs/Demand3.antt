@@ -3,8 +3,9 @@ use mathlib.Core.Path.{_≡_}
 use mathlib.Core.Bool.{true}
 use mathlib.Core.List.{List, [], _∷_, map, List·Memᴰ}
 use Prim.Native.Nat.{ℕ, _<_, _≤_}
+use lib.Dec.{ltb}
 use lib.ListN.{length, getD, take}
-use Rattle.order.specs.Best.{sortNumbers}
+use Rattle.order.specs.Best.{sort}
 use Rattle.order.specs.Lists.{Distinct}
 use Rattle.site.specs.declared.Site.{Site}
 use Rattle.site.specs.Answer.{answered, numberOf}
@@ -26,7 +27,7 @@ unfoldable pub NoChoiceBetter : List Site → List Site → List Entry → Type 
 NoChoiceBetter a b l =
     (choice : List Entry) → Distinct choice → ((e : Entry) → List·Memᴰ e choice → List·Memᴰ e (allPairs a b))
     → length choice ≡ length l → (i : ℕ) → i < length choice
-    → getD (sortNumbers (map (λ e. e .distance) l)) i 0 ≤ getD (sortNumbers (map (λ e. e .distance) choice)) i 0
+    → getD (sort ltb (map (λ e. e .distance) l)) i 0 ≤ getD (sort ltb (map (λ e. e .distance) choice)) i 0
 
 -- All three columns below a count.
 abbrev pub below : ℕ → Results → Results
