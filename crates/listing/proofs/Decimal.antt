@@ -1,16 +1,20 @@
--- The powers of ten, and the digits of a number without leading zeros.
-use mathlib.Core.Path.{_≡_, refl, ap}
+-- The powers of ten, the digits of a number, and how they are written.
+use mathlib.Core.Path.{_≡_, refl, ap, _∙_}
+use mathlib.Core.Bool.{Bool, false}
 use mathlib.Core.List.{List, [], _∷_, map}
-use Prim.Native.Nat.{ℕ, zero, suc, _+_, _-_, _/_, _^_, _≤_, _<_}
-use native.Mathlib.Nat.{pow-suc, one-le-pow, pow-le-pow-right, div-eq-of-lt, div-lt-iff-lt-mul, le-div-iff-mul-le}
+use Prim.Native.Nat.{ℕ, zero, suc, _+_, _-_, _^_, _≤_, _<_, max}
+use native.Mathlib.Nat.{one-le-pow, pow-le-pow-right}
 use native.Mathlib.Omega.{arith}
-use borrow.Author.Tests.{eqb-true, eq-eqb, ne-eqb, leb-true, leb-false}
+use borrow.Author.Tests.{eqb-true, leb-true, leb-false, le-leb, lt-leb}
 use lib.Dec.{eqb, leb}
-use lib.ListN.{length, getD, length-map}
+use lib.ListN.{length, getD, set, length-map}
+use Rattle.order.specs.Lists.{keep}
 use Rattle.order.proofs.Order.{byTest}
-use Rattle.listing.specs.Decimal.{powersBelow, digitAt, trimmed, decimal}
-use Rattle.listing.specs.Internal.{Digits}
-use Rattle.listing.proofs.Table.{every-at}
+use Rattle.order.proofs.Lists.{keep-yes, keep-no, keep-nil, length-keep}
+use Rattle.listing.specs.Decimal.{powersBelow, decimal}
+use Rattle.listing.specs.Internal.{digitAt, Put, Digits}
+use Rattle.listing.proofs.Every.{every-at}
+use Rattle.listing.proofs.Put.{Writing, put-byte, writing-starts, writing-room, writing-more, writing-ends}
 
 -- The table, as the code has it.
 abbrev pub powers : List ℕ
@@ -47,45 +51,51 @@ power-positive i = one-le-pow i 10 (omega arith)
 power-grows : {i j : ℕ} → i ≤ j → 10 ^ i ≤ 10 ^ j
 power-grows h = pow-le-pow-right (omega arith) h
 
--- A digit above the number is 0; the first digit is not.
-digit-above : (n m : ℕ) → n < 10 ^ m → digitAt n (10 ^ m) ≡ 48
-unfolding digitAt
-digit-above n m h = rw (div-eq-of-lt h)
+-- ---- the digits of a number
 
-digit-first : (n m : ℕ) → 10 ^ m ≤ n → n < 10 ^ suc m → digitAt n (10 ^ m) ≡ 48 → ⊥
-unfolding digitAt
-digit-first n m l h e =
-    let some : 1 ≤ n / 10 ^ m = le-div-iff-mul-le (power-positive m) .1 (omega arith) in
-    let few : n / 10 ^ m < 10 = div-lt-iff-lt-mul (power-positive m) .1 (omega (arith, pow-suc 10 m)) in
-    omega arith
+-- The powers of ten that have a digit: 1, and those up to the number.
+abbrev reached : ℕ → ℕ → Bool
+reached n power = leb power (max n 1)
 
--- The digits that are left once leading zeros are taken off.
-pub trimmed-digits : (n m c : ℕ) → c ≤ m → n < 10 ^ suc c → (0 < c → 10 ^ c ≤ n)
-    → trimmed (map (digitAt n) (powersBelow (suc m))) ≡ map (digitAt n) (powersBelow (suc c))
-unfolding trimmed powersBelow
-trimmed-digits n zero zero h b l = refl
-trimmed-digits n zero (suc c) h b l = absurd (omega arith)
-trimmed-digits n (suc m) c h b l =
-    byTest (leb c m)
-    (λ t.
-    let low : n < 10 ^ suc m = omega (arith, power-grows {i = suc c} {j = suc m} (omega (arith, leb-true c m t))) in
-    rw (eq-eqb (digitAt n (10 ^ suc m)) 48 (digit-above n (suc m) low)) (trimmed-digits n m c (leb-true c m t) b l))
-    (λ t.
-    let e : c ≡ suc m = omega (arith, leb-false c m t) in
-    let first : digitAt n (10 ^ suc m) ≡ 48 → ⊥ =
-    digit-first n (suc m) (rw e at (l (omega (arith, leb-false c m t)))) (rw e at b) in
-    rw (e, ne-eqb (digitAt n (10 ^ suc m)) 48 first))
+-- A number of `suc c` digits.
+module _ (n c : ℕ) (few : n < 10 ^ suc c) (many : 0 < c → 10 ^ c ≤ n) where
+  power-reached : (m : ℕ) → m ≤ c → 10 ^ m ≤ max n 1
+  power-reached zero h = omega arith
+  power-reached (suc m) h = omega (arith, power-grows h, many (omega arith))
+
+  power-above : (m : ℕ) → suc c ≤ m → reached n (10 ^ m) ≡ false
+  power-above m h =
+      let ten : 10 ^ 1 ≤ 10 ^ m = power-grows {i = 1} {j = m} (omega arith) in
+      lt-leb (10 ^ m) (max n 1) (omega (arith, power-grows {i = suc c} {j = m} h, few))
+
+  powers-all : (m : ℕ) → m ≤ suc c → keep (reached n) (powersBelow m) ≡ powersBelow m
+  unfolding powersBelow
+  powers-all zero h = keep-nil (reached n)
+  powers-all (suc m) h =
+      keep-yes (reached n) (10 ^ m) (powersBelow m) (le-leb (10 ^ m) (max n 1) (power-reached m (omega arith)))
+      ∙ ap (λ (l : List ℕ). 10 ^ m ∷ l) (powers-all m (omega arith))
+
+  powers-kept : (m : ℕ) → suc c ≤ m → keep (reached n) (powersBelow m) ≡ powersBelow (suc c)
+  unfolding powersBelow
+  powers-kept zero h = absurd (omega arith)
+  powers-kept (suc m) h =
+      byTest (leb (suc c) m)
+      (λ t.
+      let g = leb-true (suc c) m t in
+      keep-no (reached n) (10 ^ m) (powersBelow m) (power-above m g) ∙ powers-kept m g)
+      (λ t. let e : m ≡ c = omega (arith, leb-false (suc c) m t) in rw e (powers-all (suc c) (omega arith)))
 
 -- The digits of a number of 64 bits, where `count` is the least that holds it.
-pub digits-found : (n count : ℕ) → 0 < count → count ≤ 20 → n < 10 ^ count → (1 < count → 10 ^ (count - 1) ≤ n) → Digits n count
-unfolding decimal
+pub digits-found : (n count : ℕ) → 0 < count → count ≤ 20 → n < 10 ^ count → (1 < count → 10 ^ (count - 1) ≤ n)
+    → Digits n count
+unfolding decimal digitAt
 digits-found n zero p q b l = absurd (omega arith)
 digits-found n (suc c) p q b l =
     let e : suc c - 1 ≡ c = omega arith in
     record {
       least = p;
       most = q;
-      digits = trimmed-digits n 19 c (omega arith) b (λ h. rw e at (l (omega arith)));
+      digits = ap (map (digitAt n)) (powers-kept n c b (λ h. rw e at (l (omega arith))) 20 q);
     }
 
 -- One more power of ten is passed.
@@ -103,15 +113,52 @@ length-powers zero = refl
 length-powers (suc m) = ap suc (length-powers m)
 
 -- No number has more than twenty digits.
-trimmed-shorter : (l : List ℕ) → length (trimmed l) ≤ length l
-unfolding trimmed
-trimmed-shorter [] = omega arith
-trimmed-shorter (d ∷ []) = omega arith
-trimmed-shorter (d ∷ (e ∷ l)) =
-    byTest (eqb d 48) (λ t. rw t (omega (arith, trimmed-shorter (e ∷ l)))) (λ t. rw t (omega arith))
-
 pub decimal-length : (n : ℕ) → length (decimal n) ≤ 20
-unfolding decimal
+unfolding decimal digitAt
 decimal-length n =
-    omega
-    (arith, trimmed-shorter (map (digitAt n) (powersBelow 20)), length-map (powersBelow 20) (digitAt n), length-powers 20)
+    let kept = keep (reached n) (powersBelow 20) in
+    let size : length (decimal n) ≡ length kept = length-map kept (digitAt n) in
+    omega (arith, size, length-keep (reached n) (powersBelow 20), length-powers 20)
+
+-- ---- written one by one
+
+-- The lowest `left` digits are still to be written.
+pub record DigitsLeft (n at : ℕ) (before : List ℕ) (left : ℕ) (now : List ℕ) (next : ℕ) : Type 0 where
+  pub most : left ≤ 20
+  pub room : next + left ≤ length now
+  pub same : length now ≡ length before
+  pub writing : Writing at (decimal n) before (map (digitAt n) (powersBelow left)) now next
+
+module _ (n at : ℕ) (before : List ℕ) where
+  digits-left : {left next : ℕ} {now : List ℕ} → left ≤ 20
+      → Writing at (decimal n) before (map (digitAt n) (powersBelow left)) now next → DigitsLeft n at before left now next
+  digits-left {left} {next} {now} h w =
+      let r = writing-room w in
+      record {
+        most = h;
+        room = omega (arith, r .0, length-map (powersBelow left) (digitAt n), length-powers left);
+        same = r .1;
+        writing = w;
+      }
+
+  pub digits-starts : {count : ℕ} → at + 20 ≤ length before → Digits n count → DigitsLeft n at before count before at
+  digits-starts h d =
+      digits-left (d .most) (rw (← d .digits) (writing-starts (omega (arith, decimal-length n))))
+
+  pub digits-more : (left next d : ℕ) {now : List ℕ} → 0 < left → d ≡ digitAt n (10 ^ (left - 1))
+      → DigitsLeft n at before left now next → DigitsLeft n at before (left - 1) (set now next d) (next + 1)
+  unfolding powersBelow
+  digits-more zero next d h e w = absurd (omega arith)
+  digits-more (suc left) next d {now} h e w =
+      let s : suc left - 1 ≡ left = omega arith in
+      rw s
+      (digits-left (omega (arith, w .most))
+      (rw (e, s)
+      (writing-more (digitAt n (10 ^ left) ∷ []) (w .writing)
+      (put-byte next (digitAt n (10 ^ left)) now (omega (arith, w .room))))))
+
+  pub digits-ends : (left next : ℕ) {now : List ℕ} → left ≤ 0 → DigitsLeft n at before left now next
+      → Put at (decimal n) before now next
+  unfolding powersBelow
+  digits-ends zero next h w = writing-ends (w .writing)
+  digits-ends (suc left) next h w = absurd (omega arith)

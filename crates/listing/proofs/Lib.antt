@@ -1,11 +1,10 @@
 -- The laws of the case listing.
-pub mod Table
+pub mod Every
+pub mod Put
 pub mod Decimal
-pub mod Writing
-pub mod Numerals
 pub mod Lines
-pub mod Entries
-pub mod Reading
-pub mod Verdict
-pub mod Text
+pub mod EntryLines
+pub mod ListingText
+pub mod FileLists
+pub mod Listing
 pub mod Examples

@@ -1,20 +1,27 @@
 -- The text of the case listing, as bytes.
 use mathlib.Core.Bool.{not}
 use mathlib.Core.List.{List, [], _∷_, _++_}
-use Prim.Native.Nat.{ℕ, zero, suc}
+use Prim.Native.Nat.{ℕ, zero, suc, _*_}
+use Prim.Native.Char.{code}
+use Prim.Native.String.{String, [] as noText, _∷_ as _before_}
 use lib.Dec.{ltb}
 use lib.ListN.{length, drop}
 use Rattle.site.specs.declared.Site.{Site}
 use Rattle.site.specs.Answer.{refuseIf, orElse}
 use Rattle.site.specs.SiteList.{siteAt}
 use Rattle.entry.specs.declared.Entry.{Entry}
-use Rattle.entry.specs.Entry.{bestK, lawfulK}
-use Rattle.sweep.specs.Strip.{allPairs}
+use Rattle.entry.specs.Entry.{lawfulK}
+use Rattle.pairs.specs.KList.{kList}
 use Rattle.site_file.specs.declared.Which.the-variants.{First, Second}
 use Rattle.site_file.specs.Bytes.{word}
 use Rattle.site_file.specs.File.{sitesIn}
 use Rattle.site_file.specs.Calls.{readRefusal}
 use Rattle.listing.specs.Decimal.{decimal}
+
+-- The bytes of a word, one for each character.
+unfoldable pub bytes : String → List ℕ
+bytes noText = []
+bytes (c before s) = code c ∷ bytes s
 
 -- "Fields are one space apart, and each line ends in a line feed."
 unfoldable pub line : List (List ℕ) → List ℕ
@@ -22,47 +29,23 @@ line [] = 10 ∷ []
 line (f ∷ []) = f ++ (10 ∷ [])
 line (f ∷ (g ∷ l)) = f ++ (32 ∷ line (g ∷ l))
 
--- The words `pairs`, `of` and `refused`.
-abbrev pub pairsWord : List ℕ
-pairsWord = 112 ∷ 97 ∷ 105 ∷ 114 ∷ 115 ∷ []
-
-abbrev pub ofWord : List ℕ
-ofWord = 111 ∷ 102 ∷ []
-
-abbrev pub refusedWord : List ℕ
-refusedWord = 114 ∷ 101 ∷ 102 ∷ 117 ∷ 115 ∷ 101 ∷ 100 ∷ []
-
--- The number of the site at a place.
-unfoldable pub numberAt : List Site → ℕ → ℕ
-numberAt l place = siteAt l place .number
-
--- "rank from 1, squared distance, first site's number, second site's number."
-unfoldable pub entryLine : ℕ → ℕ → ℕ → ℕ → List ℕ
-entryLine rank distance first second =
-    line (decimal rank ∷ decimal distance ∷ decimal first ∷ decimal second ∷ [])
-
--- "a line per entry"; `a` and `b` give the number of the site at a place of each list.
+-- "a line per entry: rank from 1, squared distance, first site's number, second site's number"; `a` and `b` give those.
 unfoldable pub entryLines : (ℕ → ℕ) → (ℕ → ℕ) → ℕ → List Entry → List ℕ
 entryLines a b rank [] = []
 entryLines a b rank (e ∷ l) =
-    entryLine rank (e .distance) (a (e .first)) (b (e .second)) ++ entryLines a b (suc rank) l
+    line (decimal rank ∷ decimal (e .distance) ∷ decimal (a (e .first)) ∷ decimal (b (e .second)) ∷ [])
+    ++ entryLines a b (suc rank) l
 
--- "one line, `pairs`, entries, `of` and n × m."
-unfoldable pub heading : ℕ → ℕ → List ℕ
-heading entries total = line (pairsWord ∷ decimal entries ∷ ofWord ∷ decimal total ∷ [])
-
-unfoldable pub entriesText : ℕ → (ℕ → ℕ) → (ℕ → ℕ) → List Entry → List ℕ
-entriesText total a b entries = heading (length entries) total ++ entryLines a b 1 entries
-
--- The text for two lists.
+-- The text for two lists: "one line, `pairs`, entries, `of` and n × m, then a line per entry".
 unfoldable pub listingText : ℕ → List Site → List Site → List ℕ
 listingText k a b =
-    let all = allPairs a b in
-    entriesText (length all) (numberAt a) (numberAt b) (bestK k all)
+    let entries = kList k a b in
+    line (bytes "pairs" ∷ decimal (length entries) ∷ bytes "of" ∷ decimal (length a * length b) ∷ [])
+    ++ entryLines (λ i. siteAt a i .number) (λ i. siteAt b i .number) 1 entries
 
 -- "A refusal prints one line only, as `refused 4`."
 unfoldable pub refusedText : ℕ → List ℕ
-refusedText number = line (refusedWord ∷ decimal number ∷ [])
+refusedText number = line (bytes "refused" ∷ decimal number ∷ [])
 
 -- "Input above 48,020 bytes gets 6 before anything else, below 4 bytes 10; otherwise the file is tested before K."
 unfoldable pub listingRefusal : List ℕ → ℕ

@@ -3,14 +3,15 @@ use super::line;
 ghost use mathlib.Core.Path.{_≡_};
 ghost use mathlib.Core.Bool.{true};
 ghost use Prim.Native.Nat.{suc, _+_, _*_, _≤_, _<_};
-ghost use lib.ListN.{length, getD};
-ghost use Rattle.entry.specs.Results.{results, entriesOf, roomFor};
-ghost use Rattle.listing.specs.Listing.{entryLine, entryLines, entriesText};
-ghost use Rattle.listing.specs.Internal.{Put};
+ghost use lib.ListN.{length};
+ghost use Rattle.entry.specs.Results.{results, lentResults, entriesOf, roomFor};
+ghost use Rattle.entry.specs.Terms.{entryAt};
+ghost use Rattle.listing.specs.Listing.{entryLines};
+ghost use Rattle.listing.specs.Internal.{entryLine, numberAt, entriesText, Puts};
 
 // The number at a place of a column, 0 past its end.
 fn number_at(numbers: &[u32], place: u32) -> u32
-    ensures { λ r. ⌜ r ≡ getD (now (numbers .entry)) place 0 ⌝ }
+    ensures { λ r. ⌜ r ≡ numberAt (now (numbers .entry)) place ⌝ }
 {
     let i = place as usize;
     if i < numbers.len() {
@@ -33,11 +34,10 @@ fn put_entry_at(
     requires { ⌜ (i < length (now distance)) × (i < length (now first)) × (i < length (now second)) ⌝ }
     requires { ⌜ at + 84 ≤ length (now out) ⌝ }
     ensures { λ r.
-        ⌜ Put at
-        (entryLine (suc i) (getD (now (distance .entry)) i 0)
-        (getD (now (an .entry)) (getD (now (first .entry)) i 0) 0)
-        (getD (now (bn .entry)) (getD (now (second .entry)) i 0) 0))
-        (now (out .entry)) (now (out .exit)) r ⌝ }
+        let e = entryAt (lentResults distance first second .entry) i in
+        let a = numberAt (now (an .entry)) (e .first) in
+        let b = numberAt (now (bn .entry)) (e .second) in
+        ⌜ Puts at (entryLine (suc i) (e .distance) a b) out r ⌝ }
 {
     let a = number_at(an, first[i]);
     let b = number_at(bn, second[i]);
@@ -58,10 +58,8 @@ fn put_entries(
     requires { ⌜ roomFor count (results (now distance) (now first) (now second)) ≡ true ⌝ }
     requires { ⌜ at + 84 * count ≤ length (now out) ⌝ }
     ensures { λ r.
-        ⌜ Put at
-        (entryLines (λ i. getD (now (an .entry)) i 0) (λ i. getD (now (bn .entry)) i 0) 1
-        (entriesOf count (results (now (distance .entry)) (now (first .entry)) (now (second .entry)))))
-        (now (out .entry)) (now (out .exit)) r ⌝ }
+        let l = entriesOf count (lentResults distance first second .entry) in
+        ⌜ Puts at (entryLines (numberAt (now (an .entry))) (numberAt (now (bn .entry))) 1 l) out r ⌝ }
 {
     let mut next = at;
     let mut i = 0;
@@ -85,11 +83,8 @@ pub(super) fn put_text(
     requires { ⌜ roomFor count (results (now distance) (now first) (now second)) ≡ true ⌝ }
     requires { ⌜ (length (now an) ≤ 65535) × (length (now bn) ≤ 65535) × (51 + 84 * count ≤ length (now out)) ⌝ }
     ensures { λ r.
-        ⌜ Put 0
-        (entriesText (length (now (an .entry)) * length (now (bn .entry)))
-        (λ i. getD (now (an .entry)) i 0) (λ i. getD (now (bn .entry)) i 0)
-        (entriesOf count (results (now (distance .entry)) (now (first .entry)) (now (second .entry)))))
-        (now (out .entry)) (now (out .exit)) r ⌝ }
+        let l = entriesOf count (lentResults distance first second .entry) in
+        ⌜ Puts 0 (entriesText (now (an .entry)) (now (bn .entry)) l) out r ⌝ }
 {
     let total = (an.len() as u64) * (bn.len() as u64);
     let next = line::put_heading(out, 0, count as u64, total);

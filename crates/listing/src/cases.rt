@@ -10,12 +10,12 @@ ghost use mathlib.Core.Path.{_≡_};
 ghost use mathlib.Core.Bool.{true};
 ghost use Prim.Native.Nat.{_≤_};
 ghost use lib.ListN.{length};
-ghost use Rattle.site.specs.SiteList.{columns, sites};
+ghost use Rattle.site.specs.SiteList.{columns, lentList, sites};
 ghost use Rattle.column.specs.Column.{overwritten};
 ghost use Rattle.entry.specs.Results.{results, roomFor};
-ghost use Rattle.site_file.specs.File.{countIn, sitesIn};
+ghost use Rattle.site_file.specs.File.{countIn};
 ghost use Rattle.listing.specs.Listing.{listingText, listing};
-ghost use Rattle.listing.specs.Internal.{Put, Lawful, Sized, FileLists};
+ghost use Rattle.listing.specs.Internal.{fileText, Puts, Lawful, Sized, FileLists};
 
 // Writes the text for two lists, whose K list the result columns take: the position past it.
 fn list_with(
@@ -34,10 +34,9 @@ fn list_with(
     requires { ⌜ Lawful (columns (now ax) (now ay) (now an)) (columns (now bx) (now by) (now bn)) k (now out) ⌝ }
     requires { ⌜ roomFor 4096 (results (now distance) (now first) (now second)) ≡ true ⌝ }
     ensures { λ r.
-        ⌜ Put 0
-        (listingText k (sites (columns (now (ax .entry)) (now (ay .entry)) (now (an .entry))))
-        (sites (columns (now (bx .entry)) (now (by .entry)) (now (bn .entry)))))
-        (now (out .entry)) (now (out .exit)) r ⌝ }
+        let a = lentList ax ay an .entry in
+        let b = lentList bx by bn .entry in
+        ⌜ Puts 0 (listingText k (sites a) (sites b)) out r ⌝ }
 {
     let way = Way::ReverseRun;
     match pairs::k_list(way, ax, ay, an, bx, by, bn, k, distance, first, second) {
@@ -63,10 +62,9 @@ fn list_columns(
 ) -> usize
     requires { ⌜ Lawful (columns (now ax) (now ay) (now an)) (columns (now bx) (now by) (now bn)) k (now out) ⌝ }
     ensures { λ r.
-        ⌜ Put 0
-        (listingText k (sites (columns (now (ax .entry)) (now (ay .entry)) (now (an .entry))))
-        (sites (columns (now (bx .entry)) (now (by .entry)) (now (bn .entry)))))
-        (now (out .entry)) (now (out .exit)) r ⌝ }
+        let a = lentList ax ay an .entry in
+        let b = lentList bx by bn .entry in
+        ⌜ Puts 0 (listingText k (sites a) (sites b)) out r ⌝ }
 {
     let mut distance = [0u64; 4096];
     let mut first = [0u32; 4096];
@@ -101,9 +99,7 @@ fn list_sites(
     requires { ⌜ FileLists (now file) k (now out) ⌝ }
     requires { ⌜ Sized (countIn (now file) Which.First) (columns (now ax) (now ay) (now an)) ⌝ }
     requires { ⌜ Sized (countIn (now file) Which.Second) (columns (now bx) (now by) (now bn)) ⌝ }
-    ensures { λ r.
-        ⌜ Put 0 (listingText k (sitesIn (now (file .entry)) Which.First) (sitesIn (now (file .entry)) Which.Second))
-        (now (out .entry)) (now (out .exit)) r ⌝ }
+    ensures { λ r. ⌜ Puts 0 (fileText k (now (file .entry))) out r ⌝ }
 {
     input::read_sites(file, Which::First, ax, ay, an);
     input::read_sites(file, Which::Second, bx, by, bn);
@@ -113,9 +109,7 @@ fn list_sites(
 // Writes the text for a site file of at most 48,016 bytes: the position past it.
 fn list_file(file: &[u8], k: u32, out: &mut [u8]) -> usize
     requires { ⌜ FileLists (now file) k (now out) × (length (now file) ≤ 48016) ⌝ }
-    ensures { λ r.
-        ⌜ Put 0 (listingText k (sitesIn (now (file .entry)) Which.First) (sitesIn (now (file .entry)) Which.Second))
-        (now (out .entry)) (now (out .exit)) r ⌝ }
+    ensures { λ r. ⌜ Puts 0 (fileText k (now (file .entry))) out r ⌝ }
 {
     let n = site_file::count_in(file, Which::First) as usize;
     let m = site_file::count_in(file, Which::Second) as usize;
@@ -140,8 +134,9 @@ fn list_file(file: &[u8], k: u32, out: &mut [u8]) -> usize
 
 // The case listing of an input, K and a site file: the length of its text, which stands at the start of the buffer.
 pub fn list_cases(input: &[u8], out: &mut [u8; ROOM]) -> usize
-    ensures { λ r. ⌜ r ≡ length (listing (now (input .entry))) ⌝ }
-    ensures { λ _. ⌜ now (out .exit) ≡ overwritten (listing (now (input .entry))) (now (out .entry)) ⌝ }
+    ensures { λ r.
+        let text = listing (now (input .entry)) in
+        ⌜ (r ≡ length text) × (now (out .exit) ≡ overwritten text (now (out .entry))) ⌝ }
 {
     let refusal = input::input_refusal(input);
     if refusal != 0 {

@@ -2,8 +2,8 @@
 ghost use mathlib.Core.Path.{_≡_};
 ghost use Prim.Native.Nat.{_+_, _^_, _≤_, _<_};
 ghost use lib.ListN.{length};
-ghost use Rattle.listing.specs.Decimal.{decimal, digitAt};
-ghost use Rattle.listing.specs.Internal.{Put, Digits};
+ghost use Rattle.listing.specs.Decimal.{decimal};
+ghost use Rattle.listing.specs.Internal.{digitAt, Puts, Digits};
 
 // The twenty powers of ten from 1 to 10,000,000,000,000,000,000.
 const POWERS: [u64; 20] = [
@@ -62,7 +62,7 @@ fn digits(n: u64) -> usize
 // Writes a number in decimal digits: the position past them.
 pub(super) fn put_decimal(out: &mut [u8], at: usize, n: u64) -> usize
     requires { ⌜ at + 20 ≤ length (now out) ⌝ }
-    ensures { λ r. ⌜ Put at (decimal n) (now (out .entry)) (now (out .exit)) r ⌝ }
+    ensures { λ r. ⌜ Puts at (decimal n) out r ⌝ }
 {
     let mut left = digits(n);
     let mut next = at;

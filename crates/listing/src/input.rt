@@ -5,7 +5,7 @@ use site_file::Which;
 ghost use mathlib.Core.Path.{_≡_};
 ghost use Prim.Native.Nat.{_<_};
 ghost use lib.ListN.{set};
-ghost use Rattle.site.specs.SiteList.{columns, siteAt, columnsOf};
+ghost use Rattle.site.specs.SiteList.{columns, lentList, siteAt, columnsOf};
 ghost use Rattle.site_file.specs.File.{countIn, sitesIn};
 ghost use Rattle.site_file.specs.Calls.{contentsRefusal, readRefusal};
 ghost use Rattle.listing.specs.Listing.{listingRefusal};
@@ -15,9 +15,13 @@ ghost use Rattle.listing.specs.Internal.{Sized};
 fn read_site(file: &[u8], which: Which, x: &mut [i32], y: &mut [i32], number: &mut [u32], i: usize)
     requires { ⌜ (contentsRefusal (now file) ≡ 0) × (i < countIn (now file) which) ⌝ }
     requires { ⌜ Sized (countIn (now file) which) (columns (now x) (now y) (now number)) ⌝ }
-    ensures { λ _. ⌜ now (x .exit) ≡ set (now (x .entry)) i (siteAt (sitesIn (now (file .entry)) which) i .x) ⌝ }
-    ensures { λ _. ⌜ now (y .exit) ≡ set (now (y .entry)) i (siteAt (sitesIn (now (file .entry)) which) i .y) ⌝ }
-    ensures { λ _. ⌜ now (number .exit) ≡ set (now (number .entry)) i (siteAt (sitesIn (now (file .entry)) which) i .number) ⌝ }
+    ensures { λ _.
+        let s = siteAt (sitesIn (now (file .entry)) which) i in
+        ⌜
+        (now (x .exit) ≡ set (now (x .entry)) i (s .x))
+        × ((now (y .exit) ≡ set (now (y .entry)) i (s .y))
+        × (now (number .exit) ≡ set (now (number .entry)) i (s .number)))
+        ⌝ }
 {
     match site_file::consult(file, which, i as u32) {
         SiteRead::Found(s) => {
@@ -41,8 +45,7 @@ pub(super) fn read_sites(
 )
     requires { ⌜ contentsRefusal (now file) ≡ 0 ⌝ }
     requires { ⌜ Sized (countIn (now file) which) (columns (now x) (now y) (now number)) ⌝ }
-    ensures { λ _.
-        ⌜ columns (now (x .exit)) (now (y .exit)) (now (number .exit)) ≡ columnsOf (sitesIn (now (file .entry)) which) ⌝ }
+    ensures { λ _. ⌜ lentList x y number .exit ≡ columnsOf (sitesIn (now (file .entry)) which) ⌝ }
 {
     let count = x.len();
     let mut i = 0;

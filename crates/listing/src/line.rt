@@ -4,13 +4,13 @@ ghost use mathlib.Core.List.{[], _∷_, _++_};
 ghost use Prim.Native.Nat.{_+_, _≤_};
 ghost use lib.ListN.{length};
 ghost use Rattle.listing.specs.Decimal.{decimal};
-ghost use Rattle.listing.specs.Listing.{entryLine, heading, refusedText};
-ghost use Rattle.listing.specs.Internal.{Put};
+ghost use Rattle.listing.specs.Listing.{refusedText};
+ghost use Rattle.listing.specs.Internal.{entryLine, heading, Puts};
 
 // Writes some bytes: the position past them.
 fn put_bytes(out: &mut [u8], at: usize, text: &[u8]) -> usize
     requires { ⌜ at + length (now text) ≤ length (now out) ⌝ }
-    ensures { λ r. ⌜ Put at (now (text .entry)) (now (out .entry)) (now (out .exit)) r ⌝ }
+    ensures { λ r. ⌜ Puts at (now (text .entry)) out r ⌝ }
 {
     let mut next = at;
     let mut i = 0;
@@ -25,7 +25,7 @@ fn put_bytes(out: &mut [u8], at: usize, text: &[u8]) -> usize
 // Writes a number in decimal digits and the byte after it: the position past them.
 fn put_field(out: &mut [u8], at: usize, n: u64, after: u8) -> usize
     requires { ⌜ at + 21 ≤ length (now out) ⌝ }
-    ensures { λ r. ⌜ Put at (decimal n ++ (after ∷ [])) (now (out .entry)) (now (out .exit)) r ⌝ }
+    ensures { λ r. ⌜ Puts at (decimal n ++ (after ∷ [])) out r ⌝ }
 {
     let next = digits::put_decimal(out, at, n);
     out[next] = after;
@@ -42,7 +42,7 @@ pub(super) fn put_entry(
     second: u32,
 ) -> usize
     requires { ⌜ at + 84 ≤ length (now out) ⌝ }
-    ensures { λ r. ⌜ Put at (entryLine rank distance first second) (now (out .entry)) (now (out .exit)) r ⌝ }
+    ensures { λ r. ⌜ Puts at (entryLine rank distance first second) out r ⌝ }
 {
     let past_rank = put_field(out, at, rank, 32);
     let past_distance = put_field(out, past_rank, distance, 32);
@@ -53,7 +53,7 @@ pub(super) fn put_entry(
 // Writes the first line: the position past it.
 pub(super) fn put_heading(out: &mut [u8], at: usize, entries: u64, total: u64) -> usize
     requires { ⌜ at + 51 ≤ length (now out) ⌝ }
-    ensures { λ r. ⌜ Put at (heading entries total) (now (out .entry)) (now (out .exit)) r ⌝ }
+    ensures { λ r. ⌜ Puts at (heading entries total) out r ⌝ }
 {
     let past_pairs = put_bytes(out, at, b"pairs ");
     let past_entries = put_field(out, past_pairs, entries, 32);
@@ -64,7 +64,7 @@ pub(super) fn put_heading(out: &mut [u8], at: usize, entries: u64, total: u64) -
 // Writes a refusal: the position past it.
 pub(super) fn put_refused(out: &mut [u8], at: usize, number: u32) -> usize
     requires { ⌜ at + 29 ≤ length (now out) ⌝ }
-    ensures { λ r. ⌜ Put at (refusedText number) (now (out .entry)) (now (out .exit)) r ⌝ }
+    ensures { λ r. ⌜ Puts at (refusedText number) out r ⌝ }
 {
     let past_refused = put_bytes(out, at, b"refused ");
     put_field(out, past_refused, number as u64, 10)

@@ -2,31 +2,36 @@
 use Prim.Native.Nat.{_-_}
 use native.Mathlib.Omega.{arith}
 use Rattle.entry.specs.Results.{results}
-use lib.ListN.{getD}
-use Rattle.listing.proofs.Entries.{Entering, entering-starts, entering-here, entering-more, entering-ends}
+use Rattle.listing.specs.Internal.{numberAt}
+use Rattle.listing.proofs.EntryLines.{LinesLeft, lines-starts, lines-here, lines-more, lines-ends}
 use borrow.Author.Needs.{needs}
 use Rattle.listing.proofs.body.put_entries.Statement.{statement}
 use Rattle.listing.proofs.body.put_entries.Tie as tie
 
 abbrev Inv-loop : tie.InvT-loop
-Inv-loop an bn distance first second count out₀ at next₀ i₀ out next i = Entering (λ i. getD an i 0) (λ i. getD bn i 0) count (results distance first second) at out₀ out next i
+Inv-loop an bn distance first second count out₀ at next₀ i₀ out next i =
+    LinesLeft (numberAt an) (numberAt bn) count (results distance first second) at out₀ out next i
 
 abbrev μ-loop : tie.MeasureT-loop
 μ-loop an bn distance first second count out₀ at next₀ i₀ out next i = count - i
 
 loop-holds : tie.Need-loop-holds Inv-loop μ-loop
-loop-holds c = entering-starts _ _ _ _ _ _ (c .before .before .before .before .before .before .pre .0) (c .before .before .before .before .before .before .pre .1)
+loop-holds c =
+    let pre = c .before .before .before .before .before .before .pre in
+    lines-starts _ _ _ _ _ _ (pre .0) (pre .1)
 
 put-entry-at-requires : tie.Need-put-entry-at-requires Inv-loop μ-loop
 put-entry-at-requires c κs =
     let inv = c .before .before .loop .inv in
-    (entering-here _ _ _ _ _ _ (c .before .loop-test .taken) inv, omega (arith, inv .room, c .before .loop-test .taken))
+    (lines-here _ _ _ _ _ _ (c .before .loop-test .taken) inv, omega (arith, inv .room, c .before .loop-test .taken))
 
 loop-again : tie.Need-loop-again Inv-loop μ-loop
-loop-again c = entering-more _ _ _ _ _ _ (c .before .before .before .before .loop-test .taken) (c .before .before .before .before .before .loop .inv) (c .before .before .put-entry-at .ensures)
+loop-again c =
+    let turn = c .before .before .before .before in
+    lines-more _ _ _ _ _ _ (turn .loop-test .taken) (turn .before .loop .inv) (c .before .before .put-entry-at .ensures)
 
 returns : tie.Need-returns Inv-loop μ-loop
-returns c = entering-ends _ _ _ _ _ _ (search needs) (c .before .loop .inv)
+returns c = lines-ends _ _ _ _ _ _ (search needs) (c .before .loop .inv)
 
 pub put-entries-spec : {M : Type 1} → statement M
 put-entries-spec =

@@ -1,11 +1,13 @@
 -- The line of an entry, by what the columns hold.
-use Rattle.listing.proofs.Entries.{line-put}
+use Rattle.listing.proofs.EntryLines.{line-put}
 use borrow.Author.Needs.{needs}
 use Rattle.listing.proofs.body.put_entry_at.Statement.{statement}
 use Rattle.listing.proofs.body.put_entry_at.Tie as tie
 
 returns : tie.Need-returns
-returns c = line-put _ _ (c .before .before .before .before .before .before .before .number-at .ensures) (c .before .before .before .before .before .number-at2 .ensures) (c .before .before .put-entry .ensures)
+returns c =
+    let second = c .before .before .before .before .before in
+    line-put _ _ (second .before .before .number-at .ensures) (second .number-at2 .ensures) (c .before .before .put-entry .ensures)
 
 pub put-entry-at-spec : {M : Type 1} → statement M
 put-entry-at-spec =

@@ -1,6 +1,6 @@
 -- The listing: a refusal, or the text of an accepted file.
 use native.Mathlib.Omega.{arith}
-use Rattle.listing.proofs.Verdict.{taken, put-start, listing-refused, part-ready, part-listed}
+use Rattle.listing.proofs.Listing.{taken, put-start, listing-refused, part-ready, part-listed}
 use borrow.Author.Needs.{needs}
 use Rattle.listing.proofs.cases.list_cases.Statement.{statement}
 use Rattle.listing.proofs.cases.list_cases.Tie as tie
@@ -9,20 +9,29 @@ put-refused-requires : tie.Need-put-refused-requires
 put-refused-requires c κs = omega (arith, c .put-refused-arg .given .0 .1)
 
 returns : tie.Need-returns
-returns c = put-start (listing-refused _ _ (c .before .before .before .input-refusal .ensures) (c .before .before .if1 .taken)) (c .put-refused .ensures)
+returns c =
+    let tested = c .before .before .before in
+    put-start (listing-refused _ _ (tested .input-refusal .ensures) (c .before .before .if1 .taken))
+    (c .put-refused .ensures)
 
 sub-list-file : tie.Need-sub-list-file
-sub-list-file c = taken _ (c .before .before .input-refusal .ensures) (c .before .if1 .left) .least
+sub-list-file c = let left = c .before in taken _ (left .before .input-refusal .ensures) (left .if1 .left) .least
 
 part-list-file-start : tie.Need-part-list-file-start
-part-list-file-start c = taken _ (c .before .before .input-refusal .ensures) (c .before .if1 .left) .least
+part-list-file-start c = let left = c .before in taken _ (left .before .input-refusal .ensures) (left .if1 .left) .least
 
 list-file-requires : tie.Need-list-file-requires
 list-file-requires c κs =
-    part-ready _ (c .before .before .before .before .input-refusal .ensures) (c .before .before .before .if1 .left) (c .before .before .word-at .ensures) (omega (arith, c .list-file-arg2 .given .0 .1))
+    let left = c .before .before .before in
+    part-ready _ (left .before .input-refusal .ensures) (left .if1 .left) (c .before .before .word-at .ensures)
+    (omega (arith, c .list-file-arg2 .given .0 .1))
 
 returns-2 : tie.Need-returns-2
-returns-2 c = put-start (part-listed _ (c .before .before .before .before .before .input-refusal .ensures) (c .before .before .before .before .if1 .left) (c .before .before .before .word-at .ensures)) (c .list-file .ensures)
+returns-2 c =
+    let left = c .before .before .before .before in
+    put-start
+    (part-listed _ (left .before .input-refusal .ensures) (left .if1 .left) (c .before .before .before .word-at .ensures))
+    (c .list-file .ensures)
 
 pub list-cases-spec : {M : Type 1} → statement M
 list-cases-spec =

@@ -1,5 +1,5 @@
 -- The text with result columns of 4,096 entries.
-use Rattle.listing.proofs.Text.{zeros-room}
+use Rattle.listing.proofs.ListingText.{zeros-room}
 use borrow.Author.Needs.{needs}
 use Rattle.listing.proofs.cases.list_columns.Statement.{statement}
 use Rattle.listing.proofs.cases.list_columns.Tie as tie

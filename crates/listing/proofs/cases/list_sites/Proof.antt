@@ -1,6 +1,6 @@
 -- Both lists read into columns, and their text.
 use Rattle.site_file.proofs.Contents.{read-contents}
-use Rattle.listing.proofs.Reading.{read-lawful, read-text}
+use Rattle.listing.proofs.FileLists.{read-lawful, read-text}
 use borrow.Author.Needs.{needs}
 use Rattle.listing.proofs.cases.list_sites.Statement.{statement}
 use Rattle.listing.proofs.cases.list_sites.Tie as tie
@@ -9,15 +9,22 @@ read-sites-requires : tie.Need-read-sites-requires
 read-sites-requires c κs = let pre = c .before .before .before .before .before .before .before .pre in (read-contents _ (pre .0 .accepted), pre .1 .0)
 
 read-sites-requires-2 : tie.Need-read-sites-requires-2
-read-sites-requires-2 c κs = let pre = c .before .before .before .before .before .before .before .before .before .before .before .before .before .before .before .pre in (read-contents _ (pre .0 .accepted), pre .1 .1)
+read-sites-requires-2 c κs =
+    let first = c .before .before .before .before .before .before .before in
+    let pre = first .before .before .before .before .before .before .before .before .pre in
+    (read-contents _ (pre .0 .accepted), pre .1 .1)
 
 list-columns-requires : tie.Need-list-columns-requires
 list-columns-requires c κs =
-    read-lawful _ _ (c .before .before .before .before .before .before .before .before .before .before .before .before .before .before .before .before .before .before .before .read-sites .ensures) (c .before .before .before .before .before .before .before .before .before .before .before .read-sites2 .ensures) (c .before .before .before .before .before .before .before .before .before .before .before .before .before .before .before .before .before .before .before .before .before .before .before .before .before .before .before .pre .0)
+    let second = c .before .before .before .before .before .before .before .before .before .before .before in
+    let first = second .before .before .before .before .before .before .before .before in
+    read-lawful _ _ (first .read-sites .ensures) (second .read-sites2 .ensures) (first .before .before .before .before .before .before .before .before .pre .0)
 
 returns : tie.Need-returns
 returns c =
-    read-text _ _ (c .before .before .before .before .before .before .before .before .before .before .before .before .before .before .before .before .before .before .before .before .before .before .read-sites .ensures) (c .before .before .before .before .before .before .before .before .before .before .before .before .before .before .read-sites2 .ensures) (c .before .before .list-columns .ensures)
+    let second = c .before .before .before .before .before .before .before .before .before .before .before .before .before .before in
+    let first = second .before .before .before .before .before .before .before .before in
+    read-text _ _ (first .read-sites .ensures) (second .read-sites2 .ensures) (c .before .before .list-columns .ensures)
 
 pub list-sites-spec : {M : Type 1} → statement M
 list-sites-spec =

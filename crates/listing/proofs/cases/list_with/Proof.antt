@@ -1,6 +1,6 @@
 -- The text from the K list that the columns take.
 use Rattle.sweep.specs.declared.Way.the-variants.{ReverseRun}
-use Rattle.listing.proofs.Text.{never-refused, text-ready, text-written}
+use Rattle.listing.proofs.ListingText.{never-refused, text-ready, text-written}
 use borrow.Author.Needs.{needs}
 use Rattle.listing.proofs.cases.list_with.Statement.{statement}
 use Rattle.listing.proofs.cases.list_with.Tie as tie

@@ -1,7 +1,7 @@
 -- A decimal digit: a power of ten is not 0.
 use native.Mathlib.Omega.{arith}
 use borrow.Author.Needs.{needs}
-use Rattle.listing.specs.Decimal.{digitAt}
+use Rattle.listing.specs.Internal.{digitAt}
 use Rattle.listing.proofs.Decimal.{power-positive}
 use Rattle.listing.proofs.digits.digit.Statement.{statement}
 use Rattle.listing.proofs.digits.digit.Tie as tie

@@ -1,23 +1,23 @@
 -- Writing a number: its lowest digits are left, the next one is written.
 use borrow.Author.Needs.{needs}
-use Rattle.listing.proofs.Numerals.{Lowest, lowest-starts, lowest-more, lowest-ends}
+use Rattle.listing.proofs.Decimal.{DigitsLeft, digits-starts, digits-more, digits-ends}
 use Rattle.listing.proofs.digits.put_decimal.Statement.{statement}
 use Rattle.listing.proofs.digits.put_decimal.Tie as tie
 
 abbrev Inv-loop : tie.InvT-loop
-Inv-loop out₀ at n left₀ next₀ out left next = Lowest n at out₀ left out next
+Inv-loop out₀ at n left₀ next₀ out left next = DigitsLeft n at out₀ left out next
 
 abbrev μ-loop : tie.MeasureT-loop
 μ-loop out₀ at n left₀ next₀ out left next = left
 
 loop-holds : tie.Need-loop-holds Inv-loop μ-loop
-loop-holds c = lowest-starts _ _ _ (search needs) (c .digits .ensures)
+loop-holds c = digits-starts _ _ _ (search needs) (c .digits .ensures)
 
 loop-again : tie.Need-loop-again Inv-loop μ-loop
-loop-again c = lowest-more _ _ _ _ _ _ (search needs) (c .digit .ensures) (c .before .before .loop .inv)
+loop-again c = digits-more _ _ _ _ _ _ (search needs) (c .digit .ensures) (c .before .before .loop .inv)
 
 returns : tie.Need-returns Inv-loop μ-loop
-returns c = lowest-ends _ _ _ _ _ (search needs) (c .before .loop .inv)
+returns c = digits-ends _ _ _ _ _ (search needs) (c .before .loop .inv)
 
 pub put-decimal-spec : {M : Type 1} → statement M
 put-decimal-spec =

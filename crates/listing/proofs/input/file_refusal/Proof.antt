@@ -1,5 +1,5 @@
 -- The refusal that reading a file answers.
-use Rattle.listing.proofs.Verdict.{read-none, read-number}
+use Rattle.listing.proofs.Listing.{read-none, read-number}
 use borrow.Author.Needs.{needs}
 use Rattle.listing.proofs.input.file_refusal.Statement.{statement}
 use Rattle.listing.proofs.input.file_refusal.Tie as tie

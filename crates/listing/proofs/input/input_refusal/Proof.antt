@@ -1,6 +1,6 @@
 -- The tests of an input, one after another.
 use mathlib.Core.Bool.{true, false}
-use Rattle.listing.proofs.Verdict.{input-long, input-short, input-file, input-k}
+use Rattle.listing.proofs.Listing.{input-long, input-short, input-file, input-k}
 use borrow.Author.Needs.{needs}
 use Rattle.listing.proofs.input.input_refusal.Statement.{statement}
 use Rattle.listing.proofs.input.input_refusal.Tie as tie

@@ -6,16 +6,47 @@ use Rattle.listing.proofs.line.put_entry.Statement.{statement}
 use Rattle.listing.proofs.line.put_entry.Tie as tie
 
 put-field-requires-2 : tie.Need-put-field-requires-2
-put-field-requires-2 c κs = omega (arith, field-next _ _ (c .before .before .before .put-field .ensures), c .before .before .before .put-field .kept, c .before .before .before .before .before .before .pre)
+put-field-requires-2 c κs =
+    let ranked = c .before .before .before in
+    omega (arith, field-next _ _ (ranked .put-field .ensures), ranked .put-field .kept, ranked .before .before .before .pre)
 
 put-field-requires-3 : tie.Need-put-field-requires-3
-put-field-requires-3 c κs = omega (arith, field-next _ _ (c .before .before .before .put-field2 .ensures), c .before .before .before .put-field2 .kept, field-next _ _ (c .before .before .before .before .before .before .before .put-field .ensures), c .before .before .before .before .before .before .before .put-field .kept, c .before .before .before .before .before .before .before .before .before .before .pre)
+put-field-requires-3 c κs =
+    let measured = c .before .before .before in
+    let ranked = measured .before .before .before .before in
+    omega (
+      arith,
+      field-next _ _ (measured .put-field2 .ensures),
+      measured .put-field2 .kept,
+      field-next _ _ (ranked .put-field .ensures),
+      ranked .put-field .kept,
+      ranked .before .before .before .pre,
+    )
 
 put-field-requires-4 : tie.Need-put-field-requires-4
-put-field-requires-4 c κs = omega (arith, field-next _ _ (c .before .before .before .put-field3 .ensures), c .before .before .before .put-field3 .kept, field-next _ _ (c .before .before .before .before .before .before .before .put-field2 .ensures), c .before .before .before .before .before .before .before .put-field2 .kept, field-next _ _ (c .before .before .before .before .before .before .before .before .before .before .before .put-field .ensures), c .before .before .before .before .before .before .before .before .before .before .before .put-field .kept, c .before .before .before .before .before .before .before .before .before .before .before .before .before .before .pre)
+put-field-requires-4 c κs =
+    let numbered = c .before .before .before in
+    let measured = numbered .before .before .before .before in
+    let ranked = measured .before .before .before .before in
+    omega (
+      arith,
+      field-next _ _ (numbered .put-field3 .ensures),
+      numbered .put-field3 .kept,
+      field-next _ _ (measured .put-field2 .ensures),
+      measured .put-field2 .kept,
+      field-next _ _ (ranked .put-field .ensures),
+      ranked .put-field .kept,
+      ranked .before .before .before .pre,
+    )
 
 returns : tie.Need-returns
-returns c = entry-put _ _ _ _ (c .before .before .before .before .before .before .before .before .before .before .before .before .before .before .before .before .before .pre) (c .before .before .before .before .before .before .before .before .before .before .before .before .before .before .put-field .ensures) (c .before .before .before .before .before .before .before .before .before .before .put-field2 .ensures) (c .before .before .before .before .before .before .put-field3 .ensures) (c .before .before .put-field4 .ensures)
+returns c =
+    let last = c .before .before in
+    let numbered = last .before .before .before .before in
+    let measured = numbered .before .before .before .before in
+    let ranked = measured .before .before .before .before in
+    entry-put _ _ _ _ (ranked .before .before .before .pre) (ranked .put-field .ensures) (measured .put-field2 .ensures)
+    (numbered .put-field3 .ensures) (last .put-field4 .ensures)
 
 pub put-entry-spec : {M : Type 1} → statement M
 put-entry-spec =

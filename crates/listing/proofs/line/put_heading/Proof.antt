@@ -2,17 +2,48 @@
 use native.Mathlib.Omega.{arith}
 use Rattle.listing.proofs.Lines.{field-next, heading-put}
 use borrow.Author.Needs.{needs}
+use Rattle.listing.specs.Listing.{bytes}
 use Rattle.listing.proofs.line.put_heading.Statement.{statement}
 use Rattle.listing.proofs.line.put_heading.Tie as tie
 
 put-bytes-requires-2 : tie.Need-put-bytes-requires-2
-put-bytes-requires-2 c κs = omega (arith, field-next _ _ (c .before .before .before .before .put-field .ensures), c .before .before .before .before .put-field .kept, c .before .before .before .before .before .before .before .before .put-bytes .ensures .position, c .before .before .before .before .before .before .before .before .put-bytes .kept, c .before .before .before .before .before .before .before .before .before .before .before .before .pre)
+put-bytes-requires-2 c κs =
+    let counted = c .before .before .before .before in
+    let named = counted .before .before .before .before in
+    omega (
+      arith,
+      field-next _ _ (counted .put-field .ensures),
+      counted .put-field .kept,
+      named .put-bytes .ensures .position,
+      named .put-bytes .kept,
+      named .before .before .before .before .pre,
+    )
 
 put-field-requires-2 : tie.Need-put-field-requires-2
-put-field-requires-2 c κs = omega (arith, c .before .before .before .put-bytes2 .ensures .position, c .before .before .before .put-bytes2 .kept, field-next _ _ (c .before .before .before .before .before .before .before .before .put-field .ensures), c .before .before .before .before .before .before .before .before .put-field .kept, c .before .before .before .before .before .before .before .before .before .before .before .before .put-bytes .ensures .position, c .before .before .before .before .before .before .before .before .before .before .before .before .put-bytes .kept, c .before .before .before .before .before .before .before .before .before .before .before .before .before .before .before .before .pre)
+put-field-requires-2 c κs =
+    let joined = c .before .before .before in
+    let counted = joined .before .before .before .before .before in
+    let named = counted .before .before .before .before in
+    omega (
+      arith,
+      joined .put-bytes2 .ensures .position,
+      joined .put-bytes2 .kept,
+      field-next _ _ (counted .put-field .ensures),
+      counted .put-field .kept,
+      named .put-bytes .ensures .position,
+      named .put-bytes .kept,
+      named .before .before .before .before .pre,
+    )
 
 returns : tie.Need-returns
-returns c = heading-put _ _ (c .before .before .before .before .before .before .before .before .before .before .before .before .before .before .before .before .before .before .before .pre) (c .before .before .before .before .before .before .before .before .before .before .before .before .before .before .before .put-bytes .ensures) (c .before .before .before .before .before .before .before .before .before .before .before .put-field .ensures) (c .before .before .before .before .before .before .put-bytes2 .ensures) (c .before .before .put-field2 .ensures)
+unfolding bytes
+returns c =
+    let last = c .before .before in
+    let joined = last .before .before .before .before in
+    let counted = joined .before .before .before .before .before in
+    let named = counted .before .before .before .before in
+    heading-put _ _ (named .before .before .before .before .pre) (named .put-bytes .ensures) (counted .put-field .ensures)
+    (joined .put-bytes2 .ensures) (last .put-field2 .ensures)
 
 pub put-heading-spec : {M : Type 1} → statement M
 put-heading-spec =

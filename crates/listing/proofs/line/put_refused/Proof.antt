@@ -1,11 +1,15 @@
 -- A refusal is a word and a number.
 use Rattle.listing.proofs.Lines.{refused-put}
 use borrow.Author.Needs.{needs}
+use Rattle.listing.specs.Listing.{bytes}
 use Rattle.listing.proofs.line.put_refused.Statement.{statement}
 use Rattle.listing.proofs.line.put_refused.Tie as tie
 
 returns : tie.Need-returns
-returns c = refused-put _ (c .before .before .before .before .before .before .before .before .before .before .pre) (c .before .before .before .before .before .before .put-bytes .ensures) (c .before .before .put-field .ensures)
+unfolding bytes
+returns c =
+    let named = c .before .before .before .before .before .before in
+    refused-put _ (named .before .before .before .before .pre) (named .put-bytes .ensures) (c .before .before .put-field .ensures)
 
 pub put-refused-spec : {M : Type 1} → statement M
 put-refused-spec =

@@ -20,11 +20,13 @@ pub put-byte : (at b : ℕ) (l : List ℕ) → at < length l → Put at (b ∷ [
 put-byte at b l h = record { position = refl; buffer = sets-stored (b ∷ []) l at (omega arith) }
 
 -- A text keeps the buffer's length.
-pub put-length : {at next : ℕ} {text before after : List ℕ} → Put at text before after next → at + length text ≤ length before → length after ≡ length before
+pub put-length : {at next : ℕ} {text before after : List ℕ} → Put at text before after next
+    → at + length text ≤ length before → length after ≡ length before
 put-length {at} {next} {text} {before} p h = rw (p .buffer) (stored-length at text before h)
 
 -- One text after another.
-pub put-then : {at next past : ℕ} {s t before between after : List ℕ} → Put at s before between next → Put next t between after past → at + length s ≤ length before → Put at (s ++ t) before after past
+pub put-then : {at next past : ℕ} {s t before between after : List ℕ} → Put at s before between next
+    → Put next t between after past → at + length s ≤ length before → Put at (s ++ t) before after past
 put-then {at} {next} {past} {s} {t} {before} p q h =
     record {
       position = omega (arith, length-append s t, p .position, q .position);
@@ -45,14 +47,18 @@ module _ {at : ℕ} {text before : List ℕ} where
       }
 
   -- The rest fits.
-  pub writing-room : {left now : List ℕ} {next : ℕ} → Writing at text before left now next → (next + length left ≤ length now) × (length now ≡ length before)
+  pub writing-room : {left now : List ℕ} {next : ℕ} → Writing at text before left now next
+      → (next + length left ≤ length now) × (length now ≡ length before)
   writing-room {left} {now} {next} w =
-      let size : length (w .done) + length left ≡ length text = sym (length-append (w .done) left) ∙ ap length (w .parts) in
+      let size : length (w .done) + length left ≡ length text =
+      sym (length-append (w .done) left) ∙ ap length (w .parts) in
       let same : length now ≡ length before = put-length (w .put) (omega (arith, w .fits)) in
       (omega (arith, w .fits, w .put .position), same)
 
   -- One more piece.
-  pub writing-more : {left now after : List ℕ} {next past : ℕ} (piece : List ℕ) → Writing at text before (piece ++ left) now next → Put next piece now after past → Writing at text before left after past
+  pub writing-more : {left now after : List ℕ} {next past : ℕ} (piece : List ℕ)
+      → Writing at text before (piece ++ left) now next → Put next piece now after past
+      → Writing at text before left after past
   writing-more {left} {now} {after} {next} {past} piece w p =
       let size : length (w .done) + (length piece + length left) ≡ length text =
       rw (← length-append piece left, ← length-append (w .done) (piece ++ left)) (ap length (w .parts)) in

@@ -25,7 +25,7 @@ use Rattle.site_file.proofs.File.{list-length}
 use Rattle.site_file.proofs.Contents.{inside, read-laid, site-found}
 use Rattle.site_file.proofs.Bodies.{columns-accepted}
 use Rattle.listing.specs.Listing.{listingText}
-use Rattle.listing.specs.Internal.{Put, Lawful, Sized, FileLists}
+use Rattle.listing.specs.Internal.{fileText, Put, Lawful, Sized, FileLists}
 
 -- ---- one column, any element
 
@@ -38,7 +38,8 @@ module _ {A : Type 0} (values : List A) where
   filled-starts : {column : List A} → length column ≡ length values → Filled values column 0
   filled-starts h = record { size = h; first = refl }
 
-  filled-more : (d : A) {column : List A} (i : ℕ) {v : A} → i < length values → v ≡ getD values i d → Filled values column i → Filled values (set column i v) (suc i)
+  filled-more : (d : A) {column : List A} (i : ℕ) {v : A} → i < length values → v ≡ getD values i d
+      → Filled values column i → Filled values (set column i v) (suc i)
   filled-more d {column} i {v} h e f =
       record {
         size = length-set column i v ∙ f .size;
@@ -63,13 +64,16 @@ module _ (i : ℕ) {s t : Site} (e : s ≡ t) where
   number-stored ns = ap (set ns i) (ap (λ r. r .number) e)
 
 -- A place of an accepted file is never refused: the site there is read.
-module _ (file : List ℕ) (w : Which) (i : ℕ) (r : SiteRead) (told : siteReadAnswer r ≡ siteAnswer file w i) (none : contentsRefusal file ≡ 0) (h : i < countIn file w) where
+module _ (file : List ℕ) (w : Which) (i : ℕ) (r : SiteRead) (told : siteReadAnswer r ≡ siteAnswer file w i)
+    (none : contentsRefusal file ≡ 0) (h : i < countIn file w) where
   found : siteReadAnswer r ≡ answered (siteAt (sitesIn file w) i)
   found = told ∙ site-found file w i none h
 
   pub found-site : {s : Site} → r ≡ Found s → s ≡ siteAt (sitesIn file w) i
   unfolding siteReadAnswer
-  found-site {s} e = let same : answered s ≡ answered (siteAt (sitesIn file w) i) = sym (ap siteReadAnswer e) ∙ found in cc
+  found-site {s} e =
+      let same : answered s ≡ answered (siteAt (sitesIn file w) i) = sym (ap siteReadAnswer e) ∙ found in
+      cc
 
   pub found-always : {n : ℕ} → r ≡ Refused n → ⊥
   unfolding siteReadAnswer
@@ -79,7 +83,7 @@ module _ (file : List ℕ) (w : Which) (i : ℕ) (r : SiteRead) (told : siteRead
       omega arith
 
 -- The first `i` of a list's `n` sites stand in columns of its length.
-pub record Reading (l : List Site) (n : ℕ) (xs ys : List ℤ) (ns : List ℕ) (i : ℕ) : Type 0 where
+pub record SitesRead (l : List Site) (n : ℕ) (xs ys : List ℤ) (ns : List ℕ) (i : ℕ) : Type 0 where
   pub count : length l ≡ n
   pub sized : Sized n (columns xs ys ns)
   pub x : Filled (map (λ s. s .x) l) xs i
@@ -94,8 +98,9 @@ module _ (l : List Site) where
   unfolding siteAt
   value f i = sym (List·getD-map f l i nowhere)
 
-  pub reading-starts : {n : ℕ} {xs ys : List ℤ} {ns : List ℕ} → length l ≡ n → Sized n (columns xs ys ns) → Reading l (length xs) xs ys ns 0
-  reading-starts e h =
+  pub sites-starts : {n : ℕ} {xs ys : List ℤ} {ns : List ℕ} → length l ≡ n → Sized n (columns xs ys ns)
+      → SitesRead l (length xs) xs ys ns 0
+  sites-starts e h =
       record {
         count = e ∙ sym (h .x);
         sized = record { x = refl; y = h .y ∙ sym (h .x); number = h .number ∙ sym (h .x) };
@@ -104,34 +109,43 @@ module _ (l : List Site) where
         number = filled-starts _ (h .number ∙ sym (size (λ s. s .number) e));
       }
 
-  pub reading-more : {n : ℕ} (i : ℕ) {xs ys us vs : List ℤ} {ns ms : List ℕ} → i < n
+  pub sites-more : {n : ℕ} (i : ℕ) {xs ys us vs : List ℤ} {ns ms : List ℕ} → i < n
       → us ≡ set xs i (siteAt l i .x) → vs ≡ set ys i (siteAt l i .y) → ms ≡ set ns i (siteAt l i .number)
-      → Reading l n xs ys ns i → Reading l n us vs ms (i + 1)
-  reading-more {n} i {xs} {ys} {us} {vs} {ns} h e f g w =
+      → SitesRead l n xs ys ns i → SitesRead l n us vs ms (i + 1)
+  sites-more {n} i {xs} {ys} {us} {vs} {ns} h e f g w =
       rw (add-one, e, f, g)
       (record {
         count = w .count;
-        sized = record { x = length-set xs i _ ∙ w .sized .x; y = length-set ys i _ ∙ w .sized .y; number = length-set ns i _ ∙ w .sized .number };
+        sized =
+            record {
+              x = length-set xs i _ ∙ w .sized .x;
+              y = length-set ys i _ ∙ w .sized .y;
+              number = length-set ns i _ ∙ w .sized .number;
+            };
         x = filled-more _ (pos 0) i (omega (arith, size (λ s. s .x) (w .count))) (value (λ s. s .x) i) (w .x);
         y = filled-more _ (pos 0) i (omega (arith, size (λ s. s .y) (w .count))) (value (λ s. s .y) i) (w .y);
-        number = filled-more _ 0 i (omega (arith, size (λ s. s .number) (w .count))) (value (λ s. s .number) i) (w .number);
+        number =
+            filled-more _ 0 i (omega (arith, size (λ s. s .number) (w .count))) (value (λ s. s .number) i) (w .number);
       })
 
-  pub reading-ends : {n : ℕ} (i : ℕ) {xs ys : List ℤ} {ns : List ℕ} → n ≤ i → Reading l n xs ys ns i → columns xs ys ns ≡ columnsOf l
+  pub sites-ends : {n : ℕ} (i : ℕ) {xs ys : List ℤ} {ns : List ℕ} → n ≤ i → SitesRead l n xs ys ns i
+      → columns xs ys ns ≡ columnsOf l
   unfolding columnsOf
-  reading-ends i h w =
+  sites-ends i h w =
       let x = filled-ends _ i (omega (arith, size (λ s. s .x) (w .count))) (w .x) in
       let y = filled-ends _ i (omega (arith, size (λ s. s .y) (w .count))) (w .y) in
       let number = filled-ends _ i (omega (arith, size (λ s. s .number) (w .count))) (w .number) in
       rw (x, y, number)
 
 -- The next place of a list of a file, and of its columns.
-pub reading-here : (file : List ℕ) (w : Which) {n : ℕ} {xs ys : List ℤ} {ns : List ℕ} (i : ℕ) → i < n → Reading (sitesIn file w) n xs ys ns i → (i < countIn file w) × Sized (countIn file w) (columns xs ys ns)
-reading-here file w i h r = rw (sym (list-length file w) ∙ r .count) (h, r .sized)
+pub sites-here : (file : List ℕ) (w : Which) {n : ℕ} {xs ys : List ℤ} {ns : List ℕ} (i : ℕ) → i < n
+    → SitesRead (sitesIn file w) n xs ys ns i → (i < countIn file w) × Sized (countIn file w) (columns xs ys ns)
+sites-here file w i h r = rw (sym (list-length file w) ∙ r .count) (h, r .sized)
 
 -- ---- the columns of both lists of an accepted file
 
-module _ (file : List ℕ) (k : ℕ) {a b : Columns} (p : a ≡ columnsOf (sitesIn file First)) (q : b ≡ columnsOf (sitesIn file Second)) where
+module _ (file : List ℕ) (k : ℕ) {a b : Columns} (p : a ≡ columnsOf (sitesIn file First))
+    (q : b ≡ columnsOf (sitesIn file Second)) where
   pub read-lawful : {buffer : List ℕ} → FileLists file k buffer → Lawful a b k buffer
   unfolding listsRefusal orElse
   read-lawful f =
@@ -141,16 +155,21 @@ module _ (file : List ℕ) (k : ℕ) {a b : Columns} (p : a ≡ columnsOf (sites
         room = f .room;
       }
 
-  pub read-text : {z : ℕ} {before after : List ℕ} → Put 0 (listingText k (sites a) (sites b)) before after z → Put 0 (listingText k (sitesIn file First) (sitesIn file Second)) before after z
+  pub read-text : {z : ℕ} {before after : List ℕ} → Put 0 (listingText k (sites a) (sites b)) before after z
+      → Put 0 (fileText k file) before after z
   read-text t = rw (p, q, columns-sites (sitesIn file First), columns-sites (sitesIn file Second)) at t
 
 -- The lists of a file of at most 48,016 bytes have at most 4,000 sites.
-pub file-few : {file : List ℕ} {k : ℕ} {buffer : List ℕ} → FileLists file k buffer × (length file ≤ 48_016) → (w : Which) {n : ℕ} → n ≡ countIn file w → n ≤ 4_000
+pub file-few : {file : List ℕ} {k : ℕ} {buffer : List ℕ} → FileLists file k buffer × (length file ≤ 48_016)
+    → (w : Which) {n : ℕ} → n ≡ countIn file w → n ≤ 4_000
 file-few {file} f w e = let g = inside file w (read-laid file (f .0 .accepted)) in omega (arith, f .1)
 
 -- The first elements of a column of 4,000 zeros.
 pub zeros-part : {A : Type 0} (z : A) (n : ℕ) → n ≤ 4_000 → n ≡ length (take n (replicate 4_000 z))
 zeros-part z n h = sym (length-take-le n (replicate 4_000 z) (omega (arith, length-replicate 4_000 z)))
 
-pub zeros-sized : {m : ℕ} (n : ℕ) → n ≡ m → n ≤ 4_000 → Sized m (columns (take n (replicate 4_000 (pos 0))) (take n (replicate 4_000 (pos 0))) (take n (replicate 4_000 0)))
-zeros-sized n e h = record { x = sym (zeros-part (pos 0) n h) ∙ e; y = sym (zeros-part (pos 0) n h) ∙ e; number = sym (zeros-part 0 n h) ∙ e }
+pub zeros-sized : {m : ℕ} (n : ℕ) → n ≡ m → n ≤ 4_000
+    → let xs = take n (replicate 4_000 (pos 0)) in Sized m (columns xs xs (take n (replicate 4_000 0)))
+zeros-sized n e h =
+    let xs = sym (zeros-part (pos 0) n h) ∙ e in
+    record { x = xs; y = xs; number = sym (zeros-part 0 n h) ∙ e }

@@ -8,19 +8,26 @@ use borrow.Author.Tests.{lt-ltb, le-ltb, ltb-false}
 use lib.Dec.{ltb}
 use lib.ListN.{length, take, drop, length-drop}
 use Rattle.site.specs.Answer.{refuseIf, orElse}
-use Rattle.site.proofs.Answer.{answered-values, refused-number, first-refused, next-decides, orElse-first, orElse-second, no-fault, fault-none}
+use Rattle.site.proofs.Answer.{
+  answered-values,
+  refused-number,
+  first-refused,
+  next-decides,
+  orElse-first,
+  orElse-second,
+  no-fault,
+  fault-none,
+}
 use Rattle.column.specs.Column.{overwritten}
 use Rattle.column.proofs.Stored.{stored-start}
 use Rattle.entry.specs.Entry.{lawfulK}
 use Rattle.site_file.specs.Bytes.{word}
-use Rattle.site_file.specs.declared.Which.the-variants.{First, Second}
-use Rattle.site_file.specs.File.{sitesIn}
 use Rattle.site_file.specs.declared.FileRead.{FileRead}
 use Rattle.site_file.specs.declared.FileRead.the-variants.{Counts, Refused}
 use Rattle.site_file.specs.Calls.{readRefusal, readAnswer, fileReadAnswer}
 use Rattle.site_file.proofs.Words.{rest-of}
-use Rattle.listing.specs.Listing.{listingRefusal, listingText, refusedText, listing}
-use Rattle.listing.specs.Internal.{Put, FileLists}
+use Rattle.listing.specs.Listing.{listingRefusal, refusedText, listing}
+use Rattle.listing.specs.Internal.{fileText, Put, FileLists}
 
 -- What reading a file says of its refusal.
 module _ (file : List ℕ) {r : FileRead} (e : fileReadAnswer r ≡ readAnswer file) where
@@ -55,7 +62,8 @@ module _ (input : List ℕ) where
       pub input-file : (r ≡ 0 → ⊥) → r ≡ listingRefusal input
       input-file h = rw left (first-refused _ same h)
 
-      pub input-k : r ≡ 0 → {k : ℕ} {b : Bool} (lawful : Bool) → k ≡ word input 0 → b ≡ lawfulK k → b ≡ lawful → refuseIf (not lawful) 4 ≡ listingRefusal input
+      pub input-k : r ≡ 0 → {k : ℕ} {b : Bool} (lawful : Bool) → k ≡ word input 0 → b ≡ lawfulK k → b ≡ lawful
+          → refuseIf (not lawful) 4 ≡ listingRefusal input
       input-k z lawful pk pb t = rw left (next-decides same z (rw (← pk, ← pb, t)))
 
 -- What is known of an input that is not refused.
@@ -80,7 +88,8 @@ accepted input h =
 -- ---- the whole listing
 
 -- What a text from the start on means for the answer.
-pub put-start : {t text before after : List ℕ} {z : ℕ} → t ≡ text → Put 0 text before after z → (z ≡ length t) × (after ≡ overwritten t before)
+pub put-start : {t text before after : List ℕ} {z : ℕ} → t ≡ text → Put 0 text before after z
+    → (z ≡ length t) × (after ≡ overwritten t before)
 put-start {t} {text} {before} e p =
     rw e (omega (arith, p .position), p .buffer ∙ stored-start text before)
 
@@ -94,18 +103,19 @@ module _ (input : List ℕ) where
     pub taken : Accepted input
     taken = accepted input (sym p ∙ h)
 
-    pub listing-taken : listing input ≡ listingText (word input 0) (sitesIn (drop 4 input) First) (sitesIn (drop 4 input) Second)
+    pub listing-taken : listing input ≡ fileText (word input 0) (drop 4 input)
     unfolding listing
     listing-taken = rw (← p, h)
 
     -- The same of the part that the code lends.
     module _ {k : ℕ} (q : k ≡ word input 0) where
-      pub part-ready : {buffer : List ℕ} → 344_115 ≤ length buffer → FileLists (take (length input - 4) (drop 4 input)) k buffer × (length (take (length input - 4) (drop 4 input)) ≤ 48_016)
+      pub part-ready : {buffer : List ℕ} → 344_115 ≤ length buffer
+          → let file = take (length input - 4) (drop 4 input) in FileLists file k buffer × (length file ≤ 48_016)
       part-ready room =
           let part = rest-of input 4 in (
             record { accepted = rw part (taken .file); some = rw q (taken .k); room = room },
             rw part (omega (arith, length-drop 4 input, taken .most)),
           )
 
-      pub part-listed : listing input ≡ listingText k (sitesIn (take (length input - 4) (drop 4 input)) First) (sitesIn (take (length input - 4) (drop 4 input)) Second)
+      pub part-listed : listing input ≡ fileText k (take (length input - 4) (drop 4 input))
       part-listed = rw (rest-of input 4, q) listing-taken

@@ -25,16 +25,15 @@ use Rattle.sweep.specs.declared.Way.{Way}
 use Rattle.sweep.specs.declared.Looks.{Looks}
 use Rattle.sweep.specs.declared.Distances.{Distances}
 use Rattle.sweep.specs.Strip.{allPairs}
-use Rattle.sweep.proofs.PlaceLaws.{length-whole-pairs}
 use Rattle.pairs.specs.declared.Listed.{Listed}
 use Rattle.pairs.specs.declared.Listed.the-variants.{Entries, Refused}
 use Rattle.pairs.specs.KList.{kList, kListRefusal, kListAnswer, listedAnswer}
-use Rattle.listing.specs.Internal.{Put, Lawful}
-use Rattle.listing.specs.Listing.{numberAt, entryLines, entriesText, listingText}
+use Rattle.listing.specs.Listing.{entryLines, listingText}
+use Rattle.listing.specs.Internal.{heading, numberAt, entriesText, Put, Lawful}
 
 -- A site's number stands in the column of numbers.
-pub site-number : (c : Columns) → Level c → (i : ℕ) → numberAt (sites c) i ≡ getD (c .number) i 0
-unfolding numberAt siteAt
+pub site-number : (c : Columns) → Level c → (i : ℕ) → siteAt (sites c) i .number ≡ numberAt (c .number) i
+unfolding siteAt
 site-number c l i =
     byTest (ltb i (length (c .x))) (λ t. ap (λ s. s .number) (site-at c l i (ltb-true i (length (c .x)) t)))
     (λ t.
@@ -43,28 +42,30 @@ site-number c l i =
     ∙ sym (List·getD-eq-default (c .number) 0 {n = i} (omega (arith, l .number))))
 
 -- The lines are the same where the numbers are.
-same-lines : (a b f g : ℕ → ℕ) → ((i : ℕ) → a i ≡ f i) → ((i : ℕ) → b i ≡ g i) → (rank : ℕ) (l : List Entry) → entryLines a b rank l ≡ entryLines f g rank l
+same-lines : (a b f g : ℕ → ℕ) → ((i : ℕ) → a i ≡ f i) → ((i : ℕ) → b i ≡ g i) → (rank : ℕ) (l : List Entry)
+    → entryLines a b rank l ≡ entryLines f g rank l
 unfolding entryLines
 same-lines a b f g p q rank [] = refl
 same-lines a b f g p q rank (e ∷ l) = rw (p (e .first), q (e .second), same-lines a b f g p q (suc rank) l)
 
 pub listing-text : (k : ℕ) (a b : Columns) → Level a → Level b
-    → listingText k (sites a) (sites b) ≡ entriesText (length (a .number) * length (b .number)) (λ i. getD (a .number) i 0) (λ i. getD (b .number) i 0) (kList k (sites a) (sites b))
-unfolding listingText entriesText kList
+    → listingText k (sites a) (sites b) ≡ entriesText (a .number) (b .number) (kList k (sites a) (sites b))
+unfolding listingText entriesText heading
 listing-text k a b p q =
     rw (
-      length-whole-pairs (sites a) (sites b),
       sites-length a p,
       sites-length b q,
       p .number,
       q .number,
-      same-lines (numberAt (sites a)) (numberAt (sites b)) (λ i. getD (a .number) i 0) (λ i. getD (b .number) i 0) (site-number a p) (site-number b q) 1 _,
+      same-lines (λ i. siteAt (sites a) i .number) (λ i. siteAt (sites b) i .number) (numberAt (a .number))
+          (numberAt (b .number)) (site-number a p) (site-number b q) 1 (kList k (sites a) (sites b)),
     )
 
 -- ---- the K list in the result columns
 
 -- A K list of two lawful lists, into columns with room for it.
-module _ (way : Way) (a b : Columns) (k : ℕ) (r : Results) {buffer : List ℕ} (lawful : Lawful a b k buffer) (long : roomFor 4_096 r ≡ true) where
+module _ (way : Way) (a b : Columns) (k : ℕ) (r : Results) {buffer : List ℕ} (lawful : Lawful a b k buffer)
+    (long : roomFor 4_096 r ≡ true) where
   k-most : k ≤ 4_096
   k-most = k-limits k (lawful .some) .1
 
@@ -104,18 +105,20 @@ module _ (way : Way) (a b : Columns) (k : ℕ) (r : Results) {buffer : List ℕ}
           (ap (λ x. x .results) v, ap (λ x. x .count) v)
 
       -- What the text is written from.
-      pub text-ready : (roomFor count s ≡ true) × ((length (a .number) ≤ 65_535) × (length (b .number) ≤ 65_535) × (51 + 84 * count ≤ length buffer))
+      pub text-ready : (roomFor count s ≡ true)
+          × ((length (a .number) ≤ 65_535) × (length (b .number) ≤ 65_535) × (51 + 84 * count ≤ length buffer))
       text-ready = (
         rw (values .0, values .1) (room-holding (length found) found r (enough (length found) few) (omega arith)),
         (first .0, second .0, omega (arith, lawful .room, few, values .1)),
       )
 
       pub text-written : {z : ℕ} {before after : List ℕ}
-          → Put 0 (entriesText (length (a .number) * length (b .number)) (λ i. getD (a .number) i 0) (λ i. getD (b .number) i 0) (entriesOf count s)) before after z
+          → Put 0 (entriesText (a .number) (b .number) (entriesOf count s)) before after z
           → Put 0 (listingText k (sites a) (sites b)) before after z
       unfolding found
       text-written p =
-          let same : entriesOf count s ≡ kList k (sites a) (sites b) = rw (values .0, values .1) (entries-holding found r) in
+          let same : entriesOf count s ≡ kList k (sites a) (sites b) =
+          rw (values .0, values .1) (entries-holding found r) in
           rw (listing-text k a b (first .1) (second .1), ← same) p
 
 -- Result columns of 4,096 zeros have room.
