@@ -116,20 +116,20 @@ module _ (c : Columns) (n : ℕ) (s : Site) (ok : addRefusal c n s ≡ 0) where
   room-number : n < length (c .number)
   room-number = omega (arith, added-room c n s ok, added-level c n s ok .number)
 
-  grown : Columns
-  grown = insertSite spot n s c
+  changed : Columns
+  changed = insertSite spot n s c
 
   -- The columns after the addition.
   abbrev after : Columns
   after = afterwards (λ v. v .columns) (addAnswer c n s) c
 
-  grown-is : grown ≡ after
-  unfolding grown spot old
-  grown-is = added-after c n s ok refl refl
+  changed-is : changed ≡ after
+  unfolding changed spot old
+  changed-is = added-after c n s ok refl refl
 
-  grown-put : sites (inUse (n + 1) grown) ≡ put spot s old
-  unfolding sites inUse insertSite grown old
-  grown-put =
+  changed-put : sites (inUse (n + 1) changed) ≡ put spot s old
+  unfolding sites inUse insertSite changed old
+  changed-put =
       (λ i. sites (columns (inserted-in-use spot n (s .x) (c .x) spot-low (added-room c n s ok) i) (inserted-in-use spot n (s .y) (c .y) spot-low room-y i) (inserted-in-use spot n (s .number) (c .number) spot-low room-number i)))
       ∙ zip-put spot (s .x) (s .y) (s .number) (take n (c .x)) (take n (c .y)) (take n (c .number)) (level .y) (level .number) (simp length-take (omega (arith, spot-low, added-room c n s ok)))
 
@@ -144,7 +144,7 @@ module _ (c : Columns) (n : ℕ) (s : Site) (ok : addRefusal c n s ≡ 0) where
   -- The sites in use afterwards.
   pub added-sites : sites (inUse (n + 1) after) ≡ insert siteBefore s (sites (inUse n c))
   unfolding old
-  added-sites = ap (λ (d : Columns). sites (inUse (n + 1) d)) (sym grown-is) ∙ grown-put ∙ sym old-put
+  added-sites = ap (λ (d : Columns). sites (inUse (n + 1) d)) (sym changed-is) ∙ changed-put ∙ sym old-put
 
   new : All (λ t. s ≡ t → ⊥) (sites (inUse n c))
   unfolding present
@@ -156,37 +156,37 @@ module _ (c : Columns) (n : ℕ) (s : Site) (ok : addRefusal c n s ≡ 0) where
       neither : (t : Site) → s ≡ t → (siteBefore t s || siteBefore s t) ≡ false
       neither t e = rw e (simp (irrefl site-order t))
 
-  grown-level : Level (inUse (n + 1) grown)
-  unfolding inUse insertSite grown
-  grown-level = record {
+  changed-level : Level (inUse (n + 1) changed)
+  unfolding inUse insertSite changed
+  changed-level = record {
     y = simp (length-take, length-inserted n (c .x) (added-room c n s ok) spot (s .x) spot-low, length-inserted n (c .y) room-y spot (s .y) spot-low) (omega (arith, added-level c n s ok .y));
     number = simp (length-take, length-inserted n (c .x) (added-room c n s ok) spot (s .x) spot-low, length-inserted n (c .number) room-number spot (s .number) spot-low) (omega (arith, added-level c n s ok .number));
   }
 
-  grown-few : length (inUse (n + 1) grown .x) ≤ 65_535
-  unfolding inUse insertSite grown
-  grown-few = simp length-take (omega (arith, added-few c n s ok))
+  changed-few : length (inUse (n + 1) changed .x) ≤ 65_535
+  unfolding inUse insertSite changed
+  changed-few = simp length-take (omega (arith, added-few c n s ok))
 
-  grown-sites : sites (inUse (n + 1) grown) ≡ insert siteBefore s old
-  grown-sites = grown-put ∙ sym old-put
+  changed-sites : sites (inUse (n + 1) changed) ≡ insert siteBefore s old
+  changed-sites = changed-put ∙ sym old-put
 
-  grown-inside : All (λ t. lawfulSite t ≡ true) (insert siteBefore s old)
+  changed-inside : All (λ t. lawfulSite t ≡ true) (insert siteBefore s old)
   unfolding All old
-  grown-inside =
+  changed-inside =
       perm-all (λ t. lawfulSite t ≡ true) (Permᴰ·symm (insert-is-perm siteBefore s old)) (added-lawful c n s ok, content-inside old (added-content c n s ok))
 
-  grown-ascends : Ascends siteBefore (insert siteBefore s old)
+  changed-ascends : Ascends siteBefore (insert siteBefore s old)
   unfolding old
-  grown-ascends = ascends-insert site-order s old old-ascends new
+  changed-ascends = ascends-insert site-order s old old-ascends new
 
-  grown-lawful : LawfulList (inUse (n + 1) grown)
-  grown-lawful = record {
-    level = grown-level;
-    few = grown-few;
-    inside = rw grown-sites grown-inside;
-    ascends = rw grown-sites grown-ascends;
+  changed-lawful : LawfulList (inUse (n + 1) changed)
+  changed-lawful = record {
+    level = changed-level;
+    few = changed-few;
+    inside = rw changed-sites changed-inside;
+    ascends = rw changed-sites changed-ascends;
   }
 
   -- They are a lawful list.
   pub added-accepted : listRefusal (inUse (n + 1) after) ≡ 0
-  added-accepted = rw (← grown-is) (lawful-accepted (inUse (n + 1) grown) grown-lawful)
+  added-accepted = rw (← changed-is) (lawful-accepted (inUse (n + 1) changed) changed-lawful)
