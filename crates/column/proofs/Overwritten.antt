@@ -20,11 +20,13 @@ module _ {A : Type 0} where
   unfolding overwritten
   drop-overwritten v c = drop-append-seam v (drop (length v) c)
 
-  pub getD-overwritten : (values column : List A) (i : ℕ) (d : A) → i < length values → getD (overwritten values column) i d ≡ getD values i d
+  pub getD-overwritten : (values column : List A) (i : ℕ) (d : A) → i < length values
+      → getD (overwritten values column) i d ≡ getD values i d
   unfolding overwritten
   getD-overwritten v c i d h = List·getD-append v (drop (length v) c) d i h
 
-  pub getD-overwritten-past : (values column : List A) (i : ℕ) (d : A) → length values ≤ i → getD (overwritten values column) i d ≡ getD column i d
+  pub getD-overwritten-past : (values column : List A) (i : ℕ) (d : A) → length values ≤ i
+      → getD (overwritten values column) i d ≡ getD column i d
   unfolding overwritten
   getD-overwritten-past v c i d h =
       let e : length v + (i - length v) ≡ i = omega arith in

@@ -13,8 +13,13 @@ module _ {A : Type 0} where
   pub stored-length : (at : ℕ) (v l : List A) → at + length v ≤ length l → length (stored at v l) ≡ length l
   unfolding stored
   stored-length at v l h =
-      omega
-      (arith, length-append (take at l) (v ++ drop (at + length v) l), length-append v (drop (at + length v) l), length-take-le at l (omega arith), length-drop (at + length v) l)
+      omega (
+        arith,
+        length-append (take at l) (v ++ drop (at + length v) l),
+        length-append v (drop (at + length v) l),
+        length-take-le at l (omega arith),
+        length-drop (at + length v) l,
+      )
 
   pub stored-none : (at : ℕ) (l : List A) → stored at [] l ≡ l
   unfolding stored
@@ -25,7 +30,8 @@ module _ {A : Type 0} where
   stored-start v l = rw zero-add refl
 
   -- Two runs, one after the other, are one run.
-  pub stored-after : (at next : ℕ) (v w l : List A) → at + length v ≡ next → next ≤ length l → stored next w (stored at v l) ≡ stored at (v ++ w) l
+  pub stored-after : (at next : ℕ) (v w l : List A) → at + length v ≡ next → next ≤ length l
+      → stored next w (stored at v l) ≡ stored at (v ++ w) l
   unfolding stored
   stored-after at next v w l e h =
       let front : length (take at l ++ v) ≡ next =

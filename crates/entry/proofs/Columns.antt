@@ -61,7 +61,8 @@ zip-append (e ∷ l) ds is js = ap (λ (r : List Entry). e ∷ r) (zip-append l 
 pub entries-holding : (l : List Entry) (r : Results) → entriesOf (length l) (holding l r) ≡ l
 unfolding entriesOf holding overwritten
 entries-holding l r =
-    rw (zip-append l (drop (length (map (λ e. e .distance) l)) (r .distance)) (drop (length (map (λ e. e .first) l)) (r .first)) (drop (length (map (λ e. e .second) l)) (r .second)))
+    let past : (Entry → ℕ) → List ℕ → List ℕ = λ key column. drop (length (map key l)) column in
+    rw (zip-append l (past (λ e. e .distance) (r .distance)) (past (λ e. e .first) (r .first)) (past (λ e. e .second) (r .second)))
     (take-append-seam l _)
 
 -- The entries' numbers stand in the columns.
@@ -121,7 +122,8 @@ module _ (k count : ℕ) (r : Results) (room : roomFor k r ≡ true) (most : cou
       let pairs = zipWith entry (r .distance) (r .first) in
       getD-take count (zipEntries (r .distance) (r .first) (r .second)) i e h
       ∙ zip-at (λ make j. make j) pairs (r .second) i (entry 0 0) 0 e (simp length-zip (omega arith)) (omega arith)
-      ∙ ap (λ (make : ℕ → Entry). make (getD (r .second) i 0)) (zip-at entry (r .distance) (r .first) i 0 0 (entry 0 0) (omega arith) (omega arith))
+      ∙ ap (λ (make : ℕ → Entry). make (getD (r .second) i 0))
+      (zip-at entry (r .distance) (r .first) i 0 0 (entry 0 0) (omega arith) (omega arith))
 
   -- The last squared distance stands in its column.
   pub last-distance-column : 0 < count → lastDistance (entriesOf count r) ≡ getD (r .distance) (count - 1) 0
@@ -135,7 +137,9 @@ module _ (k count : ℕ) (r : Results) (room : roomFor k r ≡ true) (most : cou
   holding-self =
       let n = room-lengths k r room in
       let c = entries-columns in
-      rw (c .0, c .1, c .2, overwritten-self count (r .distance) (omega arith), overwritten-self count (r .first) (omega arith), overwritten-self count (r .second) (omega arith))
+      let own : (column : List ℕ) → count ≤ length column → overwritten (take count column) column ≡ column =
+      overwritten-self count in
+      rw (c .0, c .1, c .2, own (r .distance) (omega arith), own (r .first) (omega arith), own (r .second) (omega arith))
 
 -- Written again, at least as far.
 pub holding-again : (l m : List Entry) (r : Results) → length l ≤ length m → holding m (holding l r) ≡ holding m r
@@ -151,7 +155,9 @@ holding-again l m r h = λ i. record {
 
 -- No column changes its length.
 pub holding-lengths : (l : List Entry) (r : Results) → roomFor (length l) r ≡ true
-    → (length (holding l r .distance) ≡ length (r .distance)) × (length (holding l r .first) ≡ length (r .first)) × (length (holding l r .second) ≡ length (r .second))
+    → (length (holding l r .distance) ≡ length (r .distance))
+    × (length (holding l r .first) ≡ length (r .first))
+    × (length (holding l r .second) ≡ length (r .second))
 unfolding holding
 holding-lengths l r room =
     let n = room-lengths (length l) r room in (

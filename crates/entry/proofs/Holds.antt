@@ -63,8 +63,14 @@ module _ (k count : ℕ) (r : Results) (ready : Ready k count r) where
           record {
             entries = omega (arith, length-offer k e (entriesOf count r));
             columns = rw (made, d, f, s) (λ i. record {
-              distance = inserted-key (λ a. a .distance) e (entriesOf count r) (r .distance) p n (rw l (c .0)) (w .0) (omega (arith, ready .most)) i;
-              first = inserted-key (λ a. a .first) e (entriesOf count r) (r .first) p n (rw l (c .1)) (w .0) (omega (arith, ready .most)) i;
-              second = inserted-key (λ a. a .second) e (entriesOf count r) (r .second) p n (rw l (c .2)) (w .0) (omega (arith, ready .most)) i;
+              distance =
+                  inserted-key (λ a. a .distance) e (entriesOf count r) (r .distance) p n (rw l (c .0)) (w .0)
+                  (omega (arith, ready .most)) i;
+              first =
+                  inserted-key (λ a. a .first) e (entriesOf count r) (r .first) p n (rw l (c .1)) (w .0)
+                  (omega (arith, ready .most)) i;
+              second =
+                  inserted-key (λ a. a .second) e (entriesOf count r) (r .second) p n (rw l (c .2)) (w .0)
+                  (omega (arith, ready .most)) i;
             });
           }

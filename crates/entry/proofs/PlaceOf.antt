@@ -21,7 +21,8 @@ pub record Between (e : Entry) (count : ℕ) (r : Results) (low high : ℕ) : Ty
 
 module _ (e : Entry) (count : ℕ) (r : Results) (ready : Ready count count r) where
   pub between-starts : Between e count r 0 count
-  between-starts = record { order = omega arith; within = omega arith; front = λ i h. absurd (omega arith); past = λ h. absurd (omega arith) }
+  between-starts =
+      record { order = omega arith; within = omega arith; front = λ i h. absurd (omega arith); past = λ h. absurd (omega arith) }
 
   -- The test of an entry, as it is read from the columns.
   read-test : (m : ℕ) (x : Entry) (t : Bool) → m < count → x ≡ entryAt r m

@@ -31,7 +31,8 @@ module _ {A : Type 0} {before : A → A → Bool} (o : StrictOrder before) where
   dominates-front a (b ∷ l) (c ∷ cs) s h = (weak-trans o a b c (s .0 .0) (h .0), dominates-front b l cs (s .1) (h .1))
 
   -- A list that ascends dominates each that ascends and has its members among the first's.
-  dominates-members : (l cs : List A) → Ascends before l → Ascends before cs → ((x : A) → List·Memᴰ x cs → List·Memᴰ x l) → Dominates before l cs
+  dominates-members : (l cs : List A) → Ascends before l → Ascends before cs → ((x : A) → List·Memᴰ x cs → List·Memᴰ x l)
+      → Dominates before l cs
   unfolding Dominates Ascends All
   dominates-members l [] s t f = tt
   dominates-members [] (c ∷ cs) s t f = List·Memᴰ·not-nil (f c (List·Memᴰ·head refl))
@@ -73,7 +74,8 @@ module _ {A : Type 0} {before : A → A → Bool} (o : StrictOrder before) where
   -- Distinct elements of a distinct list are not more than it has.
   pub choice-length : (l c : List A) → Distinct l → Distinct c → ((x : A) → List·Memᴰ x c → List·Memᴰ x l) → length c ≤ length l
   choice-length l c d e f =
-      omega (arith, dominates-length (sort before l) (sort before c) (choice-dominated l c d e f), length-sort before l, length-sort before c)
+      let h = dominates-length (sort before l) (sort before c) (choice-dominated l c d e f) in
+      omega (arith, length-sort before l, length-sort before c)
 
   -- ---- weights that grow with the order
 
@@ -86,7 +88,8 @@ module _ {A : Type 0} {before : A → A → Bool} (o : StrictOrder before) where
     sorted-weights [] s = tt
     sorted-weights (a ∷ l) s = (
       all-map (λ n. ltb n (weight a) ≡ false) weight l
-          (all-weaken (λ b. before b a ≡ false) (λ b. ltb (weight b) (weight a) ≡ false) (λ b h. le-ltb (weight b) (weight a) (weight-weak a b h)) l (s .0)),
+          (all-weaken (λ b. before b a ≡ false) (λ b. ltb (weight b) (weight a) ≡ false)
+          (λ b h. le-ltb (weight b) (weight a) (weight-weak a b h)) l (s .0)),
       sorted-weights l (s .1),
     )
 

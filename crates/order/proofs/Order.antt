@@ -19,7 +19,8 @@ byTest false t f = f refl
 pub never-both : {P : Type 0} {b : Bool} → b ≡ true → b ≡ false → P
 never-both t f = absurd (true≢false (sym t ∙ f))
 
--- An order up to sameness: never both ways, not coming before is transitive, and where neither comes first the two are the same in some way.
+-- An order up to sameness: never both ways, not coming before is transitive,
+-- and where neither comes first the two are the same in some way.
 pub record OrderUpTo {A : Type 0} (same : A → A → Type 0) (before : A → A → Bool) : Type 0 where
   pub asym : (a b : A) → before a b ≡ true → before b a ≡ false
   pub weak : (a b c : A) → before b a ≡ false → before c b ≡ false → before c a ≡ false

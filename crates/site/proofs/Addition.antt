@@ -59,12 +59,16 @@ module _ (c : Columns) (n : ℕ) (s : Site) where
         unfolding inUse
         in-use-content = content-left (inUse n c) (in-use-level inside) (simp length-take (omega arith))
 
-        use-left : addRefusal c n s ≡ orElse (listRefusal (inUse n c)) (orElse (cond (not (lawfulSite s)) 2 0) (orElse (cond (noRoom c n) 6 0) (cond (present s (sites (inUse n c))) 11 0)))
+        -- What is tested after the sites in use.
+        abbrev rest : ℕ
+        rest = orElse (cond (not (lawfulSite s)) 2 0) (orElse (cond (noRoom c n) 6 0) (cond (present s (sites (inUse n c))) 11 0))
+
+        use-left : addRefusal c n s ≡ orElse (listRefusal (inUse n c)) rest
         unfolding addRefusal sizeFault orElse
         use-left = simp (level-equal c level, le-leb n 65_535 few, le-leb n (length (c .x)) inside, in-use-content)
 
         pub add-content : {r : ℕ} → r ≡ listRefusal (inUse n c) → (r ≡ 0 → ⊥) → r ≡ addRefusal c n s
-        add-content {r} e h = rw use-left (first-refused (orElse (cond (not (lawfulSite s)) 2 0) (orElse (cond (noRoom c n) 6 0) (cond (present s (sites (inUse n c))) 11 0))) e h)
+        add-content {r} e h = rw use-left (first-refused rest e h)
 
         module _ (ok : listRefusal (inUse n c) ≡ 0) where
           pub add-outside-x : within (s .x) ≡ false → 2 ≡ addRefusal c n s

@@ -28,7 +28,8 @@ module _ (c : Columns) (level : Level c) where
   unfolding sites
   sites-at i d h =
       let make = site (pos 0) (pos 0) in
-      zip-at (λ make n. make n) (zipWith site (c .x) (c .y)) (c .number) i make 0 d (simp length-zip (omega (arith, level .y))) (omega (arith, level .number))
+      zip-at (λ make n. make n) (zipWith site (c .x) (c .y)) (c .number) i make 0 d (simp length-zip (omega (arith, level .y)))
+      (omega (arith, level .number))
       ∙ ap (λ (make : ℕ → Site). make (getD (c .number) i 0)) (zip-at site (c .x) (c .y) i (pos 0) (pos 0) make h (omega (arith, level .y)))
 
   pub site-at : (i : ℕ) → i < length (c .x) → siteAt (sites c) i ≡ columnsAt c i

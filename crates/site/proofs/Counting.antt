@@ -62,7 +62,8 @@ module _ {A : Type 0} (before : A → A → Bool) where
   pub breaks-end : (l : List A) (i : ℕ) → length l ≤ i + 1 → breaks before (drop i l) ≡ 0
   breaks-end l i h = short (drop i l) (simp length-drop (omega arith))
 
-  pub breaks-step : (l : List A) (i : ℕ) (d : A) → i + 1 < length l → breaks before (drop i l) ≡ cond (before (getD l i d) (getD l (i + 1) d)) 0 1 + breaks before (drop (i + 1) l)
+  pub breaks-step : (l : List A) (i : ℕ) (d : A) → i + 1 < length l
+      → breaks before (drop i l) ≡ cond (before (getD l i d) (getD l (i + 1) d)) 0 1 + breaks before (drop (i + 1) l)
   unfolding breaks
   breaks-step l i d h =
       let p : i < length l = omega arith in

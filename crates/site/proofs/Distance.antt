@@ -75,7 +75,8 @@ pub squared-distance-is : (s t : Site) → squaredDistance s t ≡ square (gap (
 unfolding squaredDistance sum
 squared-distance-is s t = ap (λ (n : ℕ). square (gap (s .x) (t .x)) + n) (add-zero (square (gap (s .y) (t .y))))
 
-pub squared-distance-within : (s t : Site) → within (s .x) ≡ true → within (s .y) ≡ true → within (t .x) ≡ true → within (t .y) ≡ true → squaredDistance s t ≤ 8_000_000_000_000_000_000
+pub squared-distance-within : (s t : Site) → within (s .x) ≡ true → within (s .y) ≡ true → within (t .x) ≡ true
+    → within (t .y) ≡ true → squaredDistance s t ≤ 8_000_000_000_000_000_000
 squared-distance-within s t p q r u =
     omega (arith, squared-distance-is s t, squared-gap-within (s .x) (t .x) p r, squared-gap-within (s .y) (t .y) q u)
 

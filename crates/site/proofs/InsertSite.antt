@@ -44,15 +44,19 @@ module _ {A : Type 0} {before : A → A → Bool} (o : StrictOrder before) where
   first-place : (e h : A) (t : List A) → Ascends before (h ∷ t) → before h e ≡ false → placeBy before e (h ∷ t) ≡ 0
   unfolding Ascends All
   first-place e h t s f =
-      ap length (keep-none (λ x. before x e) (h ∷ t)
-      (f, all-weaken (λ x. before h x ≡ true) (λ x. before x e ≡ false) (λ x p. byTest (before x e) (λ q. never-both (o .trans h x e p q) f) (λ q. q)) t (s .0)))
+      ap length (keep-none (λ x. before x e) (h ∷ t) (
+        f,
+        all-weaken (λ x. before h x ≡ true) (λ x. before x e ≡ false)
+            (λ x p. byTest (before x e) (λ q. never-both (o .trans h x e p q) f) (λ q. q)) t (s .0),
+      ))
 
   pub insert-at-place : (e : A) (l : List A) → Ascends before l → insert before e l ≡ put (placeBy before e l) e l
   unfolding Ascends keep
   insert-at-place e [] s = insert-nil before e
   insert-at-place e (h ∷ t) s =
       byTest (before h e)
-      (λ p. insert-later before e h t p ∙ ap (λ (r : List A). h ∷ r) (insert-at-place e t (s .1)) ∙ sym (ap (λ (r : List A). put (length r) e (h ∷ t)) (keep-yes (λ x. before x e) h t p)))
+      (λ p. insert-later before e h t p ∙ ap (λ (r : List A). h ∷ r) (insert-at-place e t (s .1))
+      ∙ sym (ap (λ (r : List A). put (length r) e (h ∷ t)) (keep-yes (λ x. before x e) h t p)))
       (λ p. insert-here before e h t p ∙ sym (ap (λ (q : ℕ). put q e (h ∷ t)) (first-place e h t s p)))
 
   -- It ascends where the element is new.
@@ -76,14 +80,17 @@ module _ {A : Type 0} (p n : ℕ) (v : A) (l : List A) (low : p ≤ n) (room : n
   part-put : put p v (take n l) ≡ take p l ++ (v ∷ take (n - p) (drop p l))
   part-put =
       ap (put p v) in-parts
-      ∙ ap₂ (λ (a b : List A). a ++ (v ∷ b)) (take-at (take p l) (take (n - p) (drop p l)) p head-length) (drop-at (take p l) (take (n - p) (drop p l)) p head-length)
+      ∙ ap₂ (λ (a b : List A). a ++ (v ∷ b)) (take-at (take p l) (take (n - p) (drop p l)) p head-length)
+      (drop-at (take p l) (take (n - p) (drop p l)) p head-length)
 
   pub inserted-in-use : take (n + 1) (inserted p n v l) ≡ put p v (take n l)
   unfolding inserted
   inserted-in-use =
-      take-at (take p l ++ (v ∷ take (n - p) (drop p l))) (drop (n + 1) l) (n + 1) (simp (length-append, length-take, length-drop) (omega arith)) ∙ sym part-put
+      take-at (take p l ++ (v ∷ take (n - p) (drop p l))) (drop (n + 1) l) (n + 1)
+      (simp (length-append, length-take, length-drop) (omega arith)) ∙ sym part-put
 
-zip-put : (p : ℕ) (x y : ℤ) (m : ℕ) (xs ys : List ℤ) (ns : List ℕ) → length ys ≡ length xs → length ns ≡ length xs → p ≤ length xs → sites (columns (put p x xs) (put p y ys) (put p m ns)) ≡ put p (site x y m) (sites (columns xs ys ns))
+zip-put : (p : ℕ) (x y : ℤ) (m : ℕ) (xs ys : List ℤ) (ns : List ℕ) → length ys ≡ length xs → length ns ≡ length xs → p ≤ length xs
+    → sites (columns (put p x xs) (put p y ys) (put p m ns)) ≡ put p (site x y m) (sites (columns xs ys ns))
 unfolding sites zipWith
 zip-put zero x y m xs ys ns e f h = refl
 zip-put (suc p) x y m [] ys ns e f h = absurd (omega arith)
@@ -130,8 +137,12 @@ module _ (c : Columns) (n : ℕ) (s : Site) (ok : addRefusal c n s ≡ 0) where
   changed-put : sites (inUse (n + 1) changed) ≡ put spot s old
   unfolding sites inUse insertSite changed old
   changed-put =
-      (λ i. sites (columns (inserted-in-use spot n (s .x) (c .x) spot-low (added-room c n s ok) i) (inserted-in-use spot n (s .y) (c .y) spot-low room-y i) (inserted-in-use spot n (s .number) (c .number) spot-low room-number i)))
-      ∙ zip-put spot (s .x) (s .y) (s .number) (take n (c .x)) (take n (c .y)) (take n (c .number)) (level .y) (level .number) (simp length-take (omega (arith, spot-low, added-room c n s ok)))
+      let x = inserted-in-use spot n (s .x) (c .x) spot-low (added-room c n s ok) in
+      let y = inserted-in-use spot n (s .y) (c .y) spot-low room-y in
+      let number = inserted-in-use spot n (s .number) (c .number) spot-low room-number in
+      (λ i. sites (columns (x i) (y i) (number i)))
+      ∙ zip-put spot (s .x) (s .y) (s .number) (take n (c .x)) (take n (c .y)) (take n (c .number)) (level .y) (level .number)
+      (simp length-take (omega (arith, spot-low, added-room c n s ok)))
 
   old-ascends : Ascends siteBefore old
   unfolding old
@@ -156,11 +167,17 @@ module _ (c : Columns) (n : ℕ) (s : Site) (ok : addRefusal c n s ≡ 0) where
       neither : (t : Site) → s ≡ t → (siteBefore t s || siteBefore s t) ≡ false
       neither t e = rw e (simp (irrefl site-order t))
 
+  length-x : length (inserted spot n (s .x) (c .x)) ≡ length (c .x)
+  length-x = length-inserted n (c .x) (added-room c n s ok) spot (s .x) spot-low
+
   changed-level : Level (inUse (n + 1) changed)
   unfolding inUse insertSite changed
   changed-level = record {
-    y = simp (length-take, length-inserted n (c .x) (added-room c n s ok) spot (s .x) spot-low, length-inserted n (c .y) room-y spot (s .y) spot-low) (omega (arith, added-level c n s ok .y));
-    number = simp (length-take, length-inserted n (c .x) (added-room c n s ok) spot (s .x) spot-low, length-inserted n (c .number) room-number spot (s .number) spot-low) (omega (arith, added-level c n s ok .number));
+    y =
+        simp (length-take, length-x, length-inserted n (c .y) room-y spot (s .y) spot-low) (omega (arith, added-level c n s ok .y));
+    number =
+        simp (length-take, length-x, length-inserted n (c .number) room-number spot (s .number) spot-low)
+        (omega (arith, added-level c n s ok .number));
   }
 
   changed-few : length (inUse (n + 1) changed .x) ≤ 65_535
@@ -173,7 +190,8 @@ module _ (c : Columns) (n : ℕ) (s : Site) (ok : addRefusal c n s ≡ 0) where
   changed-inside : All (λ t. lawfulSite t ≡ true) (insert siteBefore s old)
   unfolding All old
   changed-inside =
-      perm-all (λ t. lawfulSite t ≡ true) (Permᴰ·symm (insert-is-perm siteBefore s old)) (added-lawful c n s ok, content-inside old (added-content c n s ok))
+      perm-all (λ t. lawfulSite t ≡ true) (Permᴰ·symm (insert-is-perm siteBefore s old))
+      (added-lawful c n s ok, content-inside old (added-content c n s ok))
 
   changed-ascends : Ascends siteBefore (insert siteBefore s old)
   unfolding old

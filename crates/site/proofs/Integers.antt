@@ -37,7 +37,8 @@ pub le-not-lt : (a b : ℤ) → leZ a b ≡ not (ltZ b a)
 le-not-lt (pos a) (pos b) = byTest (leb a b) (λ h. simp (h, le-ltb b a (leb-true a b h))) (λ h. simp (h, lt-ltb b a (leb-false a b h)))
 le-not-lt (pos a) (negsuc b) = refl
 le-not-lt (negsuc a) (pos b) = refl
-le-not-lt (negsuc a) (negsuc b) = byTest (leb b a) (λ h. simp (h, le-ltb a b (leb-true b a h))) (λ h. simp (h, lt-ltb a b (leb-false b a h)))
+le-not-lt (negsuc a) (negsuc b) =
+    byTest (leb b a) (λ h. simp (h, le-ltb a b (leb-true b a h))) (λ h. simp (h, lt-ltb a b (leb-false b a h)))
 
 pub le-total : (a b : ℤ) → leZ a b ≡ false → leZ b a ≡ true
 le-total a b h =

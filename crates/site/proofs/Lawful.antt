@@ -29,7 +29,8 @@ pair-up true true p q = refl
 pair-up true false p q = sym (and-false p)
 pair-up false b p q = refl
 
-zip-lawful : (xs ys : List ℤ) (ns : List ℕ) → length ys ≡ length xs → length ns ≡ length xs → all lawfulSite (sites (columns xs ys ns)) ≡ (all within xs && all within ys)
+zip-lawful : (xs ys : List ℤ) (ns : List ℕ) → length ys ≡ length xs → length ns ≡ length xs
+    → all lawfulSite (sites (columns xs ys ns)) ≡ (all within xs && all within ys)
 unfolding sites zipWith all
 zip-lawful [] [] ns p q = refl
 zip-lawful [] (y ∷ ys) ns p q = absurd (omega arith)
@@ -54,7 +55,8 @@ module _ (c : Columns) where
   module _ (level : Level c) where
     pub level-equal : equalLengths c ≡ true
     unfolding equalLengths
-    level-equal = simp (eq-eqb (length (c .x)) (length (c .y)) (sym (level .y)), eq-eqb (length (c .x)) (length (c .number)) (sym (level .number)))
+    level-equal =
+        simp (eq-eqb (length (c .x)) (length (c .y)) (sym (level .y)), eq-eqb (length (c .x)) (length (c .number)) (sym (level .number)))
 
     pub too-many : 65_535 < length (c .x) → 1 ≡ listRefusal c
     unfolding listRefusal sizeFault orElse
@@ -92,4 +94,5 @@ unfolding equalLengths
 equal-level c h =
     let p = eqb (length (c .x)) (length (c .y)) in
     let q = eqb (length (c .x)) (length (c .number)) in
-    level-by c (eqb-true (length (c .x)) (length (c .y)) (and-first p q h)) (eqb-true (length (c .x)) (length (c .number)) (and-second p q h))
+    level-by c (eqb-true (length (c .x)) (length (c .y)) (and-first p q h))
+    (eqb-true (length (c .x)) (length (c .number)) (and-second p q h))

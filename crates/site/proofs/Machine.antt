@@ -22,7 +22,8 @@ at₁ f p e = e ∙ ap f p
 pub at₂ : {A B C : Type 0} (f : A → B → C) {x a : A} {y b : B} {r : C} → x ≡ a → y ≡ b → r ≡ f x y → r ≡ f a b
 at₂ f p q e = e ∙ ap₂ f p q
 
-pub at₄ : {A C : Type 0} (f : A → A → A → A → C) {x a y b z c w d : A} {r : C} → x ≡ a → y ≡ b → z ≡ c → w ≡ d → r ≡ f x y z w → r ≡ f a b c d
+pub at₄ : {A C : Type 0} (f : A → A → A → A → C) {x a y b z c w d : A} {r : C} → x ≡ a → y ≡ b → z ≡ c → w ≡ d → r ≡ f x y z w
+    → r ≡ f a b c d
 at₄ f p q s t e = e ∙ (λ i. f (p i) (q i) (s i) (t i))
 
 -- A test of two `i32` as the machine makes it.

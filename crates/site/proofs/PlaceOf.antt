@@ -21,7 +21,8 @@ module _ (s : Site) where
   unfolding placeOf keep
   place-cons t l = byTest (siteBefore t s) (λ h. rw h (omega arith)) (λ h. rw h (omega arith))
 
-  pub place-step : (l : List Site) (i : ℕ) (d : Site) → i < length l → placeOf s (drop i l) ≡ cond (siteBefore (getD l i d) s) 1 0 + placeOf s (drop (i + 1) l)
+  pub place-step : (l : List Site) (i : ℕ) (d : Site) → i < length l
+      → placeOf s (drop i l) ≡ cond (siteBefore (getD l i d) s) 1 0 + placeOf s (drop (i + 1) l)
   place-step l i d h = rw (add-one, drop-cons l i d) (place-cons (getD l i d) (drop (suc i) l))
 
   pub place-end : (l : List Site) (i : ℕ) → length l ≤ i → placeOf s (drop i l) ≡ 0

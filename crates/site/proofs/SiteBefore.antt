@@ -17,7 +17,9 @@ site-order =
     (λ a b e i. record { x = e .0 i; y = e .1 .0 i; number = e .1 .1 i })
 
 module _ (s t : Site) where
-  pub before-is : siteBefore s t ≡ cond (ltZ (s .x) (t .x)) true (cond (ltZ (t .x) (s .x)) false (cond (ltZ (s .y) (t .y)) true (cond (ltZ (t .y) (s .y)) false (ltb (s .number) (t .number)))))
+  pub before-is : siteBefore s t
+      ≡ cond (ltZ (s .x) (t .x)) true (cond (ltZ (t .x) (s .x)) false
+      (cond (ltZ (s .y) (t .y)) true (cond (ltZ (t .y) (s .y)) false (ltb (s .number) (t .number)))))
   unfolding siteBefore lex
   before-is = refl
 
@@ -31,8 +33,10 @@ module _ (s t : Site) where
   pub second-below : ltZ (s .x) (t .x) ≡ false → ltZ (t .x) (s .x) ≡ false → ltZ (s .y) (t .y) ≡ true → true ≡ siteBefore s t
   second-below p q r = simp (before-is, p, q, r)
 
-  pub second-above : ltZ (s .x) (t .x) ≡ false → ltZ (t .x) (s .x) ≡ false → ltZ (s .y) (t .y) ≡ false → ltZ (t .y) (s .y) ≡ true → false ≡ siteBefore s t
+  pub second-above : ltZ (s .x) (t .x) ≡ false → ltZ (t .x) (s .x) ≡ false → ltZ (s .y) (t .y) ≡ false → ltZ (t .y) (s .y) ≡ true
+      → false ≡ siteBefore s t
   second-above p q r u = simp (before-is, p, q, r, u)
 
-  pub number-decides : ltZ (s .x) (t .x) ≡ false → ltZ (t .x) (s .x) ≡ false → ltZ (s .y) (t .y) ≡ false → ltZ (t .y) (s .y) ≡ false → ltb (s .number) (t .number) ≡ siteBefore s t
+  pub number-decides : ltZ (s .x) (t .x) ≡ false → ltZ (t .x) (s .x) ≡ false → ltZ (s .y) (t .y) ≡ false
+      → ltZ (t .y) (s .y) ≡ false → ltb (s .number) (t .number) ≡ siteBefore s t
   number-decides p q r u = simp (before-is, p, q, r, u)

@@ -17,7 +17,9 @@ loop-holds : tie.Need-loop-holds Inv-loop μ-loop
 loop-holds c = moving-starts (pos 0) _ _ _ (search needs) (search needs)
 
 loop-again : tie.Need-loop-again Inv-loop μ-loop
-loop-again c = moving-more (pos 0) _ _ _ (search needs) _ _ (search needs) (toZ-ofZ (sfits-of (c .column .given))) (c .before .before .loop .inv)
+loop-again c =
+    moving-more (pos 0) _ _ _ (search needs) _ _ (search needs) (toZ-ofZ (sfits-of (c .column .given)))
+    (c .before .before .loop .inv)
 
 same-length : tie.Need-same-length Inv-loop μ-loop
 same-length c = simp length-set (search needs)

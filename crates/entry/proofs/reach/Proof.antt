@@ -20,10 +20,14 @@ returns : tie.Need-returns
 returns c = simp (ne-eqb (c .before .before .args .count) (c .before .before .args .k) (c .if1 .taken))
 
 returns-2 : tie.Need-returns-2
-returns-2 c = let a = c .before .before .before .before .args in full (a .distance .now) (a .count) (a .k) 0 (c .get-u64 .ensures) (omega arith) (omega arith)
+returns-2 c =
+    let a = c .before .before .before .before .args in
+    full (a .distance .now) (a .count) (a .k) 0 (c .get-u64 .ensures) (omega arith) (omega arith)
 
 returns-3 : tie.Need-returns-3
-returns-3 c = let a = c .before .before .before .before .args in full (a .distance .now) (a .count) (a .k) (a .count - 1) (c .get-u642 .ensures) refl (omega arith)
+returns-3 c =
+    let a = c .before .before .before .before .args in
+    full (a .distance .now) (a .count) (a .k) (a .count - 1) (c .get-u642 .ensures) refl (omega arith)
 
 pub reach-spec : {M : Type 1} → statement M
 reach-spec =

@@ -34,19 +34,27 @@ fits-y c = sfits-of (search needs)
 learnt : (c : tie.After-add-refusal) → c .add-refusal .result ≡ addRefusal (lent (start c)) (start c .args .count) (start c .args .s)
 learnt c =
     let a = start c .args in
-    at₂ (λ (x y : ℤ). addRefusal (lent (start c)) (a .count) (site x y (a .s .number))) (toZ-ofZ (fits-x (c .before .before))) (toZ-ofZ (fits-y (c .before .before))) (c .add-refusal .ensures)
+    at₂ (λ (x y : ℤ). addRefusal (lent (start c)) (a .count) (site x y (a .s .number))) (toZ-ofZ (fits-x (c .before .before)))
+    (toZ-ofZ (fits-y (c .before .before))) (c .add-refusal .ensures)
 
-accepted : (c : tie.Else1) → addRefusal (lent (start (c .before))) (start (c .before) .args .count) (start (c .before) .args .s) ≡ 0
+-- The way back from each place.
+abbrev begun : tie.Else1 → tie.Start
+begun c = start (c .before)
+
+abbrev passed : tie.After-place-of → tie.Else1
+passed c = c .before .before .before .before .before .before
+
+accepted : (c : tie.Else1) → addRefusal (lent (begun c)) (begun c .args .count) (begun c .args .s) ≡ 0
 accepted c = sym (learnt (c .before)) ∙ c .if1 .left
 
-level : (c : tie.Else1) → Level (lent (start (c .before)))
-level c = let e = start (c .before) in added-level (lent e) (e .args .count) (e .args .s) (accepted c)
+level : (c : tie.Else1) → Level (lent (begun c))
+level c = let e = begun c in added-level (lent e) (e .args .count) (e .args .s) (accepted c)
 
-room : (c : tie.Else1) → start (c .before) .args .count < length (start (c .before) .args .x .now)
-room c = let e = start (c .before) in added-room (lent e) (e .args .count) (e .args .s) (accepted c)
+room : (c : tie.Else1) → begun c .args .count < length (begun c .args .x .now)
+room c = let e = begun c in added-room (lent e) (e .args .count) (e .args .s) (accepted c)
 
-few : (c : tie.Else1) → start (c .before) .args .count < 65_535
-few c = let e = start (c .before) in added-few (lent e) (e .args .count) (e .args .s) (accepted c)
+few : (c : tie.Else1) → begun c .args .count < 65_535
+few c = let e = begun c in added-few (lent e) (e .args .count) (e .args .s) (accepted c)
 
 returns : tie.Need-returns
 returns c =
@@ -56,10 +64,10 @@ returns c =
     let h = c .if1 .taken in
     (refused-answer (lent e) (a .count) (a .s) l h, refused-after (lent e) (a .count) (a .s) l h)
 
-within-y : (c : tie.Else1) → start (c .before) .args .count ≤ length (start (c .before) .args .y .now)
+within-y : (c : tie.Else1) → begun c .args .count ≤ length (begun c .args .y .now)
 within-y c = omega (arith, room c, level c .y)
 
-within-number : (c : tie.Else1) → start (c .before) .args .count ≤ length (start (c .before) .args .number .now)
+within-number : (c : tie.Else1) → begun c .args .count ≤ length (begun c .args .number .now)
 within-number c = omega (arith, room c, level c .number)
 
 slice-reshare-prefix-place-of : tie.Need-slice-reshare-prefix-place-of
@@ -86,14 +94,14 @@ slice-aggregate-place-of-3 c =
     let e = start (c .before .before .before .before) in
     sym (length-take-le (e .args .count) (e .args .number .now) (within-number (c .before .before .before)))
 
-part-level : (c : tie.Else1) → Level (inUse (start (c .before) .args .count) (lent (start (c .before))))
+part-level : (c : tie.Else1) → Level (inUse (begun c .args .count) (lent (begun c)))
 part-level c =
-    let e = start (c .before) in
+    let e = begun c in
     in-use-level (lent e) (e .args .count) (e .args .s) (level c) (omega (arith, room c))
 
-part-length : (c : tie.Else1) → length (take (start (c .before) .args .count) (start (c .before) .args .x .now)) ≡ start (c .before) .args .count
+part-length : (c : tie.Else1) → length (take (begun c .args .count) (begun c .args .x .now)) ≡ begun c .args .count
 part-length c =
-    let e = start (c .before) in
+    let e = begun c in
     length-take-le (e .args .count) (e .args .x .now) (omega (arith, room c))
 
 place-of-requires : tie.Need-place-of-requires
@@ -102,24 +110,29 @@ place-of-requires c κs =
     let f = c .before .before .before .before .before in
     (part-level f, omega (arith, part-length f, few f))
 
-learnt-place : (c : tie.After-place-of) → c .place-of .result ≡ placeOf (start (c .before .before .before .before .before .before .before) .args .s) (sites (inUse (start (c .before .before .before .before .before .before .before) .args .count) (lent (start (c .before .before .before .before .before .before .before)))))
+-- The sites in use.
+abbrev used : tie.Start → Columns
+used c = inUse (c .args .count) (lent c)
+
+learnt-place : (c : tie.After-place-of) → c .place-of .result ≡ placeOf (begun (passed c) .args .s) (sites (used (begun (passed c))))
 unfolding inUse
 learnt-place c =
-    let f = c .before .before .before .before .before .before .before in
-    let a = start f .args in
-    at₂ (λ (x y : ℤ). placeOf (site x y (a .s .number)) (sites (inUse (a .count) (lent (start f))))) (toZ-ofZ (fits-x (f .before .before))) (toZ-ofZ (fits-y (f .before .before))) (c .place-of .ensures)
+    let f = passed c .before in
+    at₂ (λ (x y : ℤ). placeOf (site x y (start f .args .s .number)) (sites (used (start f))))
+    (toZ-ofZ (fits-x (f .before .before))) (toZ-ofZ (fits-y (f .before .before))) (c .place-of .ensures)
 
-place-small : (c : tie.After-place-of) → c .place-of .result ≤ start (c .before .before .before .before .before .before .before) .args .count
+place-small : (c : tie.After-place-of) → c .place-of .result ≤ begun (passed c) .args .count
 unfolding inUse
 place-small c =
-    let f = c .before .before .before .before .before .before in
-    let e = start (f .before) in
-    omega (arith, learnt-place c, place-le (e .args .s) (sites (inUse (e .args .count) (lent e))), sites-length (inUse (e .args .count) (lent e)) (part-level f), part-length f)
+    let f = passed c in
+    let e = begun f in
+    omega
+    (arith, learnt-place c, place-le (e .args .s) (sites (used e)), sites-length (used e) (part-level f), part-length f)
 
 insert-site-requires : tie.Need-insert-site-requires
 insert-site-requires c κs =
     let g = c .before .before .before in
-    let f = g .before .before .before .before .before .before in
+    let f = passed g in
     (place-small g, room f, omega (arith, room f, level f .y), omega (arith, room f, level f .number))
 
 add-t30 : tie.Need-add-t30
@@ -131,8 +144,8 @@ returns-2 : tie.Need-returns-2
 returns-2 c =
     let h = c .before .before .before .before in
     let g = h .before .before .before .before in
-    let f = g .before .before .before .before .before .before in
-    let e = start (f .before) in
+    let f = passed g in
+    let e = begun f in
     let a = e .args in
     let p = learnt-place g in
     let q = h .insert-site .ensures in

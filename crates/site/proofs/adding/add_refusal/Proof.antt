@@ -83,7 +83,8 @@ part-y c =
 
 part-number : (c : tie.Else4) → from4 c .args .count ≡ length (lib.ListN.take (from4 c .args .count) (from4 c .args .number .now))
 part-number c =
-    sym (length-take-le (from4 c .args .count) (from4 c .args .number .now) (omega (arith, c .if4 .left, level (c .before .before) .number)))
+    sym (length-take-le (from4 c .args .count) (from4 c .args .number .now)
+    (omega (arith, c .if4 .left, level (c .before .before) .number)))
 
 slice-aggregate-list-refusal : tie.Need-slice-aggregate-list-refusal
 slice-aggregate-list-refusal c = part-x (c .before)
@@ -99,13 +100,15 @@ unfolding inUse
 returns-5 c =
     let f = c .before .before .before .before .before in
     let e = from4 f in
-    add-content (lent e) (e .args .count) (new e) (level (f .before .before)) (f .before .if3 .left) (f .if4 .left) (c .before .list-refusal .ensures) (c .if5 .taken)
+    add-content (lent e) (e .args .count) (new e) (level (f .before .before)) (f .before .if3 .left) (f .if4 .left)
+    (c .before .list-refusal .ensures) (c .if5 .taken)
 
 returns-6 : tie.Need-returns-6
 returns-6 c =
     let f = from5 (c .before .before) in
     let e = from4 f in
-    add-outside-x (lent e) (e .args .count) (new e) (level (f .before .before)) (f .before .if3 .left) (f .if4 .left) (accepted (c .before .before))
+    add-outside-x (lent e) (e .args .count) (new e) (level (f .before .before)) (f .before .if3 .left) (f .if4 .left)
+    (accepted (c .before .before))
     (sym (learnt-x (c .before)) ∙ not-true (c .before .within .result) (c .if6 .taken))
 
 returns-7 : tie.Need-returns-7
@@ -113,7 +116,8 @@ returns-7 c =
     let g = c .before .before .before .before in
     let f = from5 g in
     let e = from4 f in
-    add-outside-y (lent e) (e .args .count) (new e) (level (f .before .before)) (f .before .if3 .left) (f .if4 .left) (accepted g) (inside-x (c .before .before))
+    add-outside-y (lent e) (e .args .count) (new e) (level (f .before .before)) (f .before .if3 .left) (f .if4 .left) (accepted g)
+    (inside-x (c .before .before))
     (sym (learnt-y (c .before)) ∙ not-true (c .before .within2 .result) (c .if7 .taken))
 
 returns-8 : tie.Need-returns-8
@@ -147,13 +151,19 @@ unfolding inUse
 is-present-requires c κs =
     let f = from5 (from7 (c .before .before .before .before .before)) in
     let e = from4 f in
-    (in-use-level (lent e) (e .args .count) (new e) (level (f .before .before)) (f .if4 .left), omega (arith, part-x f, f .before .if3 .left))
+    let l = in-use-level (lent e) (e .args .count) (new e) (level (f .before .before)) (f .if4 .left) in
+    (l, omega (arith, part-x f, f .before .if3 .left))
 
-learnt-present : (c : tie.After-is-present) → c .is-present .result ≡ present (new (from4 (from5 (from7 (c .before .before .before .before .before .before))))) (sites (inUse (from4 (from5 (from7 (c .before .before .before .before .before .before))) .args .count) (lent (from4 (from5 (from7 (c .before .before .before .before .before .before)))))))
+abbrev start : tie.After-is-present → tie.Start
+start c = from4 (from5 (from7 (c .before .before .before .before .before .before)))
+
+learnt-present : (c : tie.After-is-present)
+    → c .is-present .result ≡ present (new (start c)) (sites (inUse (start c .args .count) (lent (start c))))
 unfolding inUse
 learnt-present c =
-    let e = from4 (from5 (from7 (c .before .before .before .before .before .before))) in
-    at₂ (λ (x y : ℤ). present (site x y (e .args .sn)) (sites (inUse (e .args .count) (lent e)))) (toZ-ofZ (e .fits .sx)) (toZ-ofZ (e .fits .sy)) (c .is-present .ensures)
+    let e = start c in
+    at₂ (λ (x y : ℤ). present (site x y (e .args .sn)) (sites (inUse (e .args .count) (lent e)))) (toZ-ofZ (e .fits .sx))
+    (toZ-ofZ (e .fits .sy)) (c .is-present .ensures)
 
 returns-10 : tie.Need-returns-10
 returns-10 c =

@@ -19,7 +19,8 @@ entry c = c .before .before .before .before .before
 abbrev lent : tie.After-before2 → Columns
 lent c = let a = entry c .args in columns (a .x .now) (a .y .now) (a .number .now)
 
-learnt : (c : tie.After-before2) → c .before2 .result ≡ siteBefore (siteAt (sites (lent c)) (entry c .args .i)) (site (entry c .args .sx) (entry c .args .sy) (entry c .args .sn))
+learnt : (c : tie.After-before2) → c .before2 .result
+    ≡ siteBefore (siteAt (sites (lent c)) (entry c .args .i)) (site (entry c .args .sx) (entry c .args .sy) (entry c .args .sn))
 learnt c =
     let a = entry c .args in
     rw (site-at (lent c) (entry c .pre .0) (a .i) (entry c .pre .1))

@@ -22,7 +22,9 @@ use Rattle.site.proofs.adding.is_present.Tie as tie
 
 abbrev Inv-loop : tie.InvT-loop
 Inv-loop x y number sx sy sn same₀ i₀ same i =
-    (i ≤ length x) × (same ≤ i) × (same + failing (apart (site (toZ w32 sx) (toZ w32 sy) sn)) (drop i (sites (columns x y number))) ≡ failing (apart (site (toZ w32 sx) (toZ w32 sy) sn)) (sites (columns x y number)))
+    let l = sites (columns x y number) in
+    let test = apart (site (toZ w32 sx) (toZ w32 sy) sn) in
+    (i ≤ length x) × (same ≤ i) × (same + failing test (drop i l) ≡ failing test l)
 
 abbrev μ-loop : tie.MeasureT-loop
 μ-loop x y number sx sy sn same₀ i₀ same i = length x - i
@@ -40,21 +42,28 @@ entry c = c .before .before .before .before
 same-at-requires : tie.Need-same-at-requires Inv-loop μ-loop
 same-at-requires c κs = (c .before .before .before .pre .0, c .loop-test .taken)
 
-told : (c : tie.After-same-at Inv-loop μ-loop) → c .same-at .result ≡ cond (apart (handed (entry c)) (siteAt (sites (lent (entry c))) (c .before .before .loop .i))) 0 1
+told : (c : tie.After-same-at Inv-loop μ-loop)
+    → c .same-at .result ≡ cond (apart (handed (entry c)) (siteAt (sites (lent (entry c))) (c .before .before .loop .i))) 0 1
 unfolding apart
 told c = c .same-at .ensures
 
 small : (c : tie.After-same-at Inv-loop μ-loop) → c .same-at .result ≤ 1
 small c = no-le (apart (handed (entry c)) (siteAt (sites (lent (entry c))) (c .before .before .loop .i))) (told c)
 
-learnt : (c : tie.After-same-at Inv-loop μ-loop) → c .same-at .result + failing (apart (handed (entry c))) (drop (c .before .before .loop .i + 1) (sites (lent (entry c)))) ≡ failing (apart (handed (entry c))) (drop (c .before .before .loop .i) (sites (lent (entry c))))
+-- How many are left to count from a place on.
+abbrev left : tie.After-same-at Inv-loop μ-loop → ℕ → ℕ
+left c i = failing (apart (handed (entry c))) (drop i (sites (lent (entry c))))
+
+learnt : (c : tie.After-same-at Inv-loop μ-loop)
+    → c .same-at .result + left c (c .before .before .loop .i + 1) ≡ left c (c .before .before .loop .i)
 unfolding siteAt
 learnt c =
     let l = lent (entry c) in
     let level = entry c .pre .0 in
     let i = c .before .before .loop .i in
     let k : i < length (sites l) = omega (arith, c .before .loop-test .taken, sites-length l level) in
-    rw (failing-step (apart (handed (entry c))) (sites l) i (site (pos 0) (pos 0) 0) k) (ap (λ (n : ℕ). n + failing (apart (handed (entry c))) (drop (i + 1) (sites l))) (told c))
+    rw (failing-step (apart (handed (entry c))) (sites l) i (site (pos 0) (pos 0) 0) k)
+    (ap (λ (n : ℕ). n + failing (apart (handed (entry c))) (drop (i + 1) (sites l))) (told c))
 
 add-same : tie.Need-add-same Inv-loop μ-loop
 add-same c = omega (arith, small c, c .before .before .loop .inv, c .before .loop-test .taken, entry c .pre .1)

@@ -21,7 +21,9 @@ use Rattle.site.proofs.adding.place_of.Tie as tie
 
 abbrev Inv-loop : tie.InvT-loop
 Inv-loop x y number sx sy sn place₀ i₀ place i =
-    (i ≤ length x) × (place ≤ i) × (place + placeOf (site (toZ w32 sx) (toZ w32 sy) sn) (drop i (sites (columns x y number))) ≡ placeOf (site (toZ w32 sx) (toZ w32 sy) sn) (sites (columns x y number)))
+    let l = sites (columns x y number) in
+    let s = site (toZ w32 sx) (toZ w32 sy) sn in
+    (i ≤ length x) × (place ≤ i) × (place + placeOf s (drop i l) ≡ placeOf s l)
 
 abbrev μ-loop : tie.MeasureT-loop
 μ-loop x y number sx sy sn place₀ i₀ place i = length x - i
@@ -43,14 +45,20 @@ small : (c : tie.After-earlier-at Inv-loop μ-loop) → c .earlier-at .result �
 small c =
     yes-le (siteBefore (siteAt (sites (lent (entry c))) (c .before .before .loop .i)) (handed (entry c))) (c .earlier-at .ensures)
 
-learnt : (c : tie.After-earlier-at Inv-loop μ-loop) → c .earlier-at .result + placeOf (handed (entry c)) (drop (c .before .before .loop .i + 1) (sites (lent (entry c)))) ≡ placeOf (handed (entry c)) (drop (c .before .before .loop .i) (sites (lent (entry c))))
+-- How many are left to count from a place on.
+abbrev left : tie.After-earlier-at Inv-loop μ-loop → ℕ → ℕ
+left c i = placeOf (handed (entry c)) (drop i (sites (lent (entry c))))
+
+learnt : (c : tie.After-earlier-at Inv-loop μ-loop)
+    → c .earlier-at .result + left c (c .before .before .loop .i + 1) ≡ left c (c .before .before .loop .i)
 unfolding siteAt
 learnt c =
     let l = lent (entry c) in
     let level = entry c .pre .0 in
     let i = c .before .before .loop .i in
     let k : i < length (sites l) = omega (arith, c .before .loop-test .taken, sites-length l level) in
-    rw (place-step (handed (entry c)) (sites l) i (site (pos 0) (pos 0) 0) k) (ap (λ (n : ℕ). n + placeOf (handed (entry c)) (drop (i + 1) (sites l))) (c .earlier-at .ensures))
+    rw (place-step (handed (entry c)) (sites l) i (site (pos 0) (pos 0) 0) k)
+    (ap (λ (n : ℕ). n + placeOf (handed (entry c)) (drop (i + 1) (sites l))) (c .earlier-at .ensures))
 
 add-place : tie.Need-add-place Inv-loop μ-loop
 add-place c = omega (arith, small c, c .before .before .loop .inv, c .before .loop-test .taken, entry c .pre .1)

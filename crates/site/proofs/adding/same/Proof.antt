@@ -24,7 +24,8 @@ learnt c =
     at₄ (λ (ax ay bx by : ℤ). siteBefore (site ax ay (c .before .args .an)) (site bx by (c .before .args .bn)))
     (toZ-ofZ (f .ax)) (toZ-ofZ (f .ay)) (toZ-ofZ (f .bx)) (toZ-ofZ (f .by)) (c .before2 .ensures)
 
-learnt-back : (c : tie.After-before3) → c .before3 .result ≡ siteBefore (other (c .before .before .before)) (one (c .before .before .before))
+learnt-back : (c : tie.After-before3)
+    → c .before3 .result ≡ siteBefore (other (c .before .before .before)) (one (c .before .before .before))
 learnt-back c =
     let f = c .before .before .before .fits in
     let a = c .before .before .before .args in

@@ -17,7 +17,10 @@ returns c =
     let e = c .before .before .before .before .before in
     let n = getD (e .args .number .now) (e .args .i) 0 in
     rw (site-at (columns (e .args .x .now) (e .args .y .now) (e .args .number .now)) (e .pre .0) (e .args .i) (e .pre .1))
-    (at₄ (λ (x y sx sy : ℤ). cond {A = ℕ} (siteBefore (site x y n) (site sx sy (e .args .sn)) || siteBefore (site sx sy (e .args .sn)) (site x y n)) 0 1)
+    (at₄ (λ (x y sx sy : ℤ).
+    let a = site x y n in
+    let b = site sx sy (e .args .sn) in
+    cond {A = ℕ} (siteBefore a b || siteBefore b a) 0 1)
     (toZ-ofZ (sfits-of (c .before .before .before .same-arg .given)))
     (toZ-ofZ (sfits-of (c .before .before .same-arg2 .given)))
     (toZ-ofZ (e .fits .sx))

@@ -21,16 +21,21 @@ Inv-loop column faults₀ i₀ faults i =
 abbrev μ-loop : tie.MeasureT-loop
 μ-loop column faults₀ i₀ faults i = length column - i
 
-learnt : (c : tie.After-outside Inv-loop μ-loop) → c .outside .result ≡ cond (within (getD (c .before .before .before .before .args .column .now) (c .before .before .before .loop .i) (pos 0))) 0 1
+-- The coordinate that is read.
+abbrev read : tie.After-outside Inv-loop μ-loop → ℤ
+read c = getD (c .before .before .before .before .args .column .now) (c .before .before .before .loop .i) (pos 0)
+
+learnt : (c : tie.After-outside Inv-loop μ-loop) → c .outside .result ≡ cond (within (read c)) 0 1
 learnt c =
     at₁ (λ (z : ℤ). cond {A = ℕ} (within z) 0 1) (toZ-ofZ (sfits-of (c .before .outside-arg .given))) (c .outside .ensures)
 
 small : (c : tie.After-outside Inv-loop μ-loop) → c .outside .result ≤ 1
-small c =
-    no-le (within (getD (c .before .before .before .before .args .column .now) (c .before .before .before .loop .i) (pos 0))) (learnt c)
+small c = no-le (within (read c)) (learnt c)
 
 add-faults : tie.Need-add-faults Inv-loop μ-loop
-add-faults c = omega (arith, small c, c .before .before .before .loop .inv, c .before .before .loop-test .taken, c .before .before .before .before .pre)
+add-faults c =
+    let l = c .before .before .before in
+    omega (arith, small c, l .loop .inv, c .before .before .loop-test .taken, l .before .pre)
 
 loop-again : tie.Need-loop-again Inv-loop μ-loop
 loop-again c =

@@ -15,7 +15,8 @@ use Rattle.site.proofs.lists.ascends.Tie as tie
 
 abbrev Inv-loop : tie.InvT-loop
 Inv-loop x y number broken₀ i₀ broken i =
-    (i ≤ length x) × (broken ≤ i) × (broken + breaks siteBefore (drop i (sites (columns x y number))) ≡ breaks siteBefore (sites (columns x y number)))
+    let l = sites (columns x y number) in
+    (i ≤ length x) × (broken ≤ i) × (broken + breaks siteBefore (drop i l) ≡ breaks siteBefore l)
 
 abbrev μ-loop : tie.MeasureT-loop
 μ-loop x y number broken₀ i₀ broken i = length x - i
@@ -32,7 +33,12 @@ break-at-requires c κs = (c .before .before .before .pre .0, c .loop-test .take
 abbrev entry : tie.After-break-at Inv-loop μ-loop → tie.Start Inv-loop μ-loop
 entry c = c .before .before .before .before
 
-learnt : (c : tie.After-break-at Inv-loop μ-loop) → c .break-at .result + breaks siteBefore (drop (c .before .before .loop .i + 1) (sites (lent (entry c)))) ≡ breaks siteBefore (drop (c .before .before .loop .i) (sites (lent (entry c))))
+-- How many are left to count from a place on.
+abbrev left : tie.After-break-at Inv-loop μ-loop → ℕ → ℕ
+left c i = breaks siteBefore (drop i (sites (lent (entry c))))
+
+learnt : (c : tie.After-break-at Inv-loop μ-loop)
+    → c .break-at .result + left c (c .before .before .loop .i + 1) ≡ left c (c .before .before .loop .i)
 unfolding siteAt
 learnt c =
     let l = lent (entry c) in
@@ -40,7 +46,8 @@ learnt c =
     let i = c .before .before .loop .i in
     let h : i + 1 < length (l .x) = c .before .loop-test .taken in
     let k : i + 1 < length (sites l) = omega (arith, sites-length l level) in
-    rw (breaks-step siteBefore (sites l) i (site (pos 0) (pos 0) 0) k) (ap (λ (n : ℕ). n + breaks siteBefore (drop (i + 1) (sites l))) (c .break-at .ensures))
+    rw (breaks-step siteBefore (sites l) i (site (pos 0) (pos 0) 0) k)
+    (ap (λ (n : ℕ). n + breaks siteBefore (drop (i + 1) (sites l))) (c .break-at .ensures))
 
 small : (c : tie.After-break-at Inv-loop μ-loop) → c .break-at .result ≤ 1
 small c =

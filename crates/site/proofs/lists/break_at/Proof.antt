@@ -20,7 +20,8 @@ entry c = c .before .before .before .before .before .before .before .before
 abbrev lent : tie.After-before2 → Columns
 lent c = let a = entry c .args in columns (a .x .now) (a .y .now) (a .number .now)
 
-learnt : (c : tie.After-before2) → c .before2 .result ≡ siteBefore (siteAt (sites (lent c)) (entry c .args .i)) (siteAt (sites (lent c)) (entry c .args .i + 1))
+learnt : (c : tie.After-before2)
+    → c .before2 .result ≡ siteBefore (siteAt (sites (lent c)) (entry c .args .i)) (siteAt (sites (lent c)) (entry c .args .i + 1))
 learnt c =
     let i = entry c .args .i in
     let n = entry c .args .number .now in

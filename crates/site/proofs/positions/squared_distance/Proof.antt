@@ -18,13 +18,16 @@ along-x c =
 
 along-y : (c : tie.After-squared-gap2) → c .squared-gap2 .result ≡ square (gap (c .before .before .args .ay) (c .before .before .args .by))
 along-y c =
-    at₂ (λ (a b : ℤ). square (gap a b)) (toZ-ofZ (c .before .before .fits .ay)) (toZ-ofZ (c .before .before .fits .by)) (c .squared-gap2 .ensures)
+    at₂ (λ (a b : ℤ). square (gap a b)) (toZ-ofZ (c .before .before .fits .ay)) (toZ-ofZ (c .before .before .fits .by))
+    (c .squared-gap2 .ensures)
 
 add-result : tie.Need-add-result
 add-result c =
     let p = c .before .before .pre in
     let a = c .before .before .args in
-    omega (arith, along-x (c .before), along-y c, squared-gap-within (a .ax) (a .bx) (p .0) (p .2), squared-gap-within (a .ay) (a .by) (p .1) (p .3))
+    let x = squared-gap-within (a .ax) (a .bx) (p .0) (p .2) in
+    let y = squared-gap-within (a .ay) (a .by) (p .1) (p .3) in
+    omega (arith, along-x (c .before), along-y c)
 
 returns : tie.Need-returns
 returns c =
