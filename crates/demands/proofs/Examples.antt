@@ -19,15 +19,15 @@ use Rattle.pairs.specs.KList.{kList}
 use Rattle.campaign.specs.Calls.{afterJob, jobAnswer, jobEntries, jobRefusal, newCampaign, openAnswer, openRefusal, skips, slots, statusAnswer}
 use Rattle.campaign.specs.Grid.{countFrom, jobPairs, jobs, jobsPairs, lawfulEnds, lawfulMarks, markOf, rangeGap, settled, settledJobs, squaredStripGap, stripAt, stripHolding}
 use Rattle.campaign.specs.Keeper.{campaignRefusal, firstEnds, secondEnds, sound, soundEntry}
-use Rattle.demands.specs.Examples.{course, examples, ExamplesHold, figures, places, run}
+use Rattle.demands.specs.Examples.{examples, ExamplesHold, figures, places, run, steps}
 
 pub examples-hold : ExamplesHold
 unfolding
     afterJob afterwards all answerUnless ascending bestK beyond campaignRefusal classicOver columnsOf contentRefusal
-    countFrom course distanceList entriesOf equalLengths examples ExamplesHold figures firstEnds flatMap gap holding
-    insert jobAnswer jobEntries jobPairs jobRefusal jobs jobsPairs keep kList last lastDistance lawfulEnds lawfulK
+    countFrom distanceList entriesOf equalLengths examples ExamplesHold figures firstEnds flatMap gap holding insert
+    jobAnswer jobEntries jobPairs jobRefusal jobs jobsPairs keep kList last lastDistance lawfulEnds lawfulK
     lawfulMarks lawfulSite leads lex listRefusal listsRefusal look markOf newCampaign offer openAnswer openRefusal
     orElse overwritten pair pairs placedFrom places product rangeGap rankBefore reverseOver roomFor run scan
     secondEnds settled settledJobs siteAt siteBefore sites sizeFault skips slots sort sound soundEntry square
-    squaredDistance squaredStripGap statusAnswer strip stripAt stripHolding sum sweep whole within zipWith
+    squaredDistance squaredStripGap statusAnswer steps strip stripAt stripHolding sum sweep whole within zipWith
 examples-hold = refl

@@ -29,17 +29,17 @@ unfoldable pub figures : State → List ℕ
 figures s = s .looks ∷ s .distances ∷ places (s .entries)
 
 -- Jobs by the classic sweep, a swept one as 1, a skipped one as 0; then status's jobs and entries, and the places.
-unfoldable pub course : Columns → Columns → List Job → Campaign → Results → List ℕ
-course a b [] c r =
+unfoldable pub steps : Columns → Columns → List Job → Campaign → Results → List ℕ
+steps a b [] c r =
     afterwards (λ v. v .jobs ∷ v .entries ∷ places (entriesOf (c .entries) r)) (statusAnswer c a b r) []
-course a b (j ∷ l) c r =
-    afterwards (λ v. v .swept ∷ course a b l (v .campaign) (v .results)) (jobAnswer Classic c a b r j) []
+steps a b (j ∷ l) c r =
+    afterwards (λ v. v .swept ∷ steps a b l (v .campaign) (v .results)) (jobAnswer Classic c a b r j) []
 
--- The run of a campaign from its opening on.
-unfoldable pub run : Columns → Columns → ℕ → List ℕ → List ℕ → List Job → List ℕ
+-- The same of a campaign from its opening on.
+unfoldable pub run : List Site → List Site → ℕ → List ℕ → List ℕ → List Job → List ℕ
 run a b k ends ends' l =
     let r = results (replicate k 0) (replicate k 0) (replicate k 0) in
-    afterwards (λ c. course a b l c r) (openAnswer a b k ends ends' r) []
+    afterwards (λ c. steps (columnsOf a) (columnsOf b) l c r) (openAnswer (columnsOf a) (columnsOf b) k ends ends' r) []
 
 -- M1 to M10 in their order: what is computed, and what is stated.
 unfoldable pub examples : List (List ℕ × List ℕ)
@@ -47,26 +47,25 @@ examples =
     -- "Lists F: first (0,0,11) (4,3,12) (10,0,13); second (0,5,21) (4,0,22) (9,2,23)."
     let f : List Site = site (pos 0) (pos 0) 11 ∷ site (pos 4) (pos 3) 12 ∷ site (pos 10) (pos 0) 13 ∷ [] in
     let f' : List Site = site (pos 0) (pos 5) 21 ∷ site (pos 4) (pos 0) 22 ∷ site (pos 9) (pos 2) 23 ∷ [] in
-    let jobs : List Job = jobOf 0 0 ∷ jobOf 1 0 ∷ jobOf 0 1 ∷ jobOf 1 1 ∷ [] in
-    -- "M7: first (0,0,1) (5,5,2), second (5,0,3)."
-    let g : List Site = site (pos 0) (pos 0) 1 ∷ site (pos 5) (pos 5) 2 ∷ [] in
-    let g' : List Site = site (pos 5) (pos 0) 3 ∷ [] in
-    let corner : ℤ → Site = λ c. site c c 0 in
-    (places (kList 3 f f'), 2 ∷ 2 ∷ 1 ∷ 1 ∷ 0 ∷ 1 ∷ [])
-    ∷ (figures (sweep Classic 3 (whole f) (whole f') []), 9 ∷ 6 ∷ 2 ∷ 2 ∷ 1 ∷ 1 ∷ 0 ∷ 1 ∷ [])
-    ∷ (figures (sweep ReverseRun 3 (whole f) (whole f') []), 7 ∷ 5 ∷ 2 ∷ 2 ∷ 1 ∷ 1 ∷ 0 ∷ 1 ∷ [])
-    ∷ (places (distanceList 5 f f'), 0 ∷ 0 ∷ 0 ∷ 1 ∷ 1 ∷ 0 ∷ 1 ∷ 1 ∷ 2 ∷ 2 ∷ [])
-    ∷ (places (distanceList 4 f f'), 0 ∷ 1 ∷ 1 ∷ 1 ∷ 2 ∷ 2 ∷ [])
-    ∷ (run (columnsOf f) (columnsOf f') 2 (2 ∷ 3 ∷ []) (1 ∷ 3 ∷ []) jobs, 1 ∷ 0 ∷ 1 ∷ 1 ∷ 4 ∷ 2 ∷ 2 ∷ 2 ∷ 1 ∷ 1 ∷ [])
-    ∷ (places (kList 1 g g'), 0 ∷ 0 ∷ [])
-    ∷ (map (λ e. e .distance) (kList 2 g g'), 25 ∷ 25 ∷ [])
-    ∷ (places (sweep Classic 1 (whole g) (whole g') [] .entries), 0 ∷ 0 ∷ [])
-    ∷ (places (sweep ReverseRun 1 (whole g) (whole g') [] .entries), 0 ∷ 0 ∷ [])
-    ∷ (places (kList 3 [] f'), [])
-    ∷ (places (kList 3 f []), [])
-    ∷ (run (columnsOf []) (columnsOf f') 3 [] (3 ∷ []) [], 0 ∷ 0 ∷ [])
-    ∷ (run (columnsOf f) (columnsOf []) 3 (1 ∷ 3 ∷ []) [] [], 0 ∷ 0 ∷ [])
-    ∷ (length (kList 9 f f') ∷ length (kList 4_096 f f') ∷ [], 9 ∷ 9 ∷ [])
+    let jobs : List Job = jobOf 0 0 ∷ jobOf 1 0 ∷ jobOf 0 1 ∷ jobOf 1 1 ∷ [] in  -- of M6
+    let g : List Site = site (pos 0) (pos 0) 1 ∷ site (pos 5) (pos 5) 2 ∷ [] in  -- of M7
+    let g' : List Site = site (pos 5) (pos 0) 3 ∷ [] in  -- of M7
+    let corner : ℤ → Site = λ c. site c c 0 in  -- of M10, the last below
+    (places (kList 3 f f'), 2 ∷ 2 ∷ 1 ∷ 1 ∷ 0 ∷ 1 ∷ [])  -- M1
+    ∷ (figures (sweep Classic 3 (whole f) (whole f') []), 9 ∷ 6 ∷ 2 ∷ 2 ∷ 1 ∷ 1 ∷ 0 ∷ 1 ∷ [])  -- M2
+    ∷ (figures (sweep ReverseRun 3 (whole f) (whole f') []), 7 ∷ 5 ∷ 2 ∷ 2 ∷ 1 ∷ 1 ∷ 0 ∷ 1 ∷ [])  -- M3
+    ∷ (places (distanceList 5 f f'), 0 ∷ 0 ∷ 0 ∷ 1 ∷ 1 ∷ 0 ∷ 1 ∷ 1 ∷ 2 ∷ 2 ∷ [])  -- M4
+    ∷ (places (distanceList 4 f f'), 0 ∷ 1 ∷ 1 ∷ 1 ∷ 2 ∷ 2 ∷ [])  -- M5
+    ∷ (run f f' 2 (2 ∷ 3 ∷ []) (1 ∷ 3 ∷ []) jobs, 1 ∷ 0 ∷ 1 ∷ 1 ∷ 4 ∷ 2 ∷ 2 ∷ 2 ∷ 1 ∷ 1 ∷ [])  -- M6
+    ∷ (places (kList 1 g g'), 0 ∷ 0 ∷ [])  -- M7
+    ∷ (map (λ e. e .distance) (kList 2 g g'), 25 ∷ 25 ∷ [])  -- M7
+    ∷ (places (sweep Classic 1 (whole g) (whole g') [] .entries), 0 ∷ 0 ∷ [])  -- M7
+    ∷ (places (sweep ReverseRun 1 (whole g) (whole g') [] .entries), 0 ∷ 0 ∷ [])  -- M7
+    ∷ (places (kList 3 [] f'), [])  -- M8
+    ∷ (places (kList 3 f []), [])  -- M8
+    ∷ (run [] f' 3 [] (3 ∷ []) [], 0 ∷ 0 ∷ [])  -- M8
+    ∷ (run f [] 3 (1 ∷ 3 ∷ []) [] [], 0 ∷ 0 ∷ [])  -- M8
+    ∷ (length (kList 9 f f') ∷ length (kList 4_096 f f') ∷ [], 9 ∷ 9 ∷ [])  -- M9
     ∷ (squaredDistance (corner (negsuc 999_999_999)) (corner (pos 1_000_000_000)) ∷ [], 8_000_000_000_000_000_000 ∷ [])
     ∷ []
 
