@@ -1,2 +1,2 @@
--- What the proofs of several exported calls use.
-pub mod Crossing
+-- The laws of answers that cross.
+pub mod Crosses

@@ -1,3 +1,3 @@
 -- What a reader must believe of the exported calls beside the definitions that they cite.
-pub mod Parts
+pub mod Crosses
 pub mod Lent

@@ -1,14 +1,13 @@
 // Opening a campaign, its jobs and its status. A campaign crosses in its parts, each behind a reference.
 ghost use mathlib.Core.Path.{_≡_};
-ghost use mathlib.Core.Bool.{cond};
-ghost use Rattle.site.specs.Answer.{numberOf, afterwards};
-ghost use Rattle.site.specs.SiteList.{columns, lentList};
-ghost use Rattle.entry.specs.Results.{results, lentResults};
+ghost use Rattle.column.specs.Lent.{the, _of_};
+ghost use Rattle.site.specs.SiteList.{lentList};
+ghost use Rattle.entry.specs.Results.{Results, lentResults};
 ghost use Rattle.sweep.specs.declared.Way.the-variants.{Classic, ReverseRun};
 ghost use Rattle.campaign.specs.Grid.{jobOf};
-ghost use Rattle.campaign.specs.Calls.{openAnswer, jobAnswer, jobCampaign, jobResults, jobDoneAnswer, statusAnswer};
-ghost use Rattle.vumlintel.specs.Parts.{campaignOf};
-ghost use Rattle.vumlintel.specs.Lent.{lentCampaign};
+ghost use Rattle.campaign.specs.Calls.{openAnswer, jobValues, jobAnswer, jobDoneAnswer, statusValues, statusAnswer};
+ghost use Rattle.vumlintel.specs.Crosses.{Crosses};
+ghost use Rattle.vumlintel.specs.Lent.{_with_, lentCampaign};
 use campaign::Campaign;
 use campaign::JobDone;
 use campaign::Outcome;
@@ -26,7 +25,10 @@ fn put(
     second_ends: &mut [u32; 32],
     marks: &mut [u8; 1024],
 )
-    ensures { λ _. ⌜ campaignOf (now («campaign_k» .exit)) (now («campaign_entries» .exit)) (now («first_strips» .exit)) (now («second_strips» .exit)) (now («first_ends» .exit)) (now («second_ends» .exit)) (now (marks .exit)) ≡ c ⌝ }
+    ensures { λ _.
+        let parts =
+        lentCampaign «campaign_k» «campaign_entries» «first_strips» «second_strips» «first_ends» «second_ends» marks in
+        ⌜ parts .exit ≡ c ⌝ }
 {
     let first_cut = c.first_ends;
     let second_cut = c.second_ends;
@@ -42,10 +44,9 @@ fn put(
 
 // What a job answers beside the campaign, across the boundary: 1 for swept and 0 for skipped.
 fn cross_done(done: JobDone, swept: &mut u32, looks: &mut u64, distances: &mut u64) -> u32
-    ensures { λ r. ⌜ r ≡ numberOf (jobDoneAnswer done) ⌝ }
-    ensures { λ _. ⌜ now (swept .exit) ≡ afterwards (λ v. cond (v .swept) 1 0) (jobDoneAnswer done) (now (swept .entry)) ⌝ }
-    ensures { λ _. ⌜ now (looks .exit) ≡ afterwards (λ v. v .looks) (jobDoneAnswer done) (now (looks .entry)) ⌝ }
-    ensures { λ _. ⌜ now (distances .exit) ≡ afterwards (λ v. v .distances) (jobDoneAnswer done) (now (distances .entry)) ⌝ }
+    ensures { λ r.
+        ⌜ ((l : Results) →
+        Crosses (jobDoneAnswer done l) r (the (jobValues (done .campaign) l) of swept of looks of distances)) ⌝ }
 {
     let outcome = done.outcome;
     match outcome {
@@ -91,8 +92,13 @@ pub extern "C" fn vumlintel_open(
     second_ends: &mut [u32; 32],
     marks: &mut [u8; 1024],
 ) -> u32
-    ensures { λ r. ⌜ r ≡ numberOf (openAnswer (columns (now (ax .entry)) (now (ay .entry)) (now (an .entry))) (columns (now (bx .entry)) (now (by .entry)) (now (bn .entry))) k (now («first_cuts» .entry)) (now («second_cuts» .entry)) (results (now (distance .entry)) (now (first .entry)) (now (second .entry)))) ⌝ }
-    ensures { λ _. ⌜ campaignOf (now («campaign_k» .exit)) (now («campaign_entries» .exit)) (now («first_strips» .exit)) (now («second_strips» .exit)) (now («first_ends» .exit)) (now («second_ends» .exit)) (now (marks .exit)) ≡ afterwards (λ c. c) (openAnswer (columns (now (ax .entry)) (now (ay .entry)) (now (an .entry))) (columns (now (bx .entry)) (now (by .entry)) (now (bn .entry))) k (now («first_cuts» .entry)) (now («second_cuts» .entry)) (results (now (distance .entry)) (now (first .entry)) (now (second .entry)))) (campaignOf (now («campaign_k» .entry)) (now («campaign_entries» .entry)) (now («first_strips» .entry)) (now («second_strips» .entry)) (now («first_ends» .entry)) (now («second_ends» .entry)) (now (marks .entry))) ⌝ }
+    ensures { λ r.
+        let c =
+        lentCampaign «campaign_k» «campaign_entries» «first_strips» «second_strips» «first_ends» «second_ends» marks in
+        let a = lentList ax ay an .entry in
+        let b = lentList bx by bn .entry in
+        let l = lentResults distance first second .entry in
+        ⌜ Crosses (openAnswer a b k (now («first_cuts» .entry)) (now («second_cuts» .entry)) l) r c ⌝ }
 {
     let opened = campaign::calls::open(
         ax,
@@ -152,18 +158,13 @@ fn job(
     distances: &mut u64,
 ) -> u32
     ensures { λ r.
-        let c = lentCampaign «campaign_k» «campaign_entries» «first_strips» «second_strips» «first_ends» «second_ends» marks in
+        let c =
+        lentCampaign «campaign_k» «campaign_entries» «first_strips» «second_strips» «first_ends» «second_ends» marks in
         let a = lentList ax ay an .entry in
         let b = lentList bx by bn .entry in
         let l = lentResults distance first second in
-        let j = jobOf «first_strip» «second_strip» in
-        let told = jobAnswer way (c .entry) a b (l .entry) j in
-        ⌜ (r ≡ numberOf told)
-        × ((c .exit ≡ jobCampaign (c .entry) a b (l .entry) j)
-        × ((l .exit ≡ jobResults (c .entry) a b (l .entry) j)
-        × ((now (swept .exit) ≡ afterwards (λ v. cond (v .swept) 1 0) told (now (swept .entry)))
-        × ((now (looks .exit) ≡ afterwards (λ v. v .looks) told (now (looks .entry)))
-        × (now (distances .exit) ≡ afterwards (λ v. v .distances) told (now (distances .entry))))))) ⌝ }
+        let answer = jobAnswer way (c .entry) a b (l .entry) (jobOf «first_strip» «second_strip») in
+        ⌜ Crosses answer r (the jobValues with c with l of swept of looks of distances) ⌝ }
 {
     let first_cut = *first_ends;
     let second_cut = *second_ends;
@@ -235,12 +236,14 @@ pub extern "C" fn vumlintel_job_classic(
     looks: &mut u64,
     distances: &mut u64,
 ) -> u32
-    ensures { λ r. ⌜ r ≡ numberOf (jobAnswer Classic (campaignOf (now («campaign_k» .entry)) (now («campaign_entries» .entry)) (now («first_strips» .entry)) (now («second_strips» .entry)) (now («first_ends» .entry)) (now («second_ends» .entry)) (now (marks .entry))) (columns (now (ax .entry)) (now (ay .entry)) (now (an .entry))) (columns (now (bx .entry)) (now (by .entry)) (now (bn .entry))) (results (now (distance .entry)) (now (first .entry)) (now (second .entry))) (jobOf «first_strip» «second_strip»)) ⌝ }
-    ensures { λ _. ⌜ campaignOf (now («campaign_k» .exit)) (now («campaign_entries» .exit)) (now («first_strips» .exit)) (now («second_strips» .exit)) (now («first_ends» .exit)) (now («second_ends» .exit)) (now (marks .exit)) ≡ jobCampaign (campaignOf (now («campaign_k» .entry)) (now («campaign_entries» .entry)) (now («first_strips» .entry)) (now («second_strips» .entry)) (now («first_ends» .entry)) (now («second_ends» .entry)) (now (marks .entry))) (columns (now (ax .entry)) (now (ay .entry)) (now (an .entry))) (columns (now (bx .entry)) (now (by .entry)) (now (bn .entry))) (results (now (distance .entry)) (now (first .entry)) (now (second .entry))) (jobOf «first_strip» «second_strip») ⌝ }
-    ensures { λ _. ⌜ results (now (distance .exit)) (now (first .exit)) (now (second .exit)) ≡ jobResults (campaignOf (now («campaign_k» .entry)) (now («campaign_entries» .entry)) (now («first_strips» .entry)) (now («second_strips» .entry)) (now («first_ends» .entry)) (now («second_ends» .entry)) (now (marks .entry))) (columns (now (ax .entry)) (now (ay .entry)) (now (an .entry))) (columns (now (bx .entry)) (now (by .entry)) (now (bn .entry))) (results (now (distance .entry)) (now (first .entry)) (now (second .entry))) (jobOf «first_strip» «second_strip») ⌝ }
-    ensures { λ _. ⌜ now (swept .exit) ≡ afterwards (λ v. cond (v .swept) 1 0) (jobAnswer Classic (campaignOf (now («campaign_k» .entry)) (now («campaign_entries» .entry)) (now («first_strips» .entry)) (now («second_strips» .entry)) (now («first_ends» .entry)) (now («second_ends» .entry)) (now (marks .entry))) (columns (now (ax .entry)) (now (ay .entry)) (now (an .entry))) (columns (now (bx .entry)) (now (by .entry)) (now (bn .entry))) (results (now (distance .entry)) (now (first .entry)) (now (second .entry))) (jobOf «first_strip» «second_strip»)) (now (swept .entry)) ⌝ }
-    ensures { λ _. ⌜ now (looks .exit) ≡ afterwards (λ v. v .looks) (jobAnswer Classic (campaignOf (now («campaign_k» .entry)) (now («campaign_entries» .entry)) (now («first_strips» .entry)) (now («second_strips» .entry)) (now («first_ends» .entry)) (now («second_ends» .entry)) (now (marks .entry))) (columns (now (ax .entry)) (now (ay .entry)) (now (an .entry))) (columns (now (bx .entry)) (now (by .entry)) (now (bn .entry))) (results (now (distance .entry)) (now (first .entry)) (now (second .entry))) (jobOf «first_strip» «second_strip»)) (now (looks .entry)) ⌝ }
-    ensures { λ _. ⌜ now (distances .exit) ≡ afterwards (λ v. v .distances) (jobAnswer Classic (campaignOf (now («campaign_k» .entry)) (now («campaign_entries» .entry)) (now («first_strips» .entry)) (now («second_strips» .entry)) (now («first_ends» .entry)) (now («second_ends» .entry)) (now (marks .entry))) (columns (now (ax .entry)) (now (ay .entry)) (now (an .entry))) (columns (now (bx .entry)) (now (by .entry)) (now (bn .entry))) (results (now (distance .entry)) (now (first .entry)) (now (second .entry))) (jobOf «first_strip» «second_strip»)) (now (distances .entry)) ⌝ }
+    ensures { λ r.
+        let c =
+        lentCampaign «campaign_k» «campaign_entries» «first_strips» «second_strips» «first_ends» «second_ends» marks in
+        let a = lentList ax ay an .entry in
+        let b = lentList bx by bn .entry in
+        let l = lentResults distance first second in
+        let answer = jobAnswer Classic (c .entry) a b (l .entry) (jobOf «first_strip» «second_strip») in
+        ⌜ Crosses answer r (the jobValues with c with l of swept of looks of distances) ⌝ }
 {
     job(
         campaign_k,
@@ -293,12 +296,14 @@ pub extern "C" fn vumlintel_job_reverse_run(
     looks: &mut u64,
     distances: &mut u64,
 ) -> u32
-    ensures { λ r. ⌜ r ≡ numberOf (jobAnswer ReverseRun (campaignOf (now («campaign_k» .entry)) (now («campaign_entries» .entry)) (now («first_strips» .entry)) (now («second_strips» .entry)) (now («first_ends» .entry)) (now («second_ends» .entry)) (now (marks .entry))) (columns (now (ax .entry)) (now (ay .entry)) (now (an .entry))) (columns (now (bx .entry)) (now (by .entry)) (now (bn .entry))) (results (now (distance .entry)) (now (first .entry)) (now (second .entry))) (jobOf «first_strip» «second_strip»)) ⌝ }
-    ensures { λ _. ⌜ campaignOf (now («campaign_k» .exit)) (now («campaign_entries» .exit)) (now («first_strips» .exit)) (now («second_strips» .exit)) (now («first_ends» .exit)) (now («second_ends» .exit)) (now (marks .exit)) ≡ jobCampaign (campaignOf (now («campaign_k» .entry)) (now («campaign_entries» .entry)) (now («first_strips» .entry)) (now («second_strips» .entry)) (now («first_ends» .entry)) (now («second_ends» .entry)) (now (marks .entry))) (columns (now (ax .entry)) (now (ay .entry)) (now (an .entry))) (columns (now (bx .entry)) (now (by .entry)) (now (bn .entry))) (results (now (distance .entry)) (now (first .entry)) (now (second .entry))) (jobOf «first_strip» «second_strip») ⌝ }
-    ensures { λ _. ⌜ results (now (distance .exit)) (now (first .exit)) (now (second .exit)) ≡ jobResults (campaignOf (now («campaign_k» .entry)) (now («campaign_entries» .entry)) (now («first_strips» .entry)) (now («second_strips» .entry)) (now («first_ends» .entry)) (now («second_ends» .entry)) (now (marks .entry))) (columns (now (ax .entry)) (now (ay .entry)) (now (an .entry))) (columns (now (bx .entry)) (now (by .entry)) (now (bn .entry))) (results (now (distance .entry)) (now (first .entry)) (now (second .entry))) (jobOf «first_strip» «second_strip») ⌝ }
-    ensures { λ _. ⌜ now (swept .exit) ≡ afterwards (λ v. cond (v .swept) 1 0) (jobAnswer ReverseRun (campaignOf (now («campaign_k» .entry)) (now («campaign_entries» .entry)) (now («first_strips» .entry)) (now («second_strips» .entry)) (now («first_ends» .entry)) (now («second_ends» .entry)) (now (marks .entry))) (columns (now (ax .entry)) (now (ay .entry)) (now (an .entry))) (columns (now (bx .entry)) (now (by .entry)) (now (bn .entry))) (results (now (distance .entry)) (now (first .entry)) (now (second .entry))) (jobOf «first_strip» «second_strip»)) (now (swept .entry)) ⌝ }
-    ensures { λ _. ⌜ now (looks .exit) ≡ afterwards (λ v. v .looks) (jobAnswer ReverseRun (campaignOf (now («campaign_k» .entry)) (now («campaign_entries» .entry)) (now («first_strips» .entry)) (now («second_strips» .entry)) (now («first_ends» .entry)) (now («second_ends» .entry)) (now (marks .entry))) (columns (now (ax .entry)) (now (ay .entry)) (now (an .entry))) (columns (now (bx .entry)) (now (by .entry)) (now (bn .entry))) (results (now (distance .entry)) (now (first .entry)) (now (second .entry))) (jobOf «first_strip» «second_strip»)) (now (looks .entry)) ⌝ }
-    ensures { λ _. ⌜ now (distances .exit) ≡ afterwards (λ v. v .distances) (jobAnswer ReverseRun (campaignOf (now («campaign_k» .entry)) (now («campaign_entries» .entry)) (now («first_strips» .entry)) (now («second_strips» .entry)) (now («first_ends» .entry)) (now («second_ends» .entry)) (now (marks .entry))) (columns (now (ax .entry)) (now (ay .entry)) (now (an .entry))) (columns (now (bx .entry)) (now (by .entry)) (now (bn .entry))) (results (now (distance .entry)) (now (first .entry)) (now (second .entry))) (jobOf «first_strip» «second_strip»)) (now (distances .entry)) ⌝ }
+    ensures { λ r.
+        let c =
+        lentCampaign «campaign_k» «campaign_entries» «first_strips» «second_strips» «first_ends» «second_ends» marks in
+        let a = lentList ax ay an .entry in
+        let b = lentList bx by bn .entry in
+        let l = lentResults distance first second in
+        let answer = jobAnswer ReverseRun (c .entry) a b (l .entry) (jobOf «first_strip» «second_strip») in
+        ⌜ Crosses answer r (the jobValues with c with l of swept of looks of distances) ⌝ }
 {
     job(
         campaign_k,
@@ -350,11 +355,14 @@ pub extern "C" fn vumlintel_status(
     entries: &mut u32,
     k: &mut u32,
 ) -> u32
-    ensures { λ r. ⌜ r ≡ numberOf (statusAnswer (campaignOf (now («campaign_k» .entry)) (now («campaign_entries» .entry)) (now («first_strips» .entry)) (now («second_strips» .entry)) (now («first_ends» .entry)) (now («second_ends» .entry)) (now (marks .entry))) (columns (now (ax .entry)) (now (ay .entry)) (now (an .entry))) (columns (now (bx .entry)) (now (by .entry)) (now (bn .entry))) (results (now (distance .entry)) (now (first .entry)) (now (second .entry)))) ⌝ }
-    ensures { λ _. ⌜ now (settled .exit) ≡ afterwards (λ v. v .settled) (statusAnswer (campaignOf (now («campaign_k» .entry)) (now («campaign_entries» .entry)) (now («first_strips» .entry)) (now («second_strips» .entry)) (now («first_ends» .entry)) (now («second_ends» .entry)) (now (marks .entry))) (columns (now (ax .entry)) (now (ay .entry)) (now (an .entry))) (columns (now (bx .entry)) (now (by .entry)) (now (bn .entry))) (results (now (distance .entry)) (now (first .entry)) (now (second .entry)))) (now (settled .entry)) ⌝ }
-    ensures { λ _. ⌜ now (jobs .exit) ≡ afterwards (λ v. v .jobs) (statusAnswer (campaignOf (now («campaign_k» .entry)) (now («campaign_entries» .entry)) (now («first_strips» .entry)) (now («second_strips» .entry)) (now («first_ends» .entry)) (now («second_ends» .entry)) (now (marks .entry))) (columns (now (ax .entry)) (now (ay .entry)) (now (an .entry))) (columns (now (bx .entry)) (now (by .entry)) (now (bn .entry))) (results (now (distance .entry)) (now (first .entry)) (now (second .entry)))) (now (jobs .entry)) ⌝ }
-    ensures { λ _. ⌜ now (entries .exit) ≡ afterwards (λ v. v .entries) (statusAnswer (campaignOf (now («campaign_k» .entry)) (now («campaign_entries» .entry)) (now («first_strips» .entry)) (now («second_strips» .entry)) (now («first_ends» .entry)) (now («second_ends» .entry)) (now (marks .entry))) (columns (now (ax .entry)) (now (ay .entry)) (now (an .entry))) (columns (now (bx .entry)) (now (by .entry)) (now (bn .entry))) (results (now (distance .entry)) (now (first .entry)) (now (second .entry)))) (now (entries .entry)) ⌝ }
-    ensures { λ _. ⌜ now (k .exit) ≡ afterwards (λ v. v .k) (statusAnswer (campaignOf (now («campaign_k» .entry)) (now («campaign_entries» .entry)) (now («first_strips» .entry)) (now («second_strips» .entry)) (now («first_ends» .entry)) (now («second_ends» .entry)) (now (marks .entry))) (columns (now (ax .entry)) (now (ay .entry)) (now (an .entry))) (columns (now (bx .entry)) (now (by .entry)) (now (bn .entry))) (results (now (distance .entry)) (now (first .entry)) (now (second .entry)))) (now (k .entry)) ⌝ }
+    ensures { λ r.
+        let c =
+        lentCampaign «campaign_k» «campaign_entries» «first_strips» «second_strips» «first_ends» «second_ends» marks in
+        let a = lentList ax ay an .entry in
+        let b = lentList bx by bn .entry in
+        let l = lentResults distance first second .entry in
+        let places = the statusValues of settled of jobs of entries of k in
+        ⌜ Crosses (statusAnswer (c .entry) a b l) r places ⌝ }
 {
     let first_cut = *first_ends;
     let second_cut = *second_ends;

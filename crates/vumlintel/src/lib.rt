@@ -1,5 +1,5 @@
-// The static library: each call of the bench, for C and Rust. The answer is the refusal's number, 0 for none; the values
-// are written through references, and only by a call that is not refused.
+// The static library: each call of the bench, for C and Rust. A call returns the refusal's number, 0 for none, and
+// writes its values through references, unless it is refused.
 mod campaigns;
 mod files;
 mod lists;

@@ -1,40 +1,50 @@
 -- `job` meets its contract: what the call told, crossed; a refusal leaves the campaign, and none stores it.
 use borrow.Author.Needs.{needs}
-use mathlib.Core.Path.{_≡_, sym, _∙_}
+use mathlib.Core.Path.{_≡_, refl, sym, ap, _∙_}
 use Prim.Native.Nat.{ℕ}
-use Rattle.site.specs.Answer.{numberOf}
-use Rattle.site.specs.SiteList.{Columns}
-use Rattle.site.proofs.Answer.{answer-number, unless-kept}
+use Rattle.site.specs.Answer.{Answer, refused, answered, numberOf, afterwards}
 use Rattle.entry.specs.Results.{Results}
-use Rattle.sweep.specs.declared.Way.{Way}
 use Rattle.campaign.specs.declared.Campaign.{Campaign}
-use Rattle.campaign.specs.Grid.{Job}
-use Rattle.campaign.specs.Calls.{jobAnswer, jobCampaign}
+use Rattle.campaign.specs.declared.JobDone.{JobDone}
+use Rattle.campaign.specs.Calls.{JobValues, jobValues, jobDoneAnswer}
+use Rattle.vumlintel.specs.Crosses.{Crosses}
 use Rattle.vumlintel.proofs.campaigns.job.Statement.{statement}
 use Rattle.vumlintel.proofs.campaigns.job.Tie as tie
 
+-- What the call told, crossed beside the campaign and the columns that it gave, and that campaign stored.
+job-crossed : {answer : Answer JobValues} {n r : ℕ} (done : JobDone) {c stored : Campaign} {l l' : Results} {s k d s' k' d' : ℕ}
+    → (jobDoneAnswer done l' ≡ answer) × ((done .campaign ≡ afterwards (λ v. v .campaign) answer c)
+    × (l' ≡ afterwards (λ v. v .results) answer l))
+    → ((l : Results) → Crosses (jobDoneAnswer done l) n
+    (record { entry = jobValues (done .campaign) l s k d; exit = jobValues (done .campaign) l s' k' d' }))
+    → n ≡ r → stored ≡ done .campaign
+    → Crosses answer r (record { entry = jobValues c l s k d; exit = jobValues stored l' s' k' d' })
+unfolding afterwards
+job-crossed {answer = refused number} done {l' = m} call crossed e put =
+    rw (← e, put, ← call .1 .0, ← call .1 .1) (rw (call .0) at (crossed m))
+job-crossed {answer = answered values} done {l' = m} call crossed e put =
+    let told = rw (call .0) at (crossed m) in
+    record { number = sym e ∙ told .number; values = rw put (told .values) }
+
 -- A refused job leaves the campaign.
-refused-leaves : (way : Way) (c : Campaign) (a b : Columns) (l : Results) (j : Job) {r : ℕ}
-    → r ≡ numberOf (jobAnswer way c a b l j) → (r ≡ 0 → ⊥) → c ≡ jobCampaign c a b l j
-unfolding jobAnswer jobCampaign
-refused-leaves way c a b l j number some = unless-kept _ _ (number ∙ answer-number _ _) some
+job-refused : (answer : Answer JobValues) {n : ℕ} {c after : Campaign}
+    → n ≡ numberOf answer → (n ≡ 0 → ⊥) → after ≡ afterwards (λ v. v .campaign) answer c → c ≡ after
+unfolding numberOf afterwards
+job-refused (refused number) e some campaign = sym campaign
+job-refused (answered values) e some campaign = absurd (some e)
 
 returns : tie.Need-returns
 returns c =
-    let call = c .before .before .before .before .before .before .before .before .before .before .before .before in
-    let crossed = rw (call .job .ensures .0) at (c .before .cross-done .ensures) in (
-      crossed .0,
-      (refused-leaves _ _ _ _ _ _ (crossed .0) (c .if1 .taken), (call .job .ensures .1 .1, crossed .1)),
-    )
+    let call = c .before .before .before .before .before .before .before .before .before .before .before .before .job .ensures in
+    let crossed = c .before .cross-done .ensures in
+    let number = crossed _ .number ∙ ap numberOf (call .0) in
+    job-crossed _ call crossed refl (job-refused _ number (c .if1 .taken) (call .1 .0))
 
 returns-2 : tie.Need-returns-2
 returns-2 c =
     let test = c .before .before .before .before .before .before .before .before in
-    let call = test .before .before .before .before .before .before .before .before .before .before .before .before in
-    let crossed = rw (call .job .ensures .0) at (test .before .cross-done .ensures) in (
-      sym (test .if1 .left) ∙ crossed .0,
-      (c .put .ensures ∙ call .job .ensures .1 .0, (call .job .ensures .1 .1, crossed .1)),
-    )
+    let call = test .before .before .before .before .before .before .before .before .before .before .before .before .job .ensures in
+    job-crossed _ call (test .before .cross-done .ensures) (test .if1 .left) (c .put .ensures)
 
 pub job-spec : {M : Type 1} → statement M
 job-spec =

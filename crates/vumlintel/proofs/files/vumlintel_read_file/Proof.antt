@@ -1,21 +1,20 @@
 -- `vumlintel_read_file` meets its contract: each arm returns and writes what its case of the answer tells.
 use borrow.Author.Needs.{needs}
 use mathlib.Core.Path.{refl}
-use Rattle.site.specs.Answer.{numberOf, afterwards}
 use Rattle.site_file.specs.Calls.{fileReadAnswer}
-use Rattle.vumlintel.proofs.Crossing.{in-case}
+use Rattle.vumlintel.proofs.Crosses.{in-case, crossed-values, crossed-refusal}
 use Rattle.vumlintel.proofs.files.vumlintel_read_file.Statement.{statement}
 use Rattle.vumlintel.proofs.files.vumlintel_read_file.Tie as tie
 
 returns : tie.Need-returns
-unfolding fileReadAnswer numberOf afterwards
+unfolding fileReadAnswer
 returns c =
-    rw (← in-case fileReadAnswer (c .before .answer .given .1) (c .before .before .before .read .ensures)) (refl, (refl, refl))
+    crossed-values (in-case fileReadAnswer (c .before .answer .given .1) (c .before .before .before .read .ensures)) refl
 
 returns-2 : tie.Need-returns-2
-unfolding fileReadAnswer numberOf afterwards
+unfolding fileReadAnswer
 returns-2 c =
-    rw (← in-case fileReadAnswer (c .before .answer2 .given .1) (c .before .before .before .read .ensures)) (refl, (refl, refl))
+    crossed-refusal (in-case fileReadAnswer (c .before .answer2 .given .1) (c .before .before .before .read .ensures)) refl
 
 pub vumlintel-read-file-spec : {M : Type 1} → statement M
 vumlintel-read-file-spec =

@@ -1,21 +1,20 @@
 -- `vumlintel_check` meets its contract: each arm returns and writes what its case of the answer tells.
 use borrow.Author.Needs.{needs}
 use mathlib.Core.Path.{refl}
-use Rattle.site.specs.Answer.{numberOf, afterwards}
 use Rattle.site.specs.Refusal.{checkedAnswer}
-use Rattle.vumlintel.proofs.Crossing.{in-case}
+use Rattle.vumlintel.proofs.Crosses.{in-case, crossed-values, crossed-refusal}
 use Rattle.vumlintel.proofs.lists.vumlintel_check.Statement.{statement}
 use Rattle.vumlintel.proofs.lists.vumlintel_check.Tie as tie
 
 returns : tie.Need-returns
-unfolding checkedAnswer numberOf afterwards
+unfolding checkedAnswer
 returns c =
-    rw (← in-case checkedAnswer (c .before .answer .given .1) (c .before .before .before .check .ensures)) (refl, refl)
+    crossed-values (in-case checkedAnswer (c .before .answer .given .1) (c .before .before .before .check .ensures)) refl
 
 returns-2 : tie.Need-returns-2
-unfolding checkedAnswer numberOf afterwards
+unfolding checkedAnswer
 returns-2 c =
-    rw (← in-case checkedAnswer (c .before .answer2 .given .1) (c .before .before .before .check .ensures)) (refl, refl)
+    crossed-refusal (in-case checkedAnswer (c .before .answer2 .given .1) (c .before .before .before .check .ensures)) refl
 
 pub vumlintel-check-spec : {M : Type 1} → statement M
 vumlintel-check-spec =

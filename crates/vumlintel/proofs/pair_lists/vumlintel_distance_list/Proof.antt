@@ -1,23 +1,23 @@
 -- `vumlintel_distance_list` meets its contract: each arm returns and writes what its case of the answer tells.
 use borrow.Author.Needs.{needs}
 use mathlib.Core.Path.{refl}
-use Rattle.site.specs.Answer.{numberOf, afterwards}
 use Rattle.pairs.specs.DistanceList.{withinAnswer}
-use Rattle.vumlintel.proofs.Crossing.{in-case}
+use Rattle.vumlintel.proofs.Crosses.{crossed-values, crossed-refusal, refusal-leaves}
 use Rattle.vumlintel.proofs.pair_lists.vumlintel_distance_list.Statement.{statement}
 use Rattle.vumlintel.proofs.pair_lists.vumlintel_distance_list.Tie as tie
 
 returns : tie.Need-returns
-unfolding withinAnswer numberOf afterwards
+unfolding withinAnswer
 returns c =
     let call = c .before .before .before .before .before .before .before .distance-list .ensures in
-    rw (← in-case withinAnswer (c .before .answer .given .1) (call .0)) (refl, (call .1 .0, (call .1 .1, refl)))
+    crossed-values (rw (c .before .answer .given .1) at (call .0)) refl
 
 returns-2 : tie.Need-returns-2
-unfolding withinAnswer numberOf afterwards
+unfolding withinAnswer
 returns-2 c =
     let call = c .before .before .before .before .before .before .before .distance-list .ensures in
-    rw (← in-case withinAnswer (c .before .answer2 .given .1) (call .0)) (refl, (call .1 .0, (call .1 .1, refl)))
+    let told = rw (c .before .answer2 .given .1) at (call .0) in
+    crossed-refusal told (rw (refusal-leaves _ told (call .1 .0), refusal-leaves _ told (call .1 .1)))
 
 pub vumlintel-distance-list-spec : {M : Type 1} → statement M
 vumlintel-distance-list-spec =
