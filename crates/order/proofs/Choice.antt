@@ -10,7 +10,7 @@ use lib.ListN.{length, take, drop, getD, take-append-drop, length-take, length-d
 use borrow.Author.Tests.{le-ltb}
 use Rattle.order.specs.Terms.{StrictOrder, Sorted, Ascends}
 use Rattle.order.specs.Lists.{All, Distinct}
-use Rattle.order.specs.Best.{sort, best, sortNumbers}
+use Rattle.order.specs.Best.{sort, best}
 use Rattle.order.proofs.Order.{byTest, irrefl, weak-trans, ltb-order}
 use Rattle.order.proofs.Lists.{all-mem, mem-all, mem-length, all-map, all-weaken, perm-map, mem-parts}
 use Rattle.order.proofs.Best.{length-sort, length-best, sort-perm}
@@ -94,7 +94,7 @@ module _ {A : Type 0} {before : A → A → Bool} (o : StrictOrder before) where
     )
 
     -- The weights in ascending order are those of the list in order.
-    pub sort-weights : (l : List A) → sortNumbers (map weight l) ≡ map weight (sort before l)
+    pub sort-weights : (l : List A) → sort ltb (map weight l) ≡ map weight (sort before l)
     sort-weights l =
         sort-perm ltb-order (perm-map weight (Permᴰ·symm (sort-is-perm before l)))
         ∙ sort-sorted ltb-order (map weight (sort before l)) (sorted-weights (sort before l) (sorted-sort o l))
@@ -108,7 +108,7 @@ module _ {A : Type 0} {before : A → A → Bool} (o : StrictOrder before) where
 
     -- No choice of at most `k` distinct elements has a smaller weight at any place, the weights in ascending order and repeats kept.
     pub no-choice-better : (k : ℕ) (l c : List A) → Distinct l → Distinct c → ((x : A) → List·Memᴰ x c → List·Memᴰ x l) → length c ≤ k
-        → (i : ℕ) → i < length c → getD (map weight (best before k l)) i 0 ≤ getD (sortNumbers (map weight c)) i 0
+        → (i : ℕ) → i < length c → getD (map weight (best before k l)) i 0 ≤ getD (sort ltb (map weight c)) i 0
     no-choice-better k l c d e f n i lt =
         rw (sort-weights c)
         (dominates-weights (take k (sort before l)) (sort before c) i
@@ -118,7 +118,7 @@ module _ {A : Type 0} {before : A → A → Bool} (o : StrictOrder before) where
     -- The same for a choice of as many as the best.
     pub no-equal-choice-better : (k : ℕ) (l c : List A) → Distinct l → Distinct c → ((x : A) → List·Memᴰ x c → List·Memᴰ x l)
         → length c ≡ length (best before k l)
-        → (i : ℕ) → i < length c → getD (map weight (best before k l)) i 0 ≤ getD (sortNumbers (map weight c)) i 0
+        → (i : ℕ) → i < length c → getD (map weight (best before k l)) i 0 ≤ getD (sort ltb (map weight c)) i 0
     no-equal-choice-better k l c d e f n = no-choice-better k l c d e f (omega (arith, length-best before k l))
 
   -- ---- what is not among the best

@@ -1,4 +1,4 @@
--- The laws of refusal numbers: what is told under one, which of several comes first, and what it leaves as it was.
+-- The laws of refusal numbers: what is answered under one, which of several comes first, and what it leaves as it was.
 use mathlib.Core.Path.{_≡_, refl, sym, _∙_}
 use mathlib.Core.Bool.{Bool, true, false, not, cond}
 use Prim.Native.Nat.{ℕ, zero, suc}
@@ -11,7 +11,7 @@ pub byNumber : {P : Type 0} → (n : ℕ) → (n ≡ 0 → P) → ((n ≡ 0 → 
 byNumber zero none some = none refl
 byNumber (suc n) none some = some (λ e. omega arith)
 
--- ---- what is told
+-- ---- what is answered
 
 module _ {A : Type 0} where
   -- No refusal: the values.
@@ -25,13 +25,13 @@ module _ {A : Type 0} where
   answer-refused {r = zero} v e h = absurd (h refl)
   answer-refused {r = suc r} v e h = rw (← e)
 
-  -- Values were told: there is no refusal, and they are those.
+  -- Values were answered: there is no refusal, and they are those.
   pub answered-values : (n : ℕ) (values c : A) → answerUnless n values ≡ answered c → (n ≡ 0) × (values ≡ c)
   unfolding answerUnless
   answered-values zero values c h = (refl, cc)
   answered-values (suc n) values c h = let z : _≡_ {A = ℕ} 0 1 = cc in absurd (omega arith)
 
-  -- A number was told: it is the refusal's.
+  -- A number was answered: it is the refusal's.
   pub refused-number : (n r : ℕ) (values : A) → refused r ≡ answerUnless n values → (r ≡ n) × (n ≡ 0 → ⊥)
   unfolding answerUnless
   refused-number zero r values h = let z : _≡_ {A = ℕ} 0 1 = cc in absurd (omega arith)

@@ -42,13 +42,13 @@ entry c = c .before .before .before .before
 same-at-requires : tie.Need-same-at-requires Inv-loop μ-loop
 same-at-requires c κs = (c .before .before .before .pre .0, c .loop-test .taken)
 
-told : (c : tie.After-same-at Inv-loop μ-loop)
+compared : (c : tie.After-same-at Inv-loop μ-loop)
     → c .same-at .result ≡ cond (apart (handed (entry c)) (siteAt (sites (lent (entry c))) (c .before .before .loop .i))) 0 1
 unfolding apart
-told c = c .same-at .ensures
+compared c = c .same-at .ensures
 
 small : (c : tie.After-same-at Inv-loop μ-loop) → c .same-at .result ≤ 1
-small c = no-le (apart (handed (entry c)) (siteAt (sites (lent (entry c))) (c .before .before .loop .i))) (told c)
+small c = no-le (apart (handed (entry c)) (siteAt (sites (lent (entry c))) (c .before .before .loop .i))) (compared c)
 
 -- How many are left to count from a place on.
 abbrev left : tie.After-same-at Inv-loop μ-loop → ℕ → ℕ
@@ -63,7 +63,7 @@ learnt c =
     let i = c .before .before .loop .i in
     let k : i < length (sites l) = omega (arith, c .before .loop-test .taken, sites-length l level) in
     rw (failing-step (apart (handed (entry c))) (sites l) i (site (pos 0) (pos 0) 0) k)
-    (ap (λ (n : ℕ). n + failing (apart (handed (entry c))) (drop (i + 1) (sites l))) (told c))
+    (ap (λ (n : ℕ). n + failing (apart (handed (entry c))) (drop (i + 1) (sites l))) (compared c))
 
 add-same : tie.Need-add-same Inv-loop μ-loop
 add-same c = omega (arith, small c, c .before .before .loop .inv, c .before .loop-test .taken, entry c .pre .1)
