@@ -48,7 +48,9 @@ answersOf : Columns → Columns → Campaign → Results → List Job → List �
 answersOf a b c r [] = []
 answersOf a b c r (j ∷ l) =
     let answer = jobAnswer Classic c a b r j in
-    answerAs answer ∷ answersOf a b (afterwards (λ (v : JobValues). v .campaign) answer c) (afterwards (λ (v : JobValues). v .results) answer r) l
+    let c' = afterwards (λ (v : JobValues). v .campaign) answer c in
+    let r' = afterwards (λ (v : JobValues). v .results) answer r in
+    answerAs answer ∷ answersOf a b c' r' l
 
 one : Results
 one = results (0 ∷ []) (0 ∷ []) (0 ∷ [])

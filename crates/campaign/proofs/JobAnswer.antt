@@ -105,34 +105,38 @@ module _ (way : Way) (c : Campaign) (a b : Columns) (r : Results) (s t : ℕ) wh
   job-refused is h = (answer-refused _ is h, (after-refused _ _ c is h, after-refused _ _ r is h))
 
   module _ (ok : jobRefusal c a b r (jobOf s t) ≡ 0) where
-    entries : List Entry
+    abbrev entries : List Entry
     entries = entriesOf (c .entries) r
 
-    firstStrip : List Placed
+    -- What the job leaves of them and its pairs.
+    abbrev left : List Entry
+    left = jobEntries c (sites a) (sites b) entries (jobOf s t)
+
+    abbrev firstStrip : List Placed
     firstStrip = stripAt (firstEnds c) (sites a) s
 
-    secondStrip : List Placed
+    abbrev secondStrip : List Placed
     secondStrip = stripAt (secondEnds c) (sites b) t
 
     first-sorted : Sorted leftOf firstStrip
-    unfolding firstStrip stripAt
+    unfolding stripAt
     first-sorted = strip-sorted _ _ (sites a) (accepted-order a (job-sound c a b r s t ok .lists .0))
 
     second-sorted : Sorted leftOf secondStrip
-    unfolding secondStrip stripAt
+    unfolding stripAt
     second-sorted = strip-sorted _ _ (sites b) (accepted-order b (job-sound c a b r s t ok .lists .1))
 
     -- The entries are the best of themselves.
     own-best : bestK (c .k) entries ≡ entries
-    unfolding bestK entries
+    unfolding bestK
     own-best =
         let w = job-sound c a b r s t ok in
-        best-sorted rank-order (c .k) (entriesOf (c .entries) r) (campaign-sorted c a b r w)
-        ∙ take-all (c .k) (entriesOf (c .entries) r) (omega (arith, campaign-length c a b r w, w .most))
+        best-sorted rank-order (c .k) entries (campaign-sorted c a b r w)
+        ∙ take-all (c .k) entries (omega (arith, campaign-length c a b r w, w .most))
 
     -- A skip leaves out no pair that could enter.
-    skipped-entries : skips c (sites a) (sites b) entries (jobOf s t) ≡ true → jobEntries c (sites a) (sites b) entries (jobOf s t) ≡ entries
-    unfolding skips jobEntries jobPairs firstStrip secondStrip
+    skipped-entries : skips c (sites a) (sites b) entries (jobOf s t) ≡ true → left ≡ entries
+    unfolding skips jobEntries jobPairs
     skipped-entries h =
         beyond-under (c .k) (squaredStripGap firstStrip secondStrip) entries (pairs firstStrip secondStrip)
         (rw own-best h)
@@ -140,39 +144,33 @@ module _ (way : Way) (c : Campaign) (a b : Columns) (r : Results) (s t : ℕ) wh
         ∙ own-best
 
     -- A sweep leaves the best of the entries and all pairs.
-    swept-entries : sweep way (c .k) firstStrip secondStrip entries .entries ≡ jobEntries c (sites a) (sites b) entries (jobOf s t)
-    unfolding jobEntries jobPairs firstStrip secondStrip
+    swept-entries : sweep way (c .k) firstStrip secondStrip entries .entries ≡ left
+    unfolding jobEntries jobPairs
     swept-entries = sweep-sorted way (c .k) firstStrip secondStrip entries entries first-sorted second-sorted (sym own-best)
 
-    pub job-skipped : skips c (sites a) (sites b) (entriesOf (c .entries) r) (jobOf s t) ≡ true → {c' : Campaign}
+    pub job-skipped : skips c (sites a) (sites b) entries (jobOf s t) ≡ true → {c' : Campaign}
         → c' ≡ afterJob c (c .entries) (jobOf s t) → Done-as (record { campaign = c'; outcome = outcome.Skipped }) r
-    unfolding jobDoneAnswer jobAnswer entries
+    unfolding jobDoneAnswer jobAnswer
     job-skipped h {c'} e =
         let w = job-sound c a b r s t ok in
-        let same : jobEntries c (sites a) (sites b) (entriesOf (c .entries) r) (jobOf s t) ≡ entriesOf (c .entries) r =
-        skipped-entries h in
-        let count : length (jobEntries c (sites a) (sites b) (entriesOf (c .entries) r) (jobOf s t)) ≡ c .entries =
-        ap (λ (l : List Entry). length l) same ∙ campaign-length c a b r w in
-        let after : c' ≡ afterJob c (length (jobEntries c (sites a) (sites b) (entriesOf (c .entries) r) (jobOf s t))) (jobOf s t) =
-        e ∙ ap (λ (n : ℕ). afterJob c n (jobOf s t)) (sym count) in
-        let columns : r ≡ holding (jobEntries c (sites a) (sites b) (entriesOf (c .entries) r) (jobOf s t)) r =
+        let same : left ≡ entries = skipped-entries h in
+        let count : length left ≡ c .entries = ap (λ (l : List Entry). length l) same ∙ campaign-length c a b r w in
+        let after : c' ≡ afterJob c (length left) (jobOf s t) = e ∙ ap (λ (n : ℕ). afterJob c n (jobOf s t)) (sym count) in
+        let columns : r ≡ holding left r =
         sym (holding-self (c .k) (c .entries) r (w .room) (w .most)) ∙ ap (λ (l : List Entry). holding l r) (sym same) in (
           ap₂ (λ (d : Campaign) (l : Results). answered (jobValues d l 0 0 0)) after columns ∙ rw h (answer-values ok),
           (after ∙ after-answered _ _ c ok, columns ∙ after-answered _ _ r ok),
         )
 
-    pub job-swept : skips c (sites a) (sites b) (entriesOf (c .entries) r) (jobOf s t) ≡ false → {r' : Results} {d : Swept}
-        → SweptTo (sweep way (c .k) (stripAt (firstEnds c) (sites a) s) (stripAt (secondEnds c) (sites b) t) (entriesOf (c .entries) r)) r r' d
+    pub job-swept : skips c (sites a) (sites b) entries (jobOf s t) ≡ false → {r' : Results} {d : Swept}
+        → SweptTo (sweep way (c .k) firstStrip secondStrip entries) r r' d
         → {c' : Campaign} → c' ≡ afterJob c (d .entries) (jobOf s t)
         → Done-as (record { campaign = c'; outcome = outcome.Swept (d .looks) (d .distances) }) r'
-    unfolding jobDoneAnswer jobAnswer entries firstStrip secondStrip
+    unfolding jobDoneAnswer jobAnswer
     job-swept h {r'} {d} w {c'} e =
-        let count : d .entries ≡ length (jobEntries c (sites a) (sites b) (entriesOf (c .entries) r) (jobOf s t)) =
-        w .entries ∙ ap (λ (l : List Entry). length l) swept-entries in
-        let after : c' ≡ afterJob c (length (jobEntries c (sites a) (sites b) (entriesOf (c .entries) r) (jobOf s t))) (jobOf s t) =
-        e ∙ ap (λ (n : ℕ). afterJob c n (jobOf s t)) count in
-        let columns : r' ≡ holding (jobEntries c (sites a) (sites b) (entriesOf (c .entries) r) (jobOf s t)) r =
-        w .columns ∙ ap (λ (l : List Entry). holding l r) swept-entries in (
+        let count : d .entries ≡ length left = w .entries ∙ ap (λ (l : List Entry). length l) swept-entries in
+        let after : c' ≡ afterJob c (length left) (jobOf s t) = e ∙ ap (λ (n : ℕ). afterJob c n (jobOf s t)) count in
+        let columns : r' ≡ holding left r = w .columns ∙ ap (λ (l : List Entry). holding l r) swept-entries in (
           rw (h, after, columns, w .looks, w .distances) (answer-values ok),
           (after ∙ after-answered _ _ c ok, columns ∙ after-answered _ _ r ok),
         )

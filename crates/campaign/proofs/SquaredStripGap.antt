@@ -82,7 +82,8 @@ module _ (from to from' to' x y : ℤ) (low : leZ from x ≡ true) (high : leZ x
 -- ---- the pairs of two strips
 
 module _ (p q : List Placed) where
-  pair-far : (a b : Placed) → leZ (firstX p) (a .site .x) ≡ true → leZ (a .site .x) (lastX p) ≡ true → leZ (firstX q) (b .site .x) ≡ true → leZ (b .site .x) (lastX q) ≡ true
+  pair-far : (a b : Placed) → leZ (firstX p) (a .site .x) ≡ true → leZ (a .site .x) (lastX p) ≡ true
+      → leZ (firstX q) (b .site .x) ≡ true → leZ (b .site .x) (lastX q) ≡ true
       → squaredStripGap p q ≤ pair a b .distance
   unfolding pair
   pair-far a b h g i j =

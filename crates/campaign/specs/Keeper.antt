@@ -1,4 +1,4 @@
--- Refusal 7: what the keeper of a campaign may have spoilt.
+-- Refusal 7: the faults of a campaign and of the columns that hold its entries.
 use mathlib.Core.Bool.{Bool, not, _&&_}
 use mathlib.Core.List.{List}
 use Prim.Native.Nat.{ℕ, min}

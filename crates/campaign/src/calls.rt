@@ -102,7 +102,7 @@ pub fn status(
     }
 }
 
-// Settles one job, swept by the way named or skipped: the list becomes the first K of its entries and the job's pairs.
+// Settles one job, swept or skipped: the list becomes the first K of its entries and the job's pairs. (01: job.)
 pub fn job(
     c: Campaign,
     ax: &[i32],

@@ -40,12 +40,13 @@ run-requires c κs =
 
 returns : tie.Need-returns
 returns c =
-    let s =
-    c .before .before .before .before .before .before .before .before .before .before .before .before .before .before .before .before .before .before .before in
+    let run = c .before .before .before .before .before .before in
+    let q = run .before .before .before .before .before .before in
+    let s = q .before .before .before .before .before .before .before in
     record {
       numbered = λ an bn la lb.
-          by-number (s .args .c)
-          (c .before .before .before .before .before .before .before .before .before .before .before .before .before .strip .ensures) (c .before .before .before .before .before .before .before .before .before .before .before .before .strip2 .ensures) _ _ _ _ _ (c .before .before .before .before .before .before .run .ensures .numbered an bn la lb);
+          by-number (s .args .c) (q .before .strip .ensures) (q .strip2 .ensures) _ _ _ _ _
+          (run .run .ensures .numbered an bn la lb);
     }
 
 pub swept-spec : {M : Type 1} → statement M

@@ -24,7 +24,9 @@ abbrev μ-loop : tie.MeasureT-loop
 μ-loop marks first-ends a second-ends width jobs₀ pairs₀ b₀ jobs pairs b = length second-ends - b
 
 -- Both lists have at most 32 strips.
-few : (c : tie.At-loop Inv-loop μ-loop) → (c .before .before .before .before .before .args .a < 32) × (length (c .before .before .before .before .before .args .second-ends .now) ≤ 32)
+few : (c : tie.At-loop Inv-loop μ-loop)
+    → let s = c .before .before .before .before .before in
+    (s .args .a < 32) × (length (s .args .second-ends .now) ≤ 32)
 few c =
     let s = c .before .before .before .before .before in
     (omega (arith, cuts-cut (s .pre .0) .few, s .pre .2), cuts-cut (s .pre .1) .few)

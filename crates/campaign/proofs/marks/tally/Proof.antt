@@ -10,12 +10,18 @@ use Rattle.campaign.proofs.marks.tally.Tie as tie
 
 abbrev Inv-loop : tie.InvT-loop
 Inv-loop marks first-ends second-ends jobs₀ pairs₀ a₀ jobs pairs a =
-    (a ≤ length first-ends) × (jobs ≤ 32 * a) × (pairs ≤ 137_434_759_200 * a) × Left first-ends second-ends (rowsFrom marks (length first-ends) (length second-ends) 0) (rowsFrom marks (length first-ends) (length second-ends) a) jobs pairs
+    let rows = rowsFrom marks (length first-ends) (length second-ends) in
+    (a ≤ length first-ends)
+    × (jobs ≤ 32 * a)
+    × (pairs ≤ 137_434_759_200 * a)
+    × Left first-ends second-ends (rows 0) (rows a) jobs pairs
 
 abbrev μ-loop : tie.MeasureT-loop
 μ-loop marks first-ends second-ends jobs₀ pairs₀ a₀ jobs pairs a = length first-ends - a
 
-small : (c : tie.After-row Inv-loop μ-loop) → (c .row .result .jobs ≤ 32) × (c .row .result .pairs ≤ 137_434_759_200) × (length (c .before .before .before .before .before .before .args .first-ends .now) ≤ 32)
+small : (c : tie.After-row Inv-loop μ-loop)
+    → let s = c .before .before .before .before .before .before in
+    (c .row .result .jobs ≤ 32) × (c .row .result .pairs ≤ 137_434_759_200) × (length (s .args .first-ends .now) ≤ 32)
 small c =
     let s = c .before .before .before .before .before .before in
     let few = cuts-cut (s .pre .1) .few in

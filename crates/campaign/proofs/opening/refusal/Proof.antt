@@ -10,14 +10,22 @@ use Rattle.campaign.proofs.OpenAnswer.{opens-lists, opens-k, opens-firs
 use Rattle.campaign.proofs.opening.refusal.Statement.{statement}
 use Rattle.campaign.proofs.opening.refusal.Tie as tie
 
+-- What was lent.
+abbrev start : tie.Else1 → tie.Start
+start e = e .before .before .before .before .before .before .before .before .before
+
 -- The tests passed so far.
-past-k : (m : tie.Else2) → lawfulK (m .before .before .before .before .before .before .before .before .before .before .before .args .k) ≡ true
+past-k : (m : tie.Else2) → lawfulK (start (m .before .before) .args .k) ≡ true
 past-k m = sym (m .before .lawful-k .ensures) ∙ not-false _ (m .if2 .left)
 
-past-first : (n : tie.Else3) → lawfulEnds (length (n .before .before .before .before .before .before .before .before .before .before .before .before .before .args .ax .now)) (n .before .before .before .before .before .before .before .before .before .before .before .before .before .args .first-ends .now) ≡ true
+past-first : (n : tie.Else3)
+    → let s = start (n .before .before .before .before) in
+    lawfulEnds (length (s .args .ax .now)) (s .args .first-ends .now) ≡ true
 past-first n = sym (n .before .lawful .ensures) ∙ not-false _ (n .if3 .left)
 
-past-second : (o : tie.Else4) → lawfulEnds (length (o .before .before .before .before .before .before .before .before .before .before .before .before .before .before .before .args .bx .now)) (o .before .before .before .before .before .before .before .before .before .before .before .before .before .before .before .args .second-ends .now) ≡ true
+past-second : (o : tie.Else4)
+    → let s = start (o .before .before .before .before .before .before) in
+    lawfulEnds (length (s .args .bx .now)) (s .args .second-ends .now) ≡ true
 past-second o = sym (o .before .lawful2 .ensures) ∙ not-false _ (o .if4 .left)
 
 returns : tie.Need-returns
@@ -38,21 +46,24 @@ returns-3 c =
 returns-4 : tie.Need-returns-4
 returns-4 c =
     let l = c .before .before .before .before .before .before in
-    opens-second _ _ _ _ _ _ (l .before .lists-refusal .ensures) (l .if1 .left) (past-k (c .before .before .before .before)) (past-first (c .before .before))
+    opens-second _ _ _ _ _ _ (l .before .lists-refusal .ensures) (l .if1 .left) (past-k (c .before .before .before .before))
+    (past-first (c .before .before))
     (sym (c .before .lawful2 .ensures) ∙ not-true _ (c .if4 .taken))
 
 returns-5 : tie.Need-returns-5
 returns-5 c =
     let o = c .before .before in
     let l = o .before .before .before .before .before .before in
-    opens _ _ _ _ _ _ (l .before .lists-refusal .ensures) (l .if1 .left) (past-k (o .before .before .before .before)) (past-first (o .before .before)) (past-second o)
+    opens _ _ _ _ _ _ (l .before .lists-refusal .ensures) (l .if1 .left) (past-k (o .before .before .before .before))
+    (past-first (o .before .before)) (past-second o)
     (sym (c .before .room .ensures) ∙ c .if5 .taken)
 
 returns-6 : tie.Need-returns-6
 returns-6 c =
     let o = c .before .before in
     let l = o .before .before .before .before .before .before in
-    opens _ _ _ _ _ _ (l .before .lists-refusal .ensures) (l .if1 .left) (past-k (o .before .before .before .before)) (past-first (o .before .before)) (past-second o)
+    opens _ _ _ _ _ _ (l .before .lists-refusal .ensures) (l .if1 .left) (past-k (o .before .before .before .before))
+    (past-first (o .before .before)) (past-second o)
     (sym (c .before .room .ensures) ∙ c .if5 .left)
 
 pub refusal-spec : {M : Type 1} → statement M

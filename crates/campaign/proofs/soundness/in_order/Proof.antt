@@ -18,7 +18,8 @@ use Rattle.campaign.proofs.soundness.in_order.Tie as tie
 
 abbrev Inv-loop : tie.InvT-loop
 Inv-loop distance first second count i₀ i =
-    (i ≤ count) × (ascending rankBefore (drop i (entriesOf count (results distance first second))) ≡ ascending rankBefore (entriesOf count (results distance first second)))
+    let l = entriesOf count (results distance first second) in
+    (i ≤ count) × (ascending rankBefore (drop i l) ≡ ascending rankBefore l)
 
 abbrev μ-loop : tie.MeasureT-loop
 μ-loop distance first second count i₀ i = count - i
@@ -27,9 +28,9 @@ abbrev listed : tie.Start Inv-loop μ-loop → List Entry
 listed s = entriesOf (s .args .count) (results (s .args .distance .now) (s .args .first .now) (s .args .second .now))
 
 learnt : (c : tie.After-before2 Inv-loop μ-loop)
-    → c .before2 .result
-    ≡ rankBefore (getD (listed (c .before .before .before .before .before .before .before .before)) (c .before .before .before .before .loop .i) (entry 0 0 0))
-    (getD (listed (c .before .before .before .before .before .before .before .before)) (c .before .before .before .before .loop .i + 1) (entry 0 0 0))
+    → let l = listed (c .before .before .before .before .before .before .before .before) in
+    let i = c .before .before .before .before .loop .i in
+    c .before2 .result ≡ rankBefore (getD l i (entry 0 0 0)) (getD l (i + 1) (entry 0 0 0))
 learnt c =
     let s = c .before .before .before .before .before .before .before .before in
     let inside = c .before .before .before .loop-test .taken in
@@ -53,7 +54,9 @@ returns : tie.Need-returns Inv-loop μ-loop
 returns c =
     let l = c .before .before .before .before .before .loop in
     let s = c .before .before .before .before .before .before .before .before .before in
-    order-falls rankBefore (listed s) (l .i) (l .inv .1) (entry 0 0 0) (omega (arith, entries-many _ _ (s .pre), c .before .before .before .before .loop-test .taken)) (learnt (c .before)) (not-true _ (c .if1 .taken))
+    let inside = c .before .before .before .before .loop-test .taken in
+    order-falls rankBefore (listed s) (l .i) (l .inv .1) (entry 0 0 0) (omega (arith, entries-many _ _ (s .pre), inside))
+    (learnt (c .before)) (not-true _ (c .if1 .taken))
 
 add-i : tie.Need-add-i Inv-loop μ-loop
 add-i c = omega (arith, c .before .before .before .before .loop-test .taken)
@@ -61,9 +64,11 @@ add-i c = omega (arith, c .before .before .before .before .loop-test .taken)
 loop-again : tie.Need-loop-again Inv-loop μ-loop
 loop-again c =
     let l = c .before .before .before .before .before .loop in
-    let s = c .before .before .before .before .before .before .before .before .before in (
-      omega (arith, c .before .before .before .before .loop-test .taken),
-      order-more rankBefore (listed s) (l .i) (l .inv .1) (entry 0 0 0) (omega (arith, entries-many _ _ (s .pre), c .before .before .before .before .loop-test .taken)) (learnt (c .before)) (not-false _ (c .if1 .left)),
+    let s = c .before .before .before .before .before .before .before .before .before in
+    let inside = c .before .before .before .before .loop-test .taken in (
+      omega (arith, inside),
+      order-more rankBefore (listed s) (l .i) (l .inv .1) (entry 0 0 0)
+          (omega (arith, entries-many _ _ (s .pre), inside)) (learnt (c .before)) (not-false _ (c .if1 .left)),
     )
 
 returns-2 : tie.Need-returns-2 Inv-loop μ-loop

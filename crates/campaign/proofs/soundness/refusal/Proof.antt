@@ -22,11 +22,14 @@ abbrev held : tie.Start → Results
 held s = results (s .args .distance .now) (s .args .first .now) (s .args .second .now)
 
 -- Both lists were accepted, and the test decides.
-accepted : (e : tie.Else1) → (listRefusal (one (e .before .before .before .before .before .before .before)) ≡ 0) × (listRefusal (other (e .before .before .before .before .before .before .before)) ≡ 0)
+accepted : (e : tie.Else1)
+    → let s = e .before .before .before .before .before .before .before in
+    (listRefusal (one s) ≡ 0) × (listRefusal (other s) ≡ 0)
 accepted e = both-accepted _ _ (sym (e .before .lists-refusal .ensures) ∙ e .if1 .left)
 
 decided : (c : tie.After-sound) {t : Bool} → c .sound .result ≡ t
-    → cond (not t) 7 0 ≡ campaignRefusal (c .before .before .before .before .before .before .before .before .args .c) (one (c .before .before .before .before .before .before .before .before)) (other (c .before .before .before .before .before .before .before .before)) (held (c .before .before .before .before .before .before .before .before))
+    → let s = c .before .before .before .before .before .before .before .before in
+    cond (not t) 7 0 ≡ campaignRefusal (s .args .c) (one s) (other s) (held s)
 decided c h =
     let e = c .before in
     let ok = accepted e in

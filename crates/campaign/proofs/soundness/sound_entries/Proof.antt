@@ -22,7 +22,9 @@ abbrev lent : tie.Start → Results
 lent s = results (s .args .distance .now) (s .args .first .now) (s .args .second .now)
 
 -- No column is shorter than the entries.
-enough : (s : tie.Start) → (s .args .c .entries ≤ length (s .args .distance .now)) × (s .args .c .entries ≤ length (s .args .first .now)) × (s .args .c .entries ≤ length (s .args .second .now))
+enough : (s : tie.Start)
+    → let n = s .args .c .entries in
+    (n ≤ length (s .args .distance .now)) × (n ≤ length (s .args .first .now)) × (n ≤ length (s .args .second .now))
 enough s =
     let n = room-lengths (s .args .c .k) (lent s) (s .pre .1 .1 .room) in
     let most = s .pre .1 .1 .most in
@@ -79,7 +81,8 @@ all-fit-requires c κs =
     let p = s .pre .1 .0 in
     let rows = in-use (s .args .c .«first_ends») (s .args .c .«first_strips») (long s .0) (p .rows) in
     let cols = in-use (s .args .c .«second_ends») (s .args .c .«second_strips») (long s .1) (p .cols) in
-    (room-first (s .args .c .k) (s .args .c .entries) (lent s) (s .pre .1 .1 .room) (s .pre .1 .1 .most), (s .pre .0, (omega (arith, rows, p .rows), omega (arith, cols, p .cols))))
+    let room = room-first (s .args .c .k) (s .args .c .entries) (lent s) (s .pre .1 .1 .room) (s .pre .1 .1 .most) in
+    (room, (s .pre .0, (omega (arith, rows, p .rows), omega (arith, cols, p .cols))))
 
 returns-2 : tie.Need-returns-2
 returns-2 c =
