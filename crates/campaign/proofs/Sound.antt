@@ -17,7 +17,7 @@ use Rattle.entry.specs.Entry.{rankBefore, lawfulK}
 use Rattle.entry.specs.Results.{Results, entriesOf, roomFor}
 use Rattle.campaign.specs.declared.Campaign.{Campaign}
 use Rattle.campaign.specs.Grid.{lawfulMarks}
-use Rattle.campaign.specs.Internal.{lawfulSlots, Cutting, soundPlan, rightCount, entriesSound}
+use Rattle.campaign.specs.Internal.{lawfulSlots, Cutting, soundPlan, rightCount, soundEntries}
 use Rattle.campaign.specs.Keeper.{firstEnds, secondEnds, soundEntry, sound, campaignRefusal}
 use Rattle.campaign.proofs.SoundPlan.{plan-parts}
 
@@ -39,8 +39,8 @@ last-first false q false = refl
 
 module _ (c : Campaign) (a b : List Site) (r : Results) where
   sound-is : sound c a b r ≡ (soundPlan c (length a) (length b) &&
-      (roomFor (c .k) r && (rightCount c a b && entriesSound c a b r)))
-  unfolding sound soundPlan lawfulSlots firstEnds secondEnds rightCount entriesSound
+      (roomFor (c .k) r && (rightCount c a b && soundEntries c a b r)))
+  unfolding sound soundPlan lawfulSlots firstEnds secondEnds rightCount soundEntries
   sound-is =
       regroup (lawfulK (c .k)) (lawfulSlots (length a) (c .«first_strips») (c .«first_ends»))
       (lawfulSlots (length b) (c .«second_strips») (c .«second_ends»))
@@ -49,22 +49,22 @@ module _ (c : Campaign) (a b : List Site) (r : Results) where
       (last-first (ascending rankBefore (entriesOf (c .entries) r))
       (all (soundEntry (c .marks) (firstEnds c) (secondEnds c) a b) (entriesOf (c .entries) r)) (rightCount c a b))
 
-  pub order-fails : ascending rankBefore (entriesOf (c .entries) r) ≡ false → false ≡ entriesSound c a b r
-  unfolding entriesSound
+  pub order-fails : ascending rankBefore (entriesOf (c .entries) r) ≡ false → false ≡ soundEntries c a b r
+  unfolding soundEntries
   order-fails h = simp h
 
   -- `l` is the entries, as they were read.
   pub entries-decide : {l : List Entry} → l ≡ entriesOf (c .entries) r → ascending rankBefore (entriesOf (c .entries) r) ≡ true → {t : Bool}
       → t ≡ all (soundEntry (c .marks) (take (c .«first_strips») (c .«first_ends»))
       (take (c .«second_strips») (c .«second_ends»)) a b) l
-      → t ≡ entriesSound c a b r
-  unfolding entriesSound firstEnds secondEnds
+      → t ≡ soundEntries c a b r
+  unfolding soundEntries firstEnds secondEnds
   entries-decide read h e = e ∙ rw read (simp h)
 
 module _ (c : Campaign) (a b : Columns) (r : Results) (la : Level a) (lb : Level b) where
   pub steps : sound c (sites a) (sites b) r
       ≡ (soundPlan c (length (a .x)) (length (b .x)) &&
-      (roomFor (c .k) r && (rightCount c (sites a) (sites b) && entriesSound c (sites a) (sites b) r)))
+      (roomFor (c .k) r && (rightCount c (sites a) (sites b) && soundEntries c (sites a) (sites b) r)))
   steps = sound-is c (sites a) (sites b) r ∙ rw (sites-length a la, sites-length b lb)
 
   pub plan-fails : soundPlan c (length (a .x)) (length (b .x)) ≡ false → false ≡ sound c (sites a) (sites b) r
@@ -84,7 +84,7 @@ module _ (c : Campaign) (a b : Columns) (r : Results) (la : Level a) (lb : Level
       pub count-fails : q ≡ false → false ≡ sound c (sites a) (sites b) r
       count-fails h = sym (steps ∙ simp (plan, room, ← count-is, h))
 
-      pub sound-decided : q ≡ true → {t : Bool} → t ≡ entriesSound c (sites a) (sites b) r → t ≡ sound c (sites a)
+      pub sound-decided : q ≡ true → {t : Bool} → t ≡ soundEntries c (sites a) (sites b) r → t ≡ sound c (sites a)
           (sites b) r
       sound-decided h e = e ∙ sym (steps ∙ simp (plan, room, ← count-is, h))
 

@@ -21,7 +21,7 @@ use Rattle.entry.proofs.Rank.{rank-order}
 use Rattle.entry.proofs.Columns.{length-entries}
 use Rattle.campaign.specs.declared.Campaign.{Campaign}
 use Rattle.campaign.specs.Keeper.{firstEnds, secondEnds, soundEntry, sound, campaignRefusal}
-use Rattle.campaign.specs.Internal.{SoundPlan, soundPlan, rightCount, entriesSound}
+use Rattle.campaign.specs.Internal.{SoundPlan, soundPlan, rightCount, soundEntries}
 use Rattle.site.proofs.Accepted.{accepted-level, accepted-few, both-accepted}
 use Rattle.campaign.proofs.SoundPlan.{sound-plan}
 use Rattle.campaign.proofs.Sound.{steps}
@@ -36,7 +36,7 @@ pub record SoundCampaign (c : Campaign) (a b : Columns) (r : Results) : Type 0 w
 
 module _ (c : Campaign) (a b : Columns) (r : Results) where
   sound-by-tests : (listRefusal a ≡ 0) × (listRefusal b ≡ 0) → sound c (sites a) (sites b) r ≡ true → SoundCampaign c a b r
-  unfolding entriesSound rightCount
+  unfolding soundEntries rightCount
   sound-by-tests ok h =
       let p = soundPlan c (length (a .x)) (length (b .x)) in
       let q = roomFor (c .k) r in

@@ -83,7 +83,7 @@ afterJob c count j =
     campaignOf (c .k) count (c .«first_strips») (c .«second_strips») (c .«first_ends») (c .«second_ends»)
     (set (c .marks) (markOf j) 1)
 
--- "a job, the campaign, whether it was swept or skipped, looks and distances", and the result columns; 1 is swept.
+-- "the campaign, whether it was swept or skipped, looks and distances" and the result columns; swept is 1, skipped 0.
 pub record JobValues : Type 0 where
   pub campaign : Campaign
   pub results : Results

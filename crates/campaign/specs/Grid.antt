@@ -72,7 +72,7 @@ jobsPairs ends ends' a b l = flatMap (jobPairs ends ends' a b) l
 unfoldable pub rangeGap : ℤ → ℤ → ℤ → ℤ → ℕ
 rangeGap from to from' to' = cond (ltZ to from') (gap to from') (cond (ltZ to' from) (gap to' from) 0)
 
--- "The gap of two strips is the x-difference between them", from the first site's x to the last's; "the gap squared".
+-- "The gap of two strips is the x-difference between them", each from its first site's x to its last's; squared.
 unfoldable pub squaredStripGap : List Placed → List Placed → ℕ
 squaredStripGap p q =
     let xs = map (λ s. s .site .x) p in

@@ -103,7 +103,7 @@ pub record JobAsked (c : Campaign) (n m : ℕ) (j : Job) : Type 0 where
   pub column : j .second < c .«second_strips»
 
 -- The entries of a campaign stand in order and have no fault.
-unfoldable pub entriesSound : Campaign → List Site → List Site → Results → Bool
-entriesSound c a b r =
+unfoldable pub soundEntries : Campaign → List Site → List Site → Results → Bool
+soundEntries c a b r =
     let l = entriesOf (c .entries) r in
     ascending rankBefore l && all (soundEntry (c .marks) (firstEnds c) (secondEnds c) a b) l

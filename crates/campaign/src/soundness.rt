@@ -24,7 +24,7 @@ ghost use Rattle.campaign.specs.Internal.{
   SoundPlan,
   soundPlan,
   rightCount,
-  entriesSound,
+  soundEntries,
 };
 ghost use Rattle.campaign.specs.Keeper.{firstEnds, secondEnds, soundEntry, sound, campaignRefusal};
 
@@ -58,7 +58,7 @@ fn in_order(distance: &[u64], first: &[u32], second: &[u32], count: usize) -> bo
 }
 
 // Whether an entry has no fault.
-fn fits(
+fn sound_entry(
     e: Entry,
     ax: &[i32],
     ay: &[i32],
@@ -93,7 +93,7 @@ fn fits(
 }
 
 // Whether each entry has no fault.
-fn all_fit(
+fn all_sound(
     distance: &[u64],
     first: &[u32],
     second: &[u32],
@@ -117,7 +117,7 @@ fn all_fit(
     let mut i = 0;
     while i < count {
         let e = entry::entry_at(distance, first, second, i);
-        if !fits(e, ax, ay, bx, by, first_ends, second_ends, marks) {
+        if !sound_entry(e, ax, ay, bx, by, first_ends, second_ends, marks) {
             return false;
         }
         i += 1;
@@ -186,7 +186,7 @@ fn sound_entries(
     requires { ⌜ Room (c .k) (c .entries) (results (now distance) (now first) (now second)) ⌝ }
     ensures { λ r.
         let l = lentResults distance first second .entry in
-        ⌜ NumberedLent ax ay bx by (λ a b. r ≡ entriesSound c a b l) ⌝ }
+        ⌜ NumberedLent ax ay bx by (λ a b. r ≡ soundEntries c a b l) ⌝ }
 {
     let count = c.entries as usize;
     let rows = c.first_strips as usize;
@@ -200,7 +200,7 @@ fn sound_entries(
     if !in_order(distances, firsts, seconds, count) {
         return false;
     }
-    all_fit(
+    all_sound(
         distances,
         firsts,
         seconds,

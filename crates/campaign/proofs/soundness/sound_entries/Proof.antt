@@ -63,20 +63,20 @@ begun c = start (c .before .before .before .before .before)
 array-share-prefix-first-ends : tie.Need-array-share-prefix-first-ends
 array-share-prefix-first-ends c = omega (arith, long (begun c), begun c .pre .1 .0 .rows)
 
-slice-aggregate-all-fit : tie.Need-slice-aggregate-all-fit
-slice-aggregate-all-fit c = let s = begun (c .before) in in-use _ _ (long s .0) (s .pre .1 .0 .rows)
+slice-aggregate-all-sound : tie.Need-slice-aggregate-all-sound
+slice-aggregate-all-sound c = let s = begun (c .before) in in-use _ _ (long s .0) (s .pre .1 .0 .rows)
 
 array-share-prefix-second-ends : tie.Need-array-share-prefix-second-ends
 array-share-prefix-second-ends c = omega (arith, long (begun (c .before)), begun (c .before) .pre .1 .0 .cols)
 
-slice-aggregate-all-fit-2 : tie.Need-slice-aggregate-all-fit-2
-slice-aggregate-all-fit-2 c = let s = begun (c .before .before) in in-use _ _ (long s .1) (s .pre .1 .0 .cols)
+slice-aggregate-all-sound-2 : tie.Need-slice-aggregate-all-sound-2
+slice-aggregate-all-sound-2 c = let s = begun (c .before .before) in in-use _ _ (long s .1) (s .pre .1 .0 .cols)
 
-slice-aggregate-all-fit-3 : tie.Need-slice-aggregate-all-fit-3
-slice-aggregate-all-fit-3 c = sym (long (begun (c .before .before .before)) .2)
+slice-aggregate-all-sound-3 : tie.Need-slice-aggregate-all-sound-3
+slice-aggregate-all-sound-3 c = sym (long (begun (c .before .before .before)) .2)
 
-all-fit-requires : tie.Need-all-fit-requires
-all-fit-requires c κs =
+all-sound-requires : tie.Need-all-sound-requires
+all-sound-requires c κs =
     let s = begun (c .before .before .before) in
     let p = s .pre .1 .0 in
     let rows = in-use (s .args .c .«first_ends») (s .args .c .«first_strips») (long s .0) (p .rows) in
@@ -91,7 +91,7 @@ returns-2 c =
     record {
       numbered = λ an bn la lb.
           entries-decide _ _ _ _ (entries-first (s .args .c .entries) (lent s)) (sym (learnt (e .before)) ∙ not-false _ (e .if1 .left))
-          (c .all-fit .ensures .numbered an bn la lb);
+          (c .all-sound .ensures .numbered an bn la lb);
     }
 
 pub sound-entries-spec : {M : Type 1} → statement M
@@ -107,9 +107,9 @@ sound-entries-spec =
     in-order-requires
     returns
     array-share-prefix-first-ends
-    slice-aggregate-all-fit
+    slice-aggregate-all-sound
     array-share-prefix-second-ends
-    slice-aggregate-all-fit-2
-    slice-aggregate-all-fit-3
-    all-fit-requires
+    slice-aggregate-all-sound-2
+    slice-aggregate-all-sound-3
+    all-sound-requires
     returns-2)

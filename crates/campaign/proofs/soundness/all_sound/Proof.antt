@@ -1,4 +1,4 @@
--- `campaign::soundness::all_fit` meets its contract. The loop's invariant: the entries from place `i` on have no fault where none has.
+-- `campaign::soundness::all_sound` meets its contract. The loop's invariant: the entries from place `i` on have no fault where none has.
 use borrow.Author.Needs.{needs}
 use mathlib.Core.Path.{_≡_, refl, ap, _∙_}
 use mathlib.Core.Bool.{Bool}
@@ -16,8 +16,8 @@ use Rattle.entry.specs.Results.{results, entriesOf}
 use Rattle.campaign.specs.Keeper.{soundEntry}
 use Rattle.campaign.proofs.SoundEntry.{stands-at, entries-many}
 use Rattle.campaign.proofs.AllAscending.{all-more, all-falls, all-end}
-use Rattle.campaign.proofs.soundness.all_fit.Statement.{statement}
-use Rattle.campaign.proofs.soundness.all_fit.Tie as tie
+use Rattle.campaign.proofs.soundness.all_sound.Statement.{statement}
+use Rattle.campaign.proofs.soundness.all_sound.Tie as tie
 
 abbrev Inv-loop : tie.InvT-loop
 Inv-loop distance first second count ax ay bx by first-ends second-ends marks i₀ i =
@@ -38,24 +38,24 @@ test s an bn =
     (sites (columns (s .args .ax .now) (s .args .ay .now) an))
     (sites (columns (s .args .bx .now) (s .args .by .now) bn))
 
-abbrev start : tie.After-fits2 Inv-loop μ-loop → tie.Start Inv-loop μ-loop
+abbrev start : tie.After-sound-entry Inv-loop μ-loop → tie.Start Inv-loop μ-loop
 start c = c .before .before .before .before .before .before .before .before .before .before
 
-learnt : (c : tie.After-fits2 Inv-loop μ-loop) (an bn : List ℕ)
+learnt : (c : tie.After-sound-entry Inv-loop μ-loop) (an bn : List ℕ)
     → Level (columns (start c .args .ax .now) (start c .args .ay .now) an)
     → Level (columns (start c .args .bx .now) (start c .args .by .now) bn)
-    → c .fits2 .result ≡ test (start c) an bn
+    → c .sound-entry .result ≡ test (start c) an bn
     (getD (listed (start c)) (c .before .before .before .loop .i) (entry 0 0 0))
 learnt c an bn la lb =
-    c .fits2 .ensures .numbered an bn la lb
+    c .sound-entry .ensures .numbered an bn la lb
     ∙ ap (test (start c) an bn)
     (stands-at _ _ (start c .pre .0) _ (c .before .before .loop-test .taken) (c .before .entry-at .ensures))
 
 loop-holds : tie.Need-loop-holds Inv-loop μ-loop
 loop-holds c = (search needs, record { numbered = λ an bn la lb. refl })
 
-fits-requires : tie.Need-fits-requires Inv-loop μ-loop
-fits-requires c κs = c .before .before .before .before .before .before .before .before .before .pre .1
+sound-entry-requires : tie.Need-sound-entry-requires Inv-loop μ-loop
+sound-entry-requires c κs = c .before .before .before .before .before .before .before .before .before .pre .1
 
 returns : tie.Need-returns Inv-loop μ-loop
 returns c =
@@ -94,15 +94,15 @@ returns-2 c =
           (omega (arith, entries-many _ _ (s .pre .0)));
     }
 
-pub all-fit-spec : {M : Type 1} → statement M
-all-fit-spec =
+pub all-sound-spec : {M : Type 1} → statement M
+all-sound-spec =
     tie.close
     (tie.spec
     Inv-loop
     μ-loop
     loop-holds
     (λ c κs. search needs)
-    fits-requires
+    sound-entry-requires
     returns
     add-i
     (λ c. search needs)

@@ -1,12 +1,12 @@
--- `campaign::soundness::fits` meets its contract.
+-- `campaign::soundness::sound_entry` meets its contract.
 use borrow.Author.Needs.{needs}
 use Rattle.site.specs.SiteList.{Columns, columns}
 use Prim.Native.Nat.{ℕ}
 use mathlib.Core.List.{List}
 use native.Mathlib.Omega.{arith}
 use Rattle.campaign.proofs.SoundEntry.{holding-few, first-outside, second-outside, wrong-distance, its-job}
-use Rattle.campaign.proofs.soundness.fits.Statement.{statement}
-use Rattle.campaign.proofs.soundness.fits.Tie as tie
+use Rattle.campaign.proofs.soundness.sound_entry.Statement.{statement}
+use Rattle.campaign.proofs.soundness.sound_entry.Tie as tie
 
 -- The lists with their numbers.
 abbrev first : tie.Start → List ℕ → Columns
@@ -57,8 +57,8 @@ returns-4 c =
           (c .before .before .holding .ensures) (c .before .holding2 .ensures) (c .is-settled .ensures);
     }
 
-pub fits-spec : {M : Type 1} → statement M
-fits-spec =
+pub sound-entry-spec : {M : Type 1} → statement M
+sound-entry-spec =
     tie.close
     (tie.spec
     (λ c. search needs)
