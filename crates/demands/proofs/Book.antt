@@ -3,16 +3,18 @@ use mathlib.Core.Path.{_≡_, refl, sym, ap}
 use mathlib.Core.Logic.{⊎-elim}
 use mathlib.Core.Bool.{Bool, true, false, _&&_, _||_, or-true, and-eq-true-iff}
 use mathlib.Core.List.{List, [], _∷_, _++_, List·Memᴰ, List·Memᴰ·head, List·Memᴰ·tail, List·Memᴰ·not-nil, List·Memᴰ·cases-cons, List·Memᴰ·eq-of-singleton, Memᴰ·cast, List·Permᴰ, List·Permᴰ·trans, Permᴰ·symm}
-use Prim.Native.Nat.{ℕ}
+use Prim.Native.Nat.{ℕ, _≤_}
+use native.Mathlib.Omega.{arith}
 use lib.Dec.{eqb}
 use lib.ListN.{length}
 use borrow.Author.Tests.{eqb-true, eq-eqb}
 use Rattle.order.specs.Lists.{all, keep, All, Distinct}
 use Rattle.order.proofs.Order.{byTest, never-both}
 use Rattle.order.proofs.Lists.{all-holds, keep-whole, all-append, all-cons, all-nil, distinct-append}
-use Rattle.order.proofs.Best.{best-perm}
+use Rattle.order.proofs.Best.{length-best, best-perm}
 use Rattle.site.specs.declared.Site.{Site}
-use Rattle.entry.specs.Entry.{bestK}
+use Rattle.entry.specs.declared.Entry.{Entry}
+use Rattle.entry.specs.Entry.{rankBefore, bestK}
 use Rattle.entry.proofs.Rank.{rank-order}
 use Rattle.pairs.specs.KList.{kList}
 use Rattle.campaign.specs.Grid.{Job, jobs, jobsPairs}
@@ -37,7 +39,10 @@ unfolding isDone
 mem-done j [] m = absurd (List·Memᴰ·not-nil m)
 mem-done j (i ∷ l) m =
     ⊎-elim
-    (λ (e : j ≡ i). simp (eq-eqb (j .first) (i .first) (ap (λ (x : Job). x .first) e), eq-eqb (j .second) (i .second) (ap (λ (x : Job). x .second) e)))
+    (λ (e : j ≡ i).
+    let first = eq-eqb (j .first) (i .first) (ap (λ (x : Job). x .first) e) in
+    let second = eq-eqb (j .second) (i .second) (ap (λ (x : Job). x .second) e) in
+    simp (first, second))
     (λ (n : List·Memᴰ j l). rw (mem-done j l n) (or-true (eqb (j .first) (i .first) && eqb (j .second) (i .second))))
     (List·Memᴰ·cases-cons m)
 
@@ -45,7 +50,8 @@ mem-done j (i ∷ l) m =
 pub done-other : (j i : Job) (l : List Job) → isDone j (i ∷ []) ≡ false → isDone j (l ++ (i ∷ [])) ≡ isDone j l
 unfolding isDone
 done-other j i [] h = h
-done-other j i (x ∷ l) h = ap (λ (b : Bool). (eqb (j .first) (x .first) && eqb (j .second) (x .second)) || b) (done-other j i l h)
+done-other j i (x ∷ l) h =
+    ap (λ (b : Bool). (eqb (j .first) (x .first) && eqb (j .second) (x .second)) || b) (done-other j i l h)
 
 -- ---- the settled jobs of a grid
 
@@ -54,10 +60,14 @@ module _ (rows cols : ℕ) where
   pub once-more : (j : Job) (l : List Job) → Distinct l → isDone j l ≡ false → Distinct (l ++ (j ∷ []))
   unfolding Distinct All
   once-more j l d h =
-      distinct-append l (j ∷ []) d (tt, tt) (λ x m n. never-both (mem-done j l (Memᴰ·cast (sym (List·Memᴰ·eq-of-singleton n)) m)) h)
+      distinct-append l (j ∷ []) d (tt, tt)
+      (λ x m n. never-both (mem-done j l (Memᴰ·cast (sym (List·Memᴰ·eq-of-singleton n)) m)) h)
 
-  pub inside-more : (j : Job) (l : List Job) → InGrid rows cols j → All (InGrid rows cols) l → All (InGrid rows cols) (l ++ (j ∷ []))
-  inside-more j l g h = all-append (InGrid rows cols) l (j ∷ []) h (all-cons (InGrid rows cols) j [] g (all-nil (InGrid rows cols)))
+  pub inside-more : (j : Job) (l : List Job) → InGrid rows cols j → All (InGrid rows cols) l
+      → All (InGrid rows cols) (l ++ (j ∷ []))
+  inside-more j l g h =
+      let inside = InGrid rows cols in
+      all-append inside l (j ∷ []) h (all-cons inside j [] g (all-nil inside))
 
   module _ (l : List Job) (once : Distinct l) (inside : All (InGrid rows cols) l) where
     -- They are the jobs of the grid that the book has.
@@ -66,19 +76,33 @@ module _ (rows cols : ℕ) where
 
     -- Where none is open they are all jobs.
     pub all-done : all (λ j. isDone j l) (jobs rows cols) ≡ true → List·Permᴰ l (jobs rows cols)
-    all-done h = rw (keep-whole (λ j. isDone j l) (jobs rows cols) (all-holds (λ j. isDone j l) (jobs rows cols) h)) at done-kept
+    all-done h =
+        let test : Job → Bool = λ j. isDone j l in
+        rw (keep-whole test (jobs rows cols) (all-holds test (jobs rows cols) h)) at done-kept
 
 -- ---- the book's entries
+
+-- The settled jobs' pairs.
+abbrev pub bookPairs : List Site → List Site → Book → List Entry
+bookPairs a b book = jobsPairs (book .ends) (book .ends') a b (book .done)
+
+pub length-book : (a b : List Site) (book : Book) → length (bookEntries a b book) ≤ book .k
+unfolding bookEntries bestK
+length-book a b book = omega (arith, length-best rankBefore (book .k) (bookPairs a b book))
+
+-- A job of the book's grid.
+abbrev pub InBook : Book → Job → Type 0
+InBook book = InGrid (length (book .ends)) (length (book .ends'))
 
 -- A book of two lists: lawful ends, and each settled job once and inside the grid.
 pub record LawfulBook (a b : List Site) (book : Book) : Type 0 where
   pub cut : Cut (length a) (book .ends)
   pub cut' : Cut (length b) (book .ends')
   pub once : Distinct (book .done)
-  pub inside : All (InGrid (length (book .ends)) (length (book .ends'))) (book .done)
+  pub inside : All (InBook book) (book .done)
 
 module _ (a b : List Site) (book : Book) (o : LawfulBook a b book) where
-  pub settled-pairs-distinct : Distinct (jobsPairs (book .ends) (book .ends') a b (book .done))
+  pub settled-pairs-distinct : Distinct (bookPairs a b book)
   settled-pairs-distinct =
       jobs-pairs-distinct (book .ends) (book .ends') a b (o .cut) (o .cut') (λ j. isDone j (book .done)) (book .done)
       (done-kept (length (book .ends)) (length (book .ends')) (book .done) (o .once) (o .inside))
@@ -87,7 +111,7 @@ module _ (a b : List Site) (book : Book) (o : LawfulBook a b book) where
   pub book-finished : noneOpen book ≡ true → bookEntries a b book ≡ kList (book .k) a b
   unfolding noneOpen bookEntries kList bestK
   book-finished h =
+      let all = all-done (length (book .ends)) (length (book .ends')) (book .done) (o .once) (o .inside) h in
       best-perm rank-order (book .k)
-      (List·Permᴰ·trans
-      (jobs-pairs-perm (book .ends) (book .ends') a b (all-done (length (book .ends)) (length (book .ends')) (book .done) (o .once) (o .inside) h))
+      (List·Permᴰ·trans (jobs-pairs-perm (book .ends) (book .ends') a b all)
       (Permᴰ·symm (grid-pairs (book .ends) (book .ends') a b (o .cut) (o .cut'))))

@@ -29,23 +29,26 @@ use Rattle.site_file.proofs.RoundTrip.{every-output-accepted, every-accepted-is
 use Rattle.demands.specs.Demand2.{KClosest, WithinLimit, Demand2}
 use Rattle.demands.proofs.KClosest.{k-list-closest, written, k-list-values}
 
--- The values of an accepted distance list.
-distance-values : (a b : Columns) (e : ℕ) (first second : List ℕ) (v : DistanceValues) → distanceAnswer a b e first second ≡ answered v
-    → (let l = distanceList e (sites a) (sites b) in
-    distanceValues (overwritten (map (λ p. p .first) l) first) (overwritten (map (λ p. p .second) l) second) (length l) ≡ v)
+-- The values of an accepted distance list: its places written into the columns, and its count.
+abbrev written-values : Columns → Columns → ℕ → List ℕ → List ℕ → DistanceValues
+written-values a b e first second =
+    let l = distanceList e (sites a) (sites b) in
+    distanceValues (overwritten (map (λ p. p .first) l) first) (overwritten (map (λ p. p .second) l) second) (length l)
+
+distance-values : (a b : Columns) (e : ℕ) (first second : List ℕ) (v : DistanceValues)
+    → distanceAnswer a b e first second ≡ answered v → written-values a b e first second ≡ v
 unfolding distanceAnswer
 distance-values a b e first second v accepted = answered-values (distanceRefusal a b e first second) _ v accepted .1
 
 distances-within : (a b : Columns) (e : ℕ) (first second : List ℕ)
-    → (let l = distanceList e (sites a) (sites b) in
-    WithinLimit (sites a) (sites b) e l
-    (distanceValues (overwritten (map (λ p. p .first) l) first) (overwritten (map (λ p. p .second) l) second) (length l)))
+    → WithinLimit (sites a) (sites b) e (distanceList e (sites a) (sites b)) (written-values a b e first second)
 unfolding distanceList
 distances-within a b e first second =
     let all = allPairs (sites a) (sites b) in
     let test : Entry → Bool = λ p. leb (p .distance) (square e) in
     let distinct = whole-pairs-distinct (sites a) (sites b) in
-    let ascends = pairs-ascend (whole (sites a)) (whole (sites b)) (whole-ascends (sites a)) (whole-ascends (sites b)) in
+    let ascends =
+    pairs-ascend (whole (sites a)) (whole (sites b)) (whole-ascends (sites a)) (whole-ascends (sites b)) in
     record {
       exactly = λ p. (
         λ m. let w = keep-mem test all m in (w .0, leb-true (p .distance) (square e) (w .1)),
@@ -69,7 +72,8 @@ demand2 = record {
       rw (← k-list-values way a b k r v accepted) (ap (λ (x : List Entry). length x) here, closest);
   sweeps = λ way a b k ok.
       let w = both-accepted a b ok in
-      sweep-whole-best way k (sites a) (sites b) [] [] (accepted-order a (w .0)) (accepted-order b (w .1)) (sym (best-nil rankBefore k));
+      let none = sym (best-nil rankBefore k) in
+      sweep-whole-best way k (sites a) (sites b) [] [] (accepted-order a (w .0)) (accepted-order b (w .1)) none;
   distanceLists = λ a b e first second v accepted. (
     distanceList e (sites a) (sites b),
     rw (← distance-values a b e first second v accepted) (distances-within a b e first second),

@@ -12,9 +12,9 @@ use Rattle.order.specs.Lists.{Distinct}
 use Rattle.order.specs.Best.{best}
 use Rattle.order.proofs.Order.{byTest, never-both}
 use Rattle.order.proofs.Lists.{all-nil}
-use Rattle.order.proofs.Best.{length-best, best-nil}
+use Rattle.order.proofs.Best.{best-nil}
 use Rattle.order.proofs.Sorted.{best-of-best}
-use Rattle.site.specs.Answer.{answerUnless, afterwards}
+use Rattle.site.specs.Answer.{answerUnless, afterwards, refuseIf}
 use Rattle.site.specs.SiteList.{Columns, sites}
 use Rattle.site.specs.Refusal.{listsRefusal}
 use Rattle.site.proofs.Answer.{after-refused, orElse-first, orElse-second, no-fault, fault-none}
@@ -32,7 +32,7 @@ use Rattle.campaign.proofs.GridLaws.{InGrid, same-job, jobs-pairs-snoc}
 use Rattle.campaign.proofs.MarkLaws.{none-settled, lawful-zeros, lawful-settled, mark-below, mark-apart, length-settle, settled-same, settled-other}
 use Rattle.demands.specs.Book.{Book, openBook, isDone, bookRefusal, bookEntries}
 use Rattle.demands.specs.History.{own, job, Bench, benchOf, benchAfter, bookAfter}
-use Rattle.demands.proofs.Book.{mem-done, done-mem, done-other, once-more, inside-more}
+use Rattle.demands.proofs.Book.{mem-done, done-mem, done-other, once-more, inside-more, bookPairs, length-book, InBook}
 use Rattle.demands.proofs.Invariant.{Invariant, in-grid, lawful-book, job-refusal}
 
 -- The book with one job more.
@@ -41,19 +41,17 @@ withJob book j = record { k = book .k; ends = book .ends; ends' = book .ends'; d
 
 module _ (a b : Columns) (bench : Bench) (book : Book) (i : Invariant a b bench book) (j : Job) where
   -- The list after the job is the book's with the job.
-  job-entries : jobEntries (bench .campaign) (sites a) (sites b) (entriesOf (bench .campaign .entries) (bench .results)) j
-      ≡ bookEntries (sites a) (sites b) (withJob book j)
+  job-entries : (let old = entriesOf (bench .campaign .entries) (bench .results) in
+      jobEntries (bench .campaign) (sites a) (sites b) old j ≡ bookEntries (sites a) (sites b) (withJob book j))
   unfolding jobEntries bookEntries bestK
   job-entries =
+      let pairs = jobPairs (book .ends) (book .ends') (sites a) (sites b) j in
+      let snoc = jobs-pairs-snoc (book .ends) (book .ends') (sites a) (sites b) (book .done) j in
       rw (i .firsts, i .seconds, i .entries, i .k)
-      (best-of-best rank-order (book .k) (jobsPairs (book .ends) (book .ends') (sites a) (sites b) (book .done)) (jobPairs (book .ends) (book .ends') (sites a) (sites b) j)
-      ∙ ap (best rankBefore (book .k)) (sym (jobs-pairs-snoc (book .ends) (book .ends') (sites a) (sites b) (book .done) j)))
+      (best-of-best rank-order (book .k) (bookPairs (sites a) (sites b) book) pairs
+      ∙ ap (best rankBefore (book .k)) (sym snoc))
 
-  length-entries : length (bookEntries (sites a) (sites b) (withJob book j)) ≤ book .k
-  unfolding bookEntries bestK
-  length-entries = omega (arith, length-best rankBefore (book .k) (jobsPairs (book .ends) (book .ends') (sites a) (sites b) (book .done ++ (j ∷ []))))
-
-  module _ (g : InGrid (length (book .ends)) (length (book .ends')) j) where
+  module _ (g : InBook book j) where
     few : length (book .ends) ≤ 32
     few = lawful-book a b bench book i .cut .few
 
@@ -61,7 +59,7 @@ module _ (a b : Columns) (bench : Bench) (book : Book) (i : Invariant a b bench 
     few' = lawful-book a b bench book i .cut' .few
 
     -- The marks tell the settled jobs and this one.
-    job-settles : (x : Job) → InGrid (length (book .ends)) (length (book .ends')) x
+    job-settles : (x : Job) → InBook book x
         → settled (set (bench .campaign .marks) (markOf j) 1) x ≡ isDone x (book .done ++ (j ∷ []))
     job-settles x h =
         byTest (isDone x (j ∷ []))
@@ -74,7 +72,9 @@ module _ (a b : Columns) (bench : Bench) (book : Book) (i : Invariant a b bench 
         ∙ sym (mem-done j (book .done ++ (j ∷ [])) (Memᴰ·append-right (book .done) (List·Memᴰ·head refl)))))
         (λ f.
         let apart : markOf x ≡ markOf j → ⊥ =
-        λ e. never-both (mem-done x (j ∷ []) (List·Memᴰ·head (same-job x j (mark-apart (length (book .ends)) (length (book .ends')) few' j g x h e)))) f in
+        λ e.
+        let same = same-job x j (mark-apart (length (book .ends)) (length (book .ends')) few' j g x h e) in
+        never-both (mem-done x (j ∷ []) (List·Memᴰ·head same)) f in
         settled-other (bench .campaign .marks) x j apart ∙ i .settles x h ∙ sym (done-other x j (book .done) f))
 
     -- An accepted job.
@@ -83,35 +83,38 @@ module _ (a b : Columns) (bench : Bench) (book : Book) (i : Invariant a b bench 
         Invariant a b (benchOf (afterJob (bench .campaign) (length l) j) (holding l (bench .results))) (withJob book j))
     unfolding afterJob firstEnds secondEnds
     after-accepted new =
+        let rows = length (book .ends) in
+        let cols = length (book .ends') in
         let l = bookEntries (sites a) (sites b) (withJob book j) in
         record {
           lists = i .lists;
           lawful = i .lawful;
           ends = i .ends;
           ends' = i .ends';
-          once = once-more (length (book .ends)) (length (book .ends')) j (book .done) (i .once) new;
-          inside = inside-more (length (book .ends)) (length (book .ends')) j (book .done) g (i .inside);
+          once = once-more rows cols j (book .done) (i .once) new;
+          inside = inside-more rows cols j (book .done) g (i .inside);
           k = i .k;
           rows = i .rows;
           columns = i .columns;
           firsts = i .firsts;
           seconds = i .seconds;
           size = length-settle (bench .campaign .marks) j ∙ i .size;
-          marks = lawful-settled (length (book .ends)) (length (book .ends')) few' j g (bench .campaign .marks) (i .marks);
+          marks = lawful-settled rows cols few' j g (bench .campaign .marks) (i .marks);
           settles = job-settles;
-          room = room-holding (book .k) l (bench .results) (i .room) length-entries;
+          room = room-holding (book .k) l (bench .results) (i .room) (length-book (sites a) (sites b) (withJob book j));
           count = refl;
           entries = entries-holding l (bench .results);
         }
 
 -- What the book does not refuse is a job of the grid that is not settled.
-accepted-job : (book : Book) (j : Job) → bookRefusal book j ≡ 0
-    → InGrid (length (book .ends)) (length (book .ends')) j × (isDone j (book .done) ≡ false)
+accepted-job : (book : Book) (j : Job) → bookRefusal book j ≡ 0 → InBook book j × (isDone j (book .done) ≡ false)
 unfolding bookRefusal
 accepted-job book j h =
-    let below = ltb (j .first) (length (book .ends)) && ltb (j .second) (length (book .ends')) in (
-      in-grid (length (book .ends)) (length (book .ends')) j (fault-none below 7 (orElse-first (cond (not below) 8 0) (cond (isDone j (book .done)) 9 0) h)),
-      no-fault (isDone j (book .done)) 8 (orElse-second (cond (not below) 8 0) (cond (isDone j (book .done)) 9 0) h),
+    let below = ltb (j .first) (length (book .ends)) && ltb (j .second) (length (book .ends')) in
+    let outside = refuseIf (not below) 8 in
+    let again = refuseIf (isDone j (book .done)) 9 in (
+      in-grid (length (book .ends)) (length (book .ends')) j (fault-none below 7 (orElse-first outside again h)),
+      no-fault (isDone j (book .done)) 8 (orElse-second outside again h),
     )
 
 module _ (a b : Columns) (bench : Bench) (book : Book) (i : Invariant a b bench book) where
@@ -130,7 +133,8 @@ module _ (a b : Columns) (bench : Bench) (book : Book) (i : Invariant a b bench 
       rw (job-entries a b bench book i j) (after-accepted a b bench book i j (w .0) (w .1))
   after-number j (suc n) swept looks distances e = rw (ne-eqb (suc n) 0 (λ z. omega arith)) i
 
-  pub after-job : (j : Job) (way : Way) → Invariant a b (benchAfter a b bench (job own j way)) (bookAfter book (job own j way))
+  pub after-job : (j : Job) (way : Way)
+      → Invariant a b (benchAfter a b bench (job own j way)) (bookAfter book (job own j way))
   unfolding benchAfter bookAfter jobAnswer
   after-job j way = rw (job-refusal a b bench book i j) (after-number j (bookRefusal book j) _ _ _ refl)
 
@@ -143,16 +147,18 @@ module _ (a b : Columns) (bench : Bench) (book : Book) (i : Invariant a b bench 
 
 module _ (a b : Columns) (k : ℕ) (ends ends' : List ℕ) (r : Results) (ok : openRefusal a b k ends ends' r ≡ 0) where
   pub after-opening : Invariant a b (benchOf (newCampaign k ends ends') r) (openBook k ends ends')
-  unfolding openRefusal newCampaign firstEnds secondEnds slots bookEntries jobsPairs flatMap bestK Distinct isDone entriesOf
+  unfolding
+      openRefusal newCampaign firstEnds secondEnds slots bookEntries jobsPairs flatMap bestK Distinct isDone entriesOf
   after-opening =
       let first = lawfulEnds (length (a .x)) ends in
       let second = lawfulEnds (length (b .x)) ends' in
       let later = orElse-second (listsRefusal a b) _ ok in
       let lists = orElse-first (listsRefusal a b) _ ok in
-      let kLawful = fault-none (lawfulK k) 3 (orElse-first (cond (not (lawfulK k)) 4 0) _ later) in
-      let later' = orElse-second (cond (not (lawfulK k)) 4 0) _ later in
-      let both = and-eq-true-iff first second .0 (fault-none (first && second) 4 (orElse-first (cond (not (first && second)) 5 0) _ later')) in
-      let room = fault-none (roomFor k r) 5 (orElse-second (cond (not (first && second)) 5 0) _ later') in
+      let kLawful = fault-none (lawfulK k) 3 (orElse-first (refuseIf (not (lawfulK k)) 4) _ later) in
+      let later' = orElse-second (refuseIf (not (lawfulK k)) 4) _ later in
+      let uncut = refuseIf (not (first && second)) 5 in
+      let both = and-eq-true-iff first second .0 (fault-none (first && second) 4 (orElse-first uncut _ later')) in
+      let room = fault-none (roomFor k r) 5 (orElse-second uncut _ later') in
       let accepted = both-accepted a b lists in
       record {
         lists = lists;

@@ -28,7 +28,7 @@ use Rattle.campaign.proofs.CutLaws.{lawful-cut}
 use Rattle.campaign.proofs.GridLaws.{InGrid, jobs-in-grid, jobs-entry, jobs-pairs-perm}
 use Rattle.demands.specs.Book.{Book, isDone, bookRefusal, bookEntries, bookStatus}
 use Rattle.demands.specs.History.{Bench}
-use Rattle.demands.proofs.Book.{LawfulBook, mem-done, done-kept, settled-pairs-distinct}
+use Rattle.demands.proofs.Book.{mem-done, done-kept, bookPairs, InBook, LawfulBook, settled-pairs-distinct}
 
 -- Both strip numbers are below the strip counts.
 pub in-grid : (rows cols : ℕ) (j : Job) → (ltb (j .first) rows && ltb (j .second) cols) ≡ true → InGrid rows cols j
@@ -43,7 +43,7 @@ pub record Invariant (a b : Columns) (bench : Bench) (book : Book) : Type 0 wher
   pub ends : lawfulEnds (length (sites a)) (book .ends) ≡ true
   pub ends' : lawfulEnds (length (sites b)) (book .ends') ≡ true
   pub once : Distinct (book .done)
-  pub inside : All (InGrid (length (book .ends)) (length (book .ends'))) (book .done)
+  pub inside : All (InBook book) (book .done)
   pub k : bench .campaign .k ≡ book .k
   pub rows : bench .campaign .«first_strips» ≡ length (book .ends)
   pub columns : bench .campaign .«second_strips» ≡ length (book .ends')
@@ -53,7 +53,7 @@ pub record Invariant (a b : Columns) (bench : Bench) (book : Book) : Type 0 wher
   pub marks : lawfulMarks (length (book .ends)) (length (book .ends')) 0 (bench .campaign .marks) ≡ true
   pub settles :
       (j : Job)
-      → InGrid (length (book .ends)) (length (book .ends')) j
+      → InBook book j
       → settled (bench .campaign .marks) j ≡ isDone j (book .done)
   pub room : roomFor (book .k) (bench .results) ≡ true
   pub count : bench .campaign .entries ≡ length (bookEntries (sites a) (sites b) book)
@@ -74,29 +74,32 @@ module _ (a b : Columns) (bench : Bench) (book : Book) (i : Invariant a b bench 
   settled-done =
       let rows = length (book .ends) in
       let cols = length (book .ends') in
-      let same : keep (settled (bench .campaign .marks)) (jobs rows cols) ≡ keep (λ j. isDone j (book .done)) (jobs rows cols) =
-      keep-same (settled (bench .campaign .marks)) (λ j. isDone j (book .done)) (jobs rows cols)
+      let done : Job → Bool = λ j. isDone j (book .done) in
+      let same : keep (settled (bench .campaign .marks)) (jobs rows cols) ≡ keep done (jobs rows cols) =
+      keep-same (settled (bench .campaign .marks)) done (jobs rows cols)
       (λ j m. i .settles j (jobs-in-grid rows cols j m)) in
       rw (i .rows, i .columns, same) (done-kept rows cols (book .done) (i .once) (i .inside))
 
   sound-order : ascending rankBefore (entriesOf (bench .campaign .entries) (bench .results)) ≡ true
   unfolding bookEntries bestK
   sound-order =
-      rw (i .entries)
-      (ascends-ascending rank-order _ (ascends-best rank-order (book .k) _ (settled-pairs-distinct (sites a) (sites b) book lawful-book)))
+      let distinct = settled-pairs-distinct (sites a) (sites b) book lawful-book in
+      rw (i .entries) (ascends-ascending rank-order _ (ascends-best rank-order (book .k) _ distinct))
 
   -- An entry is of a settled job.
   sound-entry : (e : Entry) → List·Memᴰ e (entriesOf (bench .campaign .entries) (bench .results))
       → soundEntry (bench .campaign .marks) (book .ends) (book .ends') (sites a) (sites b) e ≡ true
   unfolding soundEntry bookEntries bestK
   sound-entry e m =
-      let pairs = jobsPairs (book .ends) (book .ends') (sites a) (sites b) (book .done) in
+      let pairs = bookPairs (sites a) (sites b) book in
       let n : List·Memᴰ e pairs = mem-best rankBefore (book .k) pairs (rw (i .entries) at m) in
-      let w = jobs-entry (book .ends) (book .ends') (sites a) (sites b) (lawful-book .cut) (lawful-book .cut') (book .done) (i .inside) e n in
+      let cut = lawful-book .cut in
+      let cut' = lawful-book .cut' in
+      let w = jobs-entry (book .ends) (book .ends') (sites a) (sites b) cut cut' (book .done) (i .inside) e n in
       let j = w .0 in
       let o = w .2 in
       let done : settled (bench .campaign .marks) j ≡ true =
-      i .settles j (all-mem (InGrid (length (book .ends)) (length (book .ends'))) (i .inside) (w .1)) ∙ mem-done j (book .done) (w .1) in
+      i .settles j (all-mem (InBook book) (i .inside) (w .1)) ∙ mem-done j (book .done) (w .1) in
       simp (
         lt-ltb (e .first) (length (sites a)) (o .first),
         lt-ltb (e .second) (length (sites b)) (o .second),
@@ -106,12 +109,12 @@ module _ (a b : Columns) (bench : Bench) (book : Book) (i : Invariant a b bench 
       ) done
 
   -- The entries are as many as K or the settled jobs' pair total, the lesser.
-  right-count : bench .campaign .entries
-      ≡ min (book .k) (length (jobsPairs (book .ends) (book .ends') (sites a) (sites b) (settledJobs (bench .campaign))))
+  right-count : (let pairs = jobsPairs (book .ends) (book .ends') (sites a) (sites b) (settledJobs (bench .campaign)) in
+      bench .campaign .entries ≡ min (book .k) (length pairs))
   unfolding bookEntries bestK
   right-count =
       i .count
-      ∙ length-best rankBefore (book .k) (jobsPairs (book .ends) (book .ends') (sites a) (sites b) (book .done))
+      ∙ length-best rankBefore (book .k) (bookPairs (sites a) (sites b) book)
       ∙ ap (min (book .k)) (perm-length (jobs-pairs-perm (book .ends) (book .ends') (sites a) (sites b) settled-done))
 
   pub campaign-sound : sound (bench .campaign) (sites a) (sites b) (bench .results) ≡ true
@@ -152,10 +155,14 @@ module _ (a b : Columns) (bench : Bench) (book : Book) (i : Invariant a b bench 
       or-none (campaignRefusal (bench .campaign) a b (bench .results)) _ campaign-accepted
       ∙ rw (i .rows, i .columns)
       (byTest (ltb (j .first) (length (book .ends)) && ltb (j .second) (length (book .ends')))
-      (λ t. rw t (ap (λ (s : Bool). cond s 9 0) (i .settles j (in-grid (length (book .ends)) (length (book .ends')) j t))))
+      (λ t.
+      let inside = in-grid (length (book .ends)) (length (book .ends')) j t in
+      rw t (ap (λ (s : Bool). cond s 9 0) (i .settles j inside)))
       (λ f. rw f))
 
   -- "and status answers".
-  pub status-answer : statusAnswer (bench .campaign) a b (bench .results) ≡ answered (bookStatus (sites a) (sites b) book)
+  pub status-answer : statusAnswer (bench .campaign) a b (bench .results)
+      ≡ answered (bookStatus (sites a) (sites b) book)
   unfolding statusAnswer bookStatus
-  status-answer = sym (answer-values campaign-accepted) ∙ rw (← perm-length settled-done, i .rows, i .columns, i .count, i .k)
+  status-answer =
+      sym (answer-values campaign-accepted) ∙ rw (← perm-length settled-done, i .rows, i .columns, i .count, i .k)

@@ -42,20 +42,23 @@ module _ (a b : List Site) (k : ℕ) where
   best-distances : sort ltb (map (λ e. e .distance) (kList k a b)) ≡ map (λ e. e .distance) (kList k a b)
   unfolding kList bestK
   best-distances =
-      sort-weights rank-order (λ e. e .distance) rank-grows (best rankBefore k (allPairs a b))
-      ∙ ap (map (λ e. e .distance)) (sort-sorted rank-order (best rankBefore k (allPairs a b)) (sorted-best rank-order k (allPairs a b)))
+      let l = best rankBefore k (allPairs a b) in
+      sort-weights rank-order (λ e. e .distance) rank-grows l
+      ∙ ap (map (λ e. e .distance)) (sort-sorted rank-order l (sorted-best rank-order k (allPairs a b)))
 
   pub k-list-none-better : NoChoiceBetter a b (kList k a b)
   unfolding NoChoiceBetter kList bestK
   k-list-none-better choice d among n i h =
+      let distinct = whole-pairs-distinct a b in
       rw best-distances
-      (no-equal-choice-better rank-order (λ e. e .distance) rank-grows k (allPairs a b) choice (whole-pairs-distinct a b) d among n i h)
+      (no-equal-choice-better rank-order (λ e. e .distance) rank-grows k (allPairs a b) choice distinct d among n i h)
 
-  k-list-before : (e h : Entry) → List·Memᴰ e (allPairs a b) → (List·Memᴰ e (kList k a b) → ⊥) → List·Memᴰ h (kList k a b)
-      → rankBefore h e ≡ true
+  k-list-before : (e h : Entry) → List·Memᴰ e (allPairs a b) → (List·Memᴰ e (kList k a b) → ⊥)
+      → List·Memᴰ h (kList k a b) → rankBefore h e ≡ true
   unfolding kList bestK
   k-list-before e h m out n =
-      all-mem (λ x. rankBefore x e ≡ true) (best-none-better rank-order k (allPairs a b) (whole-pairs-distinct a b) e m out .0) n
+      let all = best-none-better rank-order k (allPairs a b) (whole-pairs-distinct a b) e m out .0 in
+      all-mem (λ x. rankBefore x e ≡ true) all n
 
   pub k-list-closest : KClosest a b k (kList k a b)
   unfolding kList bestK
@@ -70,11 +73,13 @@ module _ (a b : List Site) (k : ℕ) where
   }
 
 -- The written columns begin with the entries' numbers.
-pub written : (l : List Entry) (f : Entry → ℕ) (column : List ℕ) → take (length l) (overwritten (map f l) column) ≡ map f l
+pub written : (l : List Entry) (f : Entry → ℕ) (column : List ℕ)
+    → take (length l) (overwritten (map f l) column) ≡ map f l
 written l f column = rw (← length-map l f) (take-overwritten (map f l) column)
 
 -- The values of an accepted K list.
-pub k-list-values : (way : Way) (a b : Columns) (k : ℕ) (r : Results) (v : KListValues) → kListAnswer way a b k r ≡ answered v
+pub k-list-values : (way : Way) (a b : Columns) (k : ℕ) (r : Results) (v : KListValues)
+    → kListAnswer way a b k r ≡ answered v
     → (let l = kList k (sites a) (sites b) in
     let swept = sweep way k (whole (sites a)) (whole (sites b)) [] in
     kListValues (holding l r) (length l) (swept .looks) (swept .distances) ≡ v)

@@ -19,7 +19,8 @@ use Rattle.campaign.specs.declared.Campaign.{Campaign}
 use Rattle.campaign.specs.Keeper.{campaignRefusal}
 use Rattle.campaign.specs.Calls.{openRefusal, openAnswer, jobRefusal, jobAnswer, statusAnswer}
 use Rattle.demands.specs.Book.{Book, openBook, bookRefusal, bookEntries, bookStatus, noneOpen}
-use Rattle.demands.specs.History.{own, otherLists, otherColumns, Call, job, status, opening, Bench, benchOf, benchAfter, bookAfter}
+use Rattle.demands.specs.History.{own, otherLists, otherColumns, Call, job, status, opening}
+use Rattle.demands.specs.History.{Bench, benchOf, benchAfter, bookAfter}
 
 -- "For every other choice of as many distinct pairs, its i-th smallest distance is no smaller than theirs, for each i":
 -- "any set of that many among all pairs", "the squared distances in ascending order, repeats kept".
