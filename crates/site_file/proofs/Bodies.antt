@@ -34,7 +34,9 @@ unfolding siteBytes bytes4
 site-length s = refl
 
 -- A site that was written is read.
-site-words : (s : Site) (q : List ℕ) → unsigned (s .x) < 4_294_967_296 → unsigned (s .y) < 4_294_967_296 → s .number < 4_294_967_296 → (word (siteBytes s ++ q) 0 ≡ unsigned (s .x)) × (word (siteBytes s ++ q) 4 ≡ unsigned (s .y)) × (word (siteBytes s ++ q) 8 ≡ s .number)
+site-words : (s : Site) (q : List ℕ) → unsigned (s .x) < 4_294_967_296 → unsigned (s .y) < 4_294_967_296
+    → s .number < 4_294_967_296
+    → (word (siteBytes s ++ q) 0 ≡ unsigned (s .x)) × (word (siteBytes s ++ q) 4 ≡ unsigned (s .y)) × (word (siteBytes s ++ q) 8 ≡ s .number)
 unfolding siteBytes bytes4 word
 site-words s q hx hy hn = (digits (unsigned (s .x)) hx, digits (unsigned (s .y)) hy, digits (s .number) hn)
 
@@ -57,7 +59,8 @@ site-read : (p q : List ℕ) (s : Site) (at : ℕ) → length p ≡ at → Fit s
 site-read p q s at e h = rw (← e) (site-past p (siteBytes s ++ q) ∙ site-first q s h)
 
 -- A list that was written is read.
-pub sites-read : (l : List Site) (p q : List ℕ) (at : ℕ) → length p ≡ at → All Fit l → sitesFrom (p ++ (flatMap siteBytes l ++ q)) at (length l) ≡ l
+pub sites-read : (l : List Site) (p q : List ℕ) (at : ℕ) → length p ≡ at → All Fit l
+    → sitesFrom (p ++ (flatMap siteBytes l ++ q)) at (length l) ≡ l
 unfolding sitesFrom flatMap All
 sites-read [] p q at e h = refl
 sites-read (s ∷ l) p q at e h =
@@ -93,7 +96,8 @@ site-back l at h k =
     (sym parts)
 
 -- Bytes that were read as a list are written.
-pub body-back : (l : List ℕ) (at n : ℕ) → Bytes l → at + 12 * n ≤ length l → flatMap siteBytes (sitesFrom l at n) ≡ take (12 * n) (drop at l)
+pub body-back : (l : List ℕ) (at n : ℕ) → Bytes l → at + 12 * n ≤ length l
+    → flatMap siteBytes (sitesFrom l at n) ≡ take (12 * n) (drop at l)
 unfolding flatMap sitesFrom
 body-back l at zero h k = refl
 body-back l at (suc n) h k =
@@ -116,7 +120,8 @@ columns-numbers l at zero h = tt
 columns-numbers l at (suc n) h = (word-fits l (at + 8) h, columns-numbers l (at + 12) n h)
 
 -- The columns of a list of an accepted file are a lawful list.
-pub columns-accepted : (file : List ℕ) → readRefusal file ≡ 0 → (w : Which) → listRefusal (columnsOf (sitesIn file w)) ≡ 0
+pub columns-accepted : (file : List ℕ) → readRefusal file ≡ 0 → (w : Which)
+    → listRefusal (columnsOf (sitesIn file w)) ≡ 0
 columns-accepted file ok w =
     let l = sitesIn file w in
     let few = inside file w (read-laid file ok) .count in

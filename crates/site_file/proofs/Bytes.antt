@@ -20,7 +20,9 @@ use Rattle.column.specs.Column.{stored}
 use Rattle.column.proofs.Stored.{sets-stored}
 
 -- Four bytes stored one by one.
-pub word-stored : (l : List ℕ) (at n a b c d : ℕ) → at + 4 ≤ length l → a ≡ n % 256 → b ≡ n / 256 % 256 → c ≡ n / 65_536 % 256 → d ≡ n / 16_777_216 % 256 → set (set (set (set l at a) (at + 1) b) (at + 2) c) (at + 3) d ≡ stored at (bytes4 n) l
+pub word-stored : (l : List ℕ) (at n a b c d : ℕ) → at + 4 ≤ length l → a ≡ n % 256 → b ≡ n / 256 % 256
+    → c ≡ n / 65_536 % 256 → d ≡ n / 16_777_216 % 256
+    → set (set (set (set l at a) (at + 1) b) (at + 2) c) (at + 3) d ≡ stored at (bytes4 n) l
 unfolding bytes4
 word-stored l at n a b c d h pa pb pc pd =
     rw (add-one, add-two, add-three, pa, pb, pc, pd)
@@ -54,7 +56,8 @@ module _ (n : ℕ) (h : n < 4_294_967_296) where
   pub signed-cast-fits : 2_147_483_648 ≤ n → SFits w32 (toZ w64 (ofZ w64 (toZ w64 n -ℤ pos 4_294_967_296)))
   signed-cast-fits l = rw (signed-cast l) signed-fits
 
-  pub signed-result : 2_147_483_648 ≤ n → toZ w32 (ofZ w32 (toZ w64 (ofZ w64 (toZ w64 n -ℤ pos 4_294_967_296)))) ≡ signed n
+  pub signed-result : 2_147_483_648 ≤ n
+      → toZ w32 (ofZ w32 (toZ w64 (ofZ w64 (toZ w64 n -ℤ pos 4_294_967_296)))) ≡ signed n
   signed-result l = rw (signed-cast l) (toZ-ofZ signed-fits)
 
 -- The machine's steps from a signed number to the unsigned one.
@@ -80,25 +83,31 @@ nonneg-cast : {y : ℤ} (n : ℕ) → n < 4_294_967_296 → y ≡ pos n → T (n
 nonneg-cast n h e = rw e (tt, record { fits = h })
 
 module _ (z : ℤ) (h : SFits w32 z) where
-  pub unsigned-sum : ltZ (toZ w32 (ofZ w32 z)) (pos 0) ≡ true → toZ w64 (ofZ w64 (toZ w32 (ofZ w32 z))) +ℤ pos 4_294_967_296 ≡ pos (unsigned z)
+  pub unsigned-sum : ltZ (toZ w32 (ofZ w32 z)) (pos 0) ≡ true
+      → toZ w64 (ofZ w64 (toZ w32 (ofZ w32 z))) +ℤ pos 4_294_967_296 ≡ pos (unsigned z)
   unsigned-sum t = rw (cast-back h) (unsigned-high z h (rw (toZ-ofZ h) at t))
 
-  pub unsigned-sum-fits : ltZ (toZ w32 (ofZ w32 z)) (pos 0) ≡ true → SFits w64 (toZ w64 (ofZ w64 (toZ w32 (ofZ w32 z))) +ℤ pos 4_294_967_296)
+  pub unsigned-sum-fits : ltZ (toZ w32 (ofZ w32 z)) (pos 0) ≡ true
+      → SFits w64 (toZ w64 (ofZ w64 (toZ w32 (ofZ w32 z))) +ℤ pos 4_294_967_296)
   unsigned-sum-fits t = rw (unsigned-sum t) (record { sfits = omega (arith, unsigned-fits z h) })
 
-  unsigned-sum-back : ltZ (toZ w32 (ofZ w32 z)) (pos 0) ≡ true → toZ w64 (ofZ w64 (toZ w64 (ofZ w64 (toZ w32 (ofZ w32 z))) +ℤ pos 4_294_967_296)) ≡ pos (unsigned z)
+  unsigned-sum-back : ltZ (toZ w32 (ofZ w32 z)) (pos 0) ≡ true
+      → toZ w64 (ofZ w64 (toZ w64 (ofZ w64 (toZ w32 (ofZ w32 z))) +ℤ pos 4_294_967_296)) ≡ pos (unsigned z)
   unsigned-sum-back t = toZ-ofZ (unsigned-sum-fits t) ∙ unsigned-sum t
 
-  pub unsigned-cast : ltZ (toZ w32 (ofZ w32 z)) (pos 0) ≡ true → T (nonNeg (toZ w64 (ofZ w64 (toZ w64 (ofZ w64 (toZ w32 (ofZ w32 z))) +ℤ pos 4_294_967_296)))) × Fits w32 (natAbs (toZ w64 (ofZ w64 (toZ w64 (ofZ w64 (toZ w32 (ofZ w32 z))) +ℤ pos 4_294_967_296))))
+  pub unsigned-cast : ltZ (toZ w32 (ofZ w32 z)) (pos 0) ≡ true
+      → T (nonNeg (toZ w64 (ofZ w64 (toZ w64 (ofZ w64 (toZ w32 (ofZ w32 z))) +ℤ pos 4_294_967_296)))) × Fits w32 (natAbs (toZ w64 (ofZ w64 (toZ w64 (ofZ w64 (toZ w32 (ofZ w32 z))) +ℤ pos 4_294_967_296))))
   unsigned-cast t = nonneg-cast (unsigned z) (unsigned-fits z h) (unsigned-sum-back t)
 
-  pub unsigned-result : ltZ (toZ w32 (ofZ w32 z)) (pos 0) ≡ true → natAbs (toZ w64 (ofZ w64 (toZ w64 (ofZ w64 (toZ w32 (ofZ w32 z))) +ℤ pos 4_294_967_296))) ≡ unsigned z
+  pub unsigned-result : ltZ (toZ w32 (ofZ w32 z)) (pos 0) ≡ true
+      → natAbs (toZ w64 (ofZ w64 (toZ w64 (ofZ w64 (toZ w32 (ofZ w32 z))) +ℤ pos 4_294_967_296))) ≡ unsigned z
   unsigned-result t = ap natAbs (unsigned-sum-back t)
 
   unsigned-same : ltZ (toZ w32 (ofZ w32 z)) (pos 0) ≡ false → toZ w32 (ofZ w32 z) ≡ pos (unsigned z)
   unsigned-same t = rw (toZ-ofZ h) (unsigned-low z (rw (toZ-ofZ h) at t))
 
-  pub unsigned-same-cast : ltZ (toZ w32 (ofZ w32 z)) (pos 0) ≡ false → T (nonNeg (toZ w32 (ofZ w32 z))) × Fits w32 (natAbs (toZ w32 (ofZ w32 z)))
+  pub unsigned-same-cast : ltZ (toZ w32 (ofZ w32 z)) (pos 0) ≡ false
+      → T (nonNeg (toZ w32 (ofZ w32 z))) × Fits w32 (natAbs (toZ w32 (ofZ w32 z)))
   unsigned-same-cast t = nonneg-cast (unsigned z) (unsigned-fits z h) (unsigned-same t)
 
   pub unsigned-same-result : ltZ (toZ w32 (ofZ w32 z)) (pos 0) ≡ false → natAbs (toZ w32 (ofZ w32 z)) ≡ unsigned z

@@ -41,7 +41,12 @@ module _ (file : List ℕ) where
 
   -- What is left to test where the counts are lawful.
   module _ (h : 16 ≤ length file) (k : word file 4 ≤ 65_535) (j : word file 12 ≤ 65_535) where
-    counts-lawful : contentsRefusal file ≡ refuseIf (not (eqb (word file 0) 16 && eqb (word file 8) (16 + 12 * word file 4) && eqb (length file) (16 + 12 * word file 4 + 12 * word file 12))) 10
+    abbrev layout : Bool
+    layout =
+        eqb (word file 0) 16 && eqb (word file 8) (16 + 12 * word file 4)
+        && eqb (length file) (16 + 12 * word file 4 + 12 * word file 12)
+
+    counts-lawful : contentsRefusal file ≡ refuseIf (not layout) 10
     unfolding contentsRefusal orElse startIn countIn
     counts-lawful = rw (le-ltb (length file) 16 h, le-ltb 65_535 (word file 4) k, le-ltb 65_535 (word file 12) j)
 
@@ -52,7 +57,8 @@ module _ (file : List ℕ) where
     second-start-wrong e ne =
         rw (counts-lawful, eq-eqb (word file 0) 16 e, ne-eqb (word file 8) (16 + 12 * word file 4) ne)
 
-    pub length-wrong : word file 0 ≡ 16 → word file 8 ≡ 16 + 12 * word file 4 → (length file ≡ 16 + 12 * word file 4 + 12 * word file 12 → ⊥) → 10 ≡ contentsRefusal file
+    pub length-wrong : word file 0 ≡ 16 → word file 8 ≡ 16 + 12 * word file 4
+        → (length file ≡ 16 + 12 * word file 4 + 12 * word file 12 → ⊥) → 10 ≡ contentsRefusal file
     length-wrong e g ne =
         rw (
           counts-lawful,
@@ -61,7 +67,8 @@ module _ (file : List ℕ) where
           ne-eqb (length file) (16 + 12 * word file 4 + 12 * word file 12) ne,
         )
 
-    pub contents-right : word file 0 ≡ 16 → word file 8 ≡ 16 + 12 * word file 4 → length file ≡ 16 + 12 * word file 4 + 12 * word file 12 → 0 ≡ contentsRefusal file
+    pub contents-right : word file 0 ≡ 16 → word file 8 ≡ 16 + 12 * word file 4
+        → length file ≡ 16 + 12 * word file 4 + 12 * word file 12 → 0 ≡ contentsRefusal file
     contents-right e g l =
         rw (
           counts-lawful,
@@ -83,8 +90,9 @@ pub laid : (file : List ℕ) → contentsRefusal file ≡ 0 → Laid file
 unfolding contentsRefusal startIn countIn
 laid file e =
     let later = orElse-second (refuseIf (ltb (length file) 16) 10) _ e in
-    let few = no-fault _ 0 (orElse-first (refuseIf (ltb 65_535 (word file 4) || ltb 65_535 (word file 12)) 1) _ later) in
-    let right = fault-none _ 9 (orElse-second (refuseIf (ltb 65_535 (word file 4) || ltb 65_535 (word file 12)) 1) _ later) in
+    let many = refuseIf (ltb 65_535 (word file 4) || ltb 65_535 (word file 12)) 1 in
+    let few = no-fault _ 0 (orElse-first many _ later) in
+    let right = fault-none _ 9 (orElse-second many _ later) in
     let second = eqb (word file 8) (16 + 12 * word file 4) in
     let starts = and-first (eqb (word file 0) 16 && second) _ right in
     record {
@@ -125,7 +133,8 @@ module _ (file : List ℕ) {r : ℕ} (p : r ≡ contentsRefusal file) where
     unfolding readRefusal
     read-first h = next-decides p z (first-refused _ first-content h)
 
-    pub read-second : s ≡ 0 → {m k t : ℕ} → k ≡ word file 8 → m ≡ word file 12 → t ≡ contentRefusal (sitesFrom file k m) → t ≡ readRefusal file
+    pub read-second : s ≡ 0 → {m k t : ℕ} → k ≡ word file 8 → m ≡ word file 12 → t ≡ contentRefusal (sitesFrom file k m)
+        → t ≡ readRefusal file
     unfolding readRefusal sitesIn startIn countIn
     read-second h pk pm pt = next-decides p z (next-decides first-content h (rw (← pk, ← pm) pt))
 
@@ -149,7 +158,8 @@ module _ (file : List ℕ) {r : ℕ} (p : r ≡ readRefusal file) where
   unfolding readAnswer
   read-refused h = answer-refused _ p h
 
-  pub read-answered : r ≡ 0 → {a b : ℕ} → a ≡ word file 4 → b ≡ word file 12 → answered (record { first = a; second = b }) ≡ readAnswer file
+  pub read-answered : r ≡ 0 → {a b : ℕ} → a ≡ word file 4 → b ≡ word file 12
+      → answered (record { first = a; second = b }) ≡ readAnswer file
   unfolding readAnswer countIn
   read-answered z pa pb = rw (← pa, ← pb) (answer-values (sym p ∙ z))
 
@@ -166,11 +176,13 @@ inside file First g = record { start = omega arith; count = omega arith; body = 
 inside file Second g = record { start = omega arith; count = omega arith; body = omega arith; small = omega arith }
 
 -- Consulting an accepted file finds the site of its list.
-pub site-found : (file : List ℕ) (w : Which) (place : ℕ) → contentsRefusal file ≡ 0 → place < countIn file w → siteAnswer file w place ≡ answered (siteAt (sitesIn file w) place)
+pub site-found : (file : List ℕ) (w : Which) (place : ℕ) → contentsRefusal file ≡ 0 → place < countIn file w
+    → siteAnswer file w place ≡ answered (siteAt (sitesIn file w) place)
 unfolding siteAnswer siteRefusal answerUnless orElse
 site-found file w place none h = rw (none, lt-leb (countIn file w) place h)
 
 -- That site, by its position.
-pub site-position : (file : List ℕ) (w : Which) (place : ℕ) → place < countIn file w → siteAt (sitesIn file w) place ≡ siteIn file (startIn file w + 12 * place)
+pub site-position : (file : List ℕ) (w : Which) (place : ℕ) → place < countIn file w
+    → siteAt (sitesIn file w) place ≡ siteIn file (startIn file w + 12 * place)
 unfolding sitesIn siteAt
 site-position file w place h = from-at file (startIn file w) (countIn file w) place _ h

@@ -38,30 +38,41 @@ module _ (file : List ℕ) where
 
 -- What the code makes of the bytes at a position.
 module _ (file : List ℕ) (at : ℕ) where
-  pub site-made : {a b n : ℕ} {x y : ℤ} → SFits w32 x → SFits w32 y → a ≡ word file at → x ≡ signed a → b ≡ word file (at + 4) → y ≡ signed b → n ≡ word file (at + 8) → site (toZ w32 (ofZ w32 x)) (toZ w32 (ofZ w32 y)) n ≡ siteIn file at
+  pub site-made : {a b n : ℕ} {x y : ℤ} → SFits w32 x → SFits w32 y → a ≡ word file at → x ≡ signed a
+      → b ≡ word file (at + 4) → y ≡ signed b → n ≡ word file (at + 8)
+      → site (toZ w32 (ofZ w32 x)) (toZ w32 (ofZ w32 y)) n ≡ siteIn file at
   unfolding siteIn
   site-made hx hy pa px pb py pn = rw (toZ-ofZ hx, toZ-ofZ hy, px, py, pa, pb, pn)
 
   -- What the limits and the order say of sites that were read.
-  pub lawful-made : {s : Site} {p q : Bool} → s ≡ siteIn file at → SFits w32 (s .x) → p ≡ within (toZ w32 (ofZ w32 (s .x))) → p ≡ true → SFits w32 (s .y) → q ≡ within (toZ w32 (ofZ w32 (s .y))) → q ≡ lawfulSite (siteIn file at)
+  pub lawful-made : {s : Site} {p q : Bool} → s ≡ siteIn file at → SFits w32 (s .x)
+      → p ≡ within (toZ w32 (ofZ w32 (s .x))) → p ≡ true → SFits w32 (s .y) → q ≡ within (toZ w32 (ofZ w32 (s .y)))
+      → q ≡ lawfulSite (siteIn file at)
   unfolding lawfulSite all
   lawful-made e hx px t hy py =
       rw (← e, ← (px ∙ ap within (toZ-ofZ hx)), t, ← (py ∙ ap within (toZ-ofZ hy))) (sym (and-true _))
 
-  pub lawful-not : {s : Site} {p : Bool} → s ≡ siteIn file at → SFits w32 (s .x) → p ≡ within (toZ w32 (ofZ w32 (s .x))) → p ≡ false → false ≡ lawfulSite (siteIn file at)
+  pub lawful-not : {s : Site} {p : Bool} → s ≡ siteIn file at → SFits w32 (s .x) → p ≡ within (toZ w32 (ofZ w32 (s .x)))
+      → p ≡ false → false ≡ lawfulSite (siteIn file at)
   unfolding lawfulSite all
   lawful-not e hx px t = rw (← e, ← (px ∙ ap within (toZ-ofZ hx)), t)
 
-  pub ordered-made : {s t : Site} {r : Bool} → s ≡ siteIn file at → t ≡ siteIn file (at + 12) → SFits w32 (s .x) → SFits w32 (s .y) → SFits w32 (t .x) → SFits w32 (t .y) → r ≡ siteBefore (site (toZ w32 (ofZ w32 (s .x))) (toZ w32 (ofZ w32 (s .y))) (s .number)) (site (toZ w32 (ofZ w32 (t .x))) (toZ w32 (ofZ w32 (t .y))) (t .number)) → r ≡ siteBefore (siteIn file at) (siteIn file (at + 12))
+  pub ordered-made : {s t : Site} {r : Bool} → s ≡ siteIn file at → t ≡ siteIn file (at + 12) → SFits w32 (s .x)
+      → SFits w32 (s .y) → SFits w32 (t .x) → SFits w32 (t .y)
+      → r ≡ siteBefore (site (toZ w32 (ofZ w32 (s .x))) (toZ w32 (ofZ w32 (s .y))) (s .number))
+      (site (toZ w32 (ofZ w32 (t .x))) (toZ w32 (ofZ w32 (t .y))) (t .number))
+      → r ≡ siteBefore (siteIn file at) (siteIn file (at + 12))
   ordered-made e f hx hy kx ky p = rw (← e, ← f) (rw (toZ-ofZ hx, toZ-ofZ hy, toZ-ofZ kx, toZ-ofZ ky) at p)
 
   -- One site of a run that is tested against the limits.
-  pub lawful-step : (left : ℕ) → 0 < left → lawfulSite (siteIn file at) ≡ true → all lawfulSite (sitesFrom file (at + 12) (left - 1)) ≡ all lawfulSite (sitesFrom file at left)
+  pub lawful-step : (left : ℕ) → 0 < left → lawfulSite (siteIn file at) ≡ true
+      → all lawfulSite (sitesFrom file (at + 12) (left - 1)) ≡ all lawfulSite (sitesFrom file at left)
   unfolding all sitesFrom
   lawful-step zero h t = absurd (omega arith)
   lawful-step (suc n) h t = let e : suc n - 1 ≡ n = omega arith in rw (t, e)
 
-  pub lawful-stop : (left : ℕ) → 0 < left → lawfulSite (siteIn file at) ≡ false → false ≡ all lawfulSite (sitesFrom file at left)
+  pub lawful-stop : (left : ℕ) → 0 < left → lawfulSite (siteIn file at) ≡ false
+      → false ≡ all lawfulSite (sitesFrom file at left)
   unfolding all sitesFrom
   lawful-stop zero h t = absurd (omega arith)
   lawful-stop (suc n) h t = rw t
@@ -72,13 +83,15 @@ module _ (file : List ℕ) (at : ℕ) where
   lawful-end (suc n) h = absurd (omega arith)
 
   -- One site of a run that is tested for its order.
-  pub ascending-step : (left : ℕ) → 1 < left → siteBefore (siteIn file at) (siteIn file (at + 12)) ≡ true → ascending siteBefore (sitesFrom file (at + 12) (left - 1)) ≡ ascending siteBefore (sitesFrom file at left)
+  pub ascending-step : (left : ℕ) → 1 < left → siteBefore (siteIn file at) (siteIn file (at + 12)) ≡ true
+      → ascending siteBefore (sitesFrom file (at + 12) (left - 1)) ≡ ascending siteBefore (sitesFrom file at left)
   unfolding ascending sitesFrom
   ascending-step zero h t = absurd (omega arith)
   ascending-step (suc zero) h t = absurd (omega arith)
   ascending-step (suc (suc n)) h t = let e : suc (suc n) - 1 ≡ suc n = omega arith in rw (t, e)
 
-  pub ascending-stop : (left : ℕ) → 1 < left → siteBefore (siteIn file at) (siteIn file (at + 12)) ≡ false → false ≡ ascending siteBefore (sitesFrom file at left)
+  pub ascending-stop : (left : ℕ) → 1 < left → siteBefore (siteIn file at) (siteIn file (at + 12)) ≡ false
+      → false ≡ ascending siteBefore (sitesFrom file at left)
   unfolding ascending sitesFrom
   ascending-stop zero h t = absurd (omega arith)
   ascending-stop (suc zero) h t = absurd (omega arith)
@@ -109,7 +122,9 @@ unfolding sitesIn
 list-length file w = from-length file (startIn file w) (countIn file w)
 
 -- Three words stored in a row are a site.
-pub site-stored : (l : List ℕ) (at n : ℕ) (x y : ℤ) {p q r : List ℕ} {a b : ℕ} → at + 12 ≤ length l → SFits w32 x → SFits w32 y → a ≡ unsigned (toZ w32 (ofZ w32 x)) → p ≡ stored at (bytes4 a) l → b ≡ unsigned (toZ w32 (ofZ w32 y)) → q ≡ stored (at + 4) (bytes4 b) p → r ≡ stored (at + 8) (bytes4 n) q → r ≡ stored at (siteBytes (site x y n)) l
+pub site-stored : (l : List ℕ) (at n : ℕ) (x y : ℤ) {p q r : List ℕ} {a b : ℕ} → at + 12 ≤ length l → SFits w32 x
+    → SFits w32 y → a ≡ unsigned (toZ w32 (ofZ w32 x)) → p ≡ stored at (bytes4 a) l → b ≡ unsigned (toZ w32 (ofZ w32 y))
+    → q ≡ stored (at + 4) (bytes4 b) p → r ≡ stored (at + 8) (bytes4 n) q → r ≡ stored at (siteBytes (site x y n)) l
 unfolding siteBytes bytes4
 site-stored l at n x y h hx hy pa e pb f g =
     let u : ℕ = unsigned x in
@@ -121,11 +136,18 @@ site-stored l at n x y h hx hy pa e pb f g =
 
 -- One site stored, and then the rest of the list.
 module _ (c : Columns) (level : Level c) where
-  pub sites-step : (l : List ℕ) (at i : ℕ) {m : List ℕ} → at + 12 ≤ length l → i < length (c .x) → SFits w32 (getD (c .x) i (pos 0)) → SFits w32 (getD (c .y) i (pos 0)) → m ≡ stored at (siteBytes (site (toZ w32 (ofZ w32 (getD (c .x) i (pos 0)))) (toZ w32 (ofZ w32 (getD (c .y) i (pos 0)))) (getD (c .number) i 0))) l → stored (at + 12) (flatMap siteBytes (drop (i + 1) (sites c))) m ≡ stored at (flatMap siteBytes (drop i (sites c))) l
+  pub sites-step : (l : List ℕ) (at i : ℕ) {m : List ℕ} → at + 12 ≤ length l → i < length (c .x)
+      → SFits w32 (getD (c .x) i (pos 0)) → SFits w32 (getD (c .y) i (pos 0))
+      → m ≡ stored at
+      (siteBytes
+      (site (toZ w32 (ofZ w32 (getD (c .x) i (pos 0)))) (toZ w32 (ofZ w32 (getD (c .y) i (pos 0)))) (getD (c .number) i 0)))
+      l
+      → stored (at + 12) (flatMap siteBytes (drop (i + 1) (sites c))) m ≡ stored at (flatMap siteBytes (drop i (sites c))) l
   unfolding flatMap siteBytes bytes4
   sites-step l at i h lt hx hy e =
       let left = drop-cons (sites c) i nowhere (omega (arith, sites-length c level)) in
-      rw (e, toZ-ofZ hx, toZ-ofZ hy, left, sites-at c level i nowhere lt, add-one) (stored-after at (at + 12) _ _ l refl h)
+      rw (e, toZ-ofZ hx, toZ-ofZ hy, left, sites-at c level i nowhere lt, add-one)
+      (stored-after at (at + 12) _ _ l refl h)
 
   pub sites-end : (l : List ℕ) (at i : ℕ) → length (c .x) ≤ i → l ≡ stored at (flatMap siteBytes (drop i (sites c))) l
   unfolding flatMap

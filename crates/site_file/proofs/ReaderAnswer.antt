@@ -2,7 +2,9 @@
 use mathlib.Core.Path.{_≡_, refl, sym, ap, _∙_}
 use mathlib.Core.List.{List}
 use Prim.Native.Nat.{ℕ, zero, suc, _+_, _*_, _≤_, _<_}
+use native.Mathlib.Omega.{arith}
 use borrow.Author.Tests.{le-leb, lt-leb, leb-false, eq-eqb, ne-eqb}
+use lib.ListN.{length}
 use Rattle.site.specs.declared.Site.{Site}
 use Rattle.site.specs.Answer.{refused, answered, answerUnless, orElse}
 use Rattle.site.proofs.Answer.{answer-refused, first-refused, orElse-second, no-fault}
@@ -14,7 +16,7 @@ use Rattle.site_file.specs.Bytes.{word}
 use Rattle.site_file.specs.File.{startIn, countIn, siteIn}
 use Rattle.site_file.specs.Calls.{contentsRefusal, siteRefusal, siteAnswer}
 use Rattle.site_file.specs.ReaderAnswer.{heldStart, ownStarts, readerRefusal, readerAnswer}
-use Rattle.site_file.proofs.Contents.{site-position}
+use Rattle.site_file.proofs.Contents.{laid, inside, site-position}
 
 pub held-first : (first second : ℕ) {r : ℕ} {w : Which} → w ≡ First → r ≡ first → r ≡ heldStart first second w
 unfolding heldStart
@@ -25,7 +27,8 @@ unfolding heldStart
 held-second first second e p = rw e p
 
 -- Held starts that are the file's.
-pub held-start : (file : List ℕ) (w : Which) {a b first second : ℕ} → a ≡ word file 0 → a ≡ first → b ≡ word file 8 → b ≡ second → heldStart first second w ≡ startIn file w
+pub held-start : (file : List ℕ) (w : Which) {a b first second : ℕ} → a ≡ word file 0 → a ≡ first → b ≡ word file 8
+    → b ≡ second → heldStart first second w ≡ startIn file w
 unfolding heldStart startIn
 held-start file First p e q f = sym e ∙ p
 held-start file Second p e q f = sym f ∙ q
@@ -50,7 +53,8 @@ module _ (file : List ℕ) (first second : ℕ) (w : Which) (place : ℕ) {r : �
         unfolding readerAnswer readerRefusal ownStarts startIn answerUnless orElse
         held-past h = rw (← p, z, ← pa, eq-eqb a first e, ← pb, eq-eqb b second f, ← pn, le-leb n place h)
 
-        pub held-found : place < n → {k : ℕ} {s : Site} → k ≡ heldStart first second w → s ≡ siteIn file (k + 12 * place) → answered s ≡ readerAnswer file first second w place
+        pub held-found : place < n → {k : ℕ} {s : Site} → k ≡ heldStart first second w
+            → s ≡ siteIn file (k + 12 * place) → answered s ≡ readerAnswer file first second w place
         unfolding readerAnswer readerRefusal ownStarts startIn answerUnless orElse
         held-found h pk ps =
             rw (
@@ -65,6 +69,12 @@ module _ (file : List ℕ) (first second : ℕ) (w : Which) (place : ℕ) {r : �
               ← pk,
               ← ps,
             )
+
+        pub held-reach : place < n → {k : ℕ} → k ≡ heldStart first second w
+            → (k + 12 * place + 12 ≤ length file) × (length file ≤ 1_572_856)
+        held-reach h pk =
+            let g = inside file w (laid file (sym p ∙ z)) in
+            let start = held-start file w pa e pb f in (omega arith, g .small)
 
 -- Through its own starts a file is consulted as by itself.
 own-start : (file : List ℕ) (w : Which) → heldStart (startIn file First) (startIn file Second) w ≡ startIn file w
@@ -82,7 +92,8 @@ place-inside : (file : List ℕ) (w : Which) (place : ℕ) → siteRefusal file 
 unfolding siteRefusal
 place-inside file w place none = leb-false _ _ (no-fault _ 7 (orElse-second (contentsRefusal file) _ none))
 
-pub held-own : (file : List ℕ) (w : Which) (place : ℕ) → readerAnswer file (startIn file First) (startIn file Second) w place ≡ siteAnswer file w place
+pub held-own : (file : List ℕ) (w : Which) (place : ℕ)
+    → readerAnswer file (startIn file First) (startIn file Second) w place ≡ siteAnswer file w place
 unfolding readerAnswer readerRefusal siteAnswer siteRefusal ownStarts orElse
 held-own file w place =
     rw (
@@ -93,5 +104,7 @@ held-own file w place =
     (same-answer (siteRefusal file w place) (λ none. sym (site-position file w place (place-inside file w place none))))
 
 -- A reader that holds a file and its own starts.
-pub held-by : (r : Reader) (s : RefT (List ℕ)) (w : Which) (place : ℕ) → r .file ≡ s → r .first ≡ startIn (now s) First → r .second ≡ startIn (now s) Second → readerAnswer (now (r .file)) (r .first) (r .second) w place ≡ siteAnswer (now s) w place
+pub held-by : (r : Reader) (s : RefT (List ℕ)) (w : Which) (place : ℕ) → r .file ≡ s → r .first ≡ startIn (now s) First
+    → r .second ≡ startIn (now s) Second
+    → readerAnswer (now (r .file)) (r .first) (r .second) w place ≡ siteAnswer (now s) w place
 held-by r s w place e f g = rw (e, f, g) (held-own (now s) w place)

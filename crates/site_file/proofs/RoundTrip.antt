@@ -3,14 +3,14 @@ use mathlib.Core.Path.{_≡_, refl, sym, ap, _∙_}
 use mathlib.Core.List.{List, [], _++_, flatMap, append-assoc, append-nil}
 use Prim.Native.Nat.{ℕ, _+_, _*_, _≤_, _<_}
 use native.Mathlib.Omega.{arith}
-use lib.ListN.{length, take, drop, length-append, length-drop, take-append-drop}
+use lib.ListN.{length, take, drop, length-drop, take-append-drop}
 use lib.Seq.{take-add, take-all, take-at, drop-drop}
 use Rattle.order.specs.Lists.{All}
 use Rattle.column.specs.Column.{overwritten}
 use Rattle.site.specs.declared.Site.{Site}
 use Rattle.site.specs.Answer.{answered, orElse}
 use Rattle.site.specs.SiteList.{Columns, sites, siteAt, columnsOf}
-use Rattle.site.specs.Refusal.{contentRefusal, listRefusal, listsRefusal}
+use Rattle.site.specs.Refusal.{contentRefusal, listsRefusal}
 use Rattle.site.proofs.Answer.{answer-values, answered-values, or-none}
 use Rattle.site.proofs.Columns.{columns-sites, columns-length}
 use Rattle.site.proofs.Accepted.{accepted-length, accepted-content}
@@ -23,11 +23,12 @@ use Rattle.site_file.specs.RoundTrip.{EveryOutputAccepted, EveryAccepted
 use Rattle.site_file.proofs.Words.{Bytes, digits, bytes-back}
 use Rattle.site_file.proofs.File.{from-length, list-length}
 use Rattle.site_file.proofs.Contents.{Laid, contents-right, read-laid, read-answered, site-found}
-use Rattle.site_file.proofs.WriteAnswer.{Ready, ready, contents-length, body-end, file-length, write-ready}
+use Rattle.site_file.proofs.WriteAnswer.{ready, contents-length, body-end, file-length, write-ready}
 use Rattle.site_file.proofs.Bodies.{Fit, sites-read, body-back, sites-fit, columns-numbers, columns-accepted}
 
 -- The four words of a file's contents.
-contents-words : (n m : ℕ) → n ≤ 65_535 → m ≤ 65_535 → (r : List ℕ) → (word (contentsBytes n m ++ r) 0 ≡ 16) × (word (contentsBytes n m ++ r) 4 ≡ n) × (word (contentsBytes n m ++ r) 8 ≡ 16 + 12 * n) × (word (contentsBytes n m ++ r) 12 ≡ m)
+contents-words : (n m : ℕ) → n ≤ 65_535 → m ≤ 65_535 → (r : List ℕ)
+    → (word (contentsBytes n m ++ r) 0 ≡ 16) × (word (contentsBytes n m ++ r) 4 ≡ n) × (word (contentsBytes n m ++ r) 8 ≡ 16 + 12 * n) × (word (contentsBytes n m ++ r) 12 ≡ m)
 unfolding contentsBytes bytes4 word
 contents-words n m hn hm r =
     (refl, digits n (omega arith), digits (16 + 12 * n) (omega arith), digits m (omega arith))
@@ -44,7 +45,8 @@ module _ (a b : List Site) (hn : length a ≤ 65_535) (hm : length b ≤ 65_535)
       let w = file-words in
       contents-right (fileBytes a b) (omega arith) (omega arith) (omega arith) (w .0) (omega arith) (omega arith)
 
-  file-bodies : All Fit a → All Fit b → (sitesFrom (fileBytes a b) 16 (length a) ≡ a) × (sitesFrom (fileBytes a b) (16 + 12 * length a) (length b) ≡ b)
+  file-bodies : All Fit a → All Fit b
+      → (sitesFrom (fileBytes a b) 16 (length a) ≡ a) × (sitesFrom (fileBytes a b) (16 + 12 * length a) (length b) ≡ b)
   unfolding fileBytes
   file-bodies h k =
       let c : List ℕ = contentsBytes (length a) (length b) in
@@ -68,7 +70,8 @@ module _ (a b : List Site) (hn : length a ≤ 65_535) (hm : length b ≤ 65_535)
     file-accepted ha hb = rw (← file-contents, file-first, file-second, ha, hb)
 
 -- The writer's output is the bytes of the two lists.
-output-bytes : (a b : Columns) (buffer : List ℕ) (v : WriteValues) → writeAnswer a b buffer ≡ answered v → (writeRefusal a b (length buffer) ≡ 0) × (take (v .length) (v .buffer) ≡ fileBytes (sites a) (sites b))
+output-bytes : (a b : Columns) (buffer : List ℕ) (v : WriteValues) → writeAnswer a b buffer ≡ answered v
+    → (writeRefusal a b (length buffer) ≡ 0) × (take (v .length) (v .buffer) ≡ fileBytes (sites a) (sites b))
 unfolding writeAnswer overwritten
 output-bytes a b buffer v h =
     let told = answered-values (writeRefusal a b (length buffer)) _ v h in
@@ -76,7 +79,9 @@ output-bytes a b buffer v h =
     (told .0, rw (← told .1) (take-at file (drop (length file) buffer) _ refl))
 
 -- A site of the file, by place.
-yields-site : (file : List ℕ) (w : Which) (c : Columns) (place : ℕ) → 0 ≡ contentsRefusal file → sitesIn file w ≡ sites c → countIn file w ≡ length (c .x) → place < length (c .x) → siteAnswer file w place ≡ answered (siteAt (sites c) place)
+yields-site : (file : List ℕ) (w : Which) (c : Columns) (place : ℕ) → 0 ≡ contentsRefusal file
+    → sitesIn file w ≡ sites c → countIn file w ≡ length (c .x) → place < length (c .x)
+    → siteAnswer file w place ≡ answered (siteAt (sites c) place)
 yields-site file w c place ok same count h =
     site-found file w place (sym ok) (omega arith) ∙ ap (λ (l : List Site). answered (siteAt l place)) same
 
@@ -109,7 +114,8 @@ every-output-accepted a b buffer v ha hb h =
     })
 
 -- The contents of an accepted file, written again.
-contents-back : (file : List ℕ) → Bytes file → 16 ≤ length file → bytes4 (word file 0) ++ (bytes4 (word file 4) ++ (bytes4 (word file 8) ++ bytes4 (word file 12))) ≡ take 16 file
+contents-back : (file : List ℕ) → Bytes file → 16 ≤ length file
+    → bytes4 (word file 0) ++ (bytes4 (word file 4) ++ (bytes4 (word file 8) ++ bytes4 (word file 12))) ≡ take 16 file
 contents-back file h k =
     let parts : take 16 file ≡ take 4 file ++ (take 4 (drop 4 file) ++ (take 4 (drop 8 file) ++ take 4 (drop 12 file))) =
     take-add 4 12 file
@@ -159,5 +165,6 @@ every-accepted-is-output file h ok =
       columns-numbers file (startIn file Second) (word file 12) h,
       λ buffer room.
           let none = write-ready a b (length buffer) refl lists (omega (arith, g .size)) in
-          sym (answer-values (sym none)) ∙ ap (λ (l : List ℕ). answered (writeValues (overwritten l buffer) (length l))) bytes,
+          sym (answer-values (sym none)) ∙ ap
+          (λ (l : List ℕ). answered (writeValues (overwritten l buffer) (length l))) bytes,
     )

@@ -32,7 +32,8 @@ second-byte n = sym (div-div-eq-div-mul n 256 256)
 third-byte : (n : ℕ) → n / 16_777_216 ≡ n / 256 / 256 / 256
 third-byte n = sym (div-div-eq-div-mul n 65_536 256) ∙ ap (λ (k : ℕ). k / 256) (second-byte n)
 
-pub digits : (n : ℕ) → n < 4_294_967_296 → n % 256 + 256 * (n / 256 % 256) + 65_536 * (n / 65_536 % 256) + 16_777_216 * (n / 16_777_216 % 256) ≡ n
+pub digits : (n : ℕ) → n < 4_294_967_296
+    → n % 256 + 256 * (n / 256 % 256) + 65_536 * (n / 65_536 % 256) + 16_777_216 * (n / 16_777_216 % 256) ≡ n
 digits n h =
     let small : n / 256 / 256 / 256 < 256 = omega arith in
     rw (second-byte, third-byte, mod-eq-of-lt small) (omega arith)
@@ -133,7 +134,8 @@ word-drop l at = rw (getD-drop at l 0 0, getD-drop at l 1 0, getD-drop at l 2 0,
 pub rest-of : {A : Type 0} (l : List A) (at : ℕ) → take (length l - at) (drop at l) ≡ drop at l
 rest-of l at = take-all (length l - at) (drop at l) (omega (arith, length-drop at l))
 
-word-first-of : (l : List ℕ) {a b c d r : ℕ} → r ≡ a + 256 * b + 65_536 * c + 16_777_216 * d → a ≡ getD l 0 0 → b ≡ getD l 1 0 → c ≡ getD l 2 0 → d ≡ getD l 3 0 → r ≡ word l 0
+word-first-of : (l : List ℕ) {a b c d r : ℕ} → r ≡ a + 256 * b + 65_536 * c + 16_777_216 * d → a ≡ getD l 0 0
+    → b ≡ getD l 1 0 → c ≡ getD l 2 0 → d ≡ getD l 3 0 → r ≡ word l 0
 unfolding word
 word-first-of l p pa pb pc pd = omega arith
 
@@ -142,7 +144,8 @@ module _ (l : List ℕ) (at : ℕ) where
   abbrev rest : List ℕ
   rest = take (length l - at) (drop at l)
 
-  pub word-made : {a b c d r : ℕ} → r ≡ a + 256 * b + 65_536 * c + 16_777_216 * d → a ≡ getD rest 0 0 → b ≡ getD rest 1 0 → c ≡ getD rest 2 0 → d ≡ getD rest 3 0 → r ≡ word l at
+  pub word-made : {a b c d r : ℕ} → r ≡ a + 256 * b + 65_536 * c + 16_777_216 * d → a ≡ getD rest 0 0
+      → b ≡ getD rest 1 0 → c ≡ getD rest 2 0 → d ≡ getD rest 3 0 → r ≡ word l at
   word-made p pa pb pc pd =
       word-first-of rest p pa pb pc pd ∙ ap (λ (m : List ℕ). word m 0) (rest-of l at) ∙ sym (word-drop l at)
 

@@ -25,7 +25,9 @@ body-length [] = refl
 body-length (s ∷ l) = omega (arith, body-length l)
 
 -- Four words stored in a row are a file's contents.
-pub contents-stored : (l : List ℕ) (n m : ℕ) {p q r s : List ℕ} → 16 ≤ length l → p ≡ stored 0 (bytes4 16) l → q ≡ stored 4 (bytes4 n) p → r ≡ stored 8 (bytes4 (16 + 12 * n)) q → s ≡ stored 12 (bytes4 m) r → s ≡ stored 0 (contentsBytes n m) l
+pub contents-stored : (l : List ℕ) (n m : ℕ) {p q r s : List ℕ} → 16 ≤ length l → p ≡ stored 0 (bytes4 16) l
+    → q ≡ stored 4 (bytes4 n) p → r ≡ stored 8 (bytes4 (16 + 12 * n)) q → s ≡ stored 12 (bytes4 m) r
+    → s ≡ stored 0 (contentsBytes n m) l
 unfolding contentsBytes bytes4
 contents-stored l n m h e f g k =
     let w : List ℕ = bytes4 16 ++ bytes4 n in
@@ -58,7 +60,10 @@ module _ (a b : List Site) where
       (arith, length-append c (flatMap siteBytes a ++ flatMap siteBytes b), length-append (flatMap siteBytes a) (flatMap siteBytes b), contents-length (length a) (length b), body-length a, body-length b)
 
   -- Contents and two bodies stored one after another are a file.
-  file-stored : (l : List ℕ) → 16 + 12 * length a + 12 * length b ≤ length l → stored (16 + 12 * length a) (flatMap siteBytes b) (stored 16 (flatMap siteBytes a) (stored 0 (contentsBytes (length a) (length b)) l)) ≡ overwritten (fileBytes a b) l
+  file-stored : (l : List ℕ) → 16 + 12 * length a + 12 * length b ≤ length l
+      → stored (16 + 12 * length a) (flatMap siteBytes b)
+      (stored 16 (flatMap siteBytes a) (stored 0 (contentsBytes (length a) (length b)) l))
+      ≡ overwritten (fileBytes a b) l
   unfolding fileBytes
   file-stored l h =
       let c : List ℕ = contentsBytes (length a) (length b) in
@@ -71,7 +76,8 @@ module _ (a b : List Site) where
       ∙ ap (λ (v : List ℕ). overwritten v l) (append-assoc c first (flatMap siteBytes b)))
 
 -- The length of the file of two accepted lists.
-pub lists-length : (a b : Columns) → listsRefusal a b ≡ 0 → length (fileBytes (sites a) (sites b)) ≡ 16 + 12 * length (a .x) + 12 * length (b .x)
+pub lists-length : (a b : Columns) → listsRefusal a b ≡ 0
+    → length (fileBytes (sites a) (sites b)) ≡ 16 + 12 * length (a .x) + 12 * length (b .x)
 lists-length a b h =
     let lists = both-accepted a b h in
     omega (arith, file-length (sites a) (sites b), accepted-length a (lists .0), accepted-length b (lists .1))
@@ -122,12 +128,16 @@ ready a b room h =
 
 -- The answers of writing, and what the buffer then holds.
 module _ (a b : Columns) (buffer : List ℕ) {r : ℕ} (p : r ≡ writeRefusal a b (length buffer)) where
-  pub write-refused : (r ≡ 0 → ⊥) → (refused r ≡ writeAnswer a b buffer) × (buffer ≡ afterwards (λ v. v .buffer) (writeAnswer a b buffer) buffer)
+  pub write-refused : (r ≡ 0 → ⊥)
+      → (refused r ≡ writeAnswer a b buffer) × (buffer ≡ afterwards (λ v. v .buffer) (writeAnswer a b buffer) buffer)
   unfolding writeAnswer
   write-refused h = (answer-refused _ p h, after-refused _ _ _ p h)
 
   -- The parts of a file were stored one after another.
-  module _ (z : r ≡ 0) {q s t : List ℕ} (e : q ≡ stored 0 (contentsBytes (length (a .x)) (length (b .x))) buffer) (f : s ≡ stored 16 (flatMap siteBytes (sites a)) q) (g : t ≡ stored (16 + 12 * length (a .x)) (flatMap siteBytes (sites b)) s) where
+  module _ (z : r ≡ 0) {q s t : List ℕ}
+      (e : q ≡ stored 0 (contentsBytes (length (a .x)) (length (b .x))) buffer)
+      (f : s ≡ stored 16 (flatMap siteBytes (sites a)) q)
+      (g : t ≡ stored (16 + 12 * length (a .x)) (flatMap siteBytes (sites b)) s) where
     stored-file : t ≡ overwritten (fileBytes (sites a) (sites b)) buffer
     stored-file =
         let k = ready a b (length buffer) (sym p ∙ z) in
@@ -135,7 +145,9 @@ module _ (a b : Columns) (buffer : List ℕ) {r : ℕ} (p : r ≡ writeRefusal a
         let nb : length (sites b) ≡ length (b .x) = accepted-length b (k .second) in
         rw (g, f, e, ← na, ← nb) (file-stored (sites a) (sites b) buffer (omega arith))
 
-    pub write-answered : (answered (writeValues t (16 + 12 * length (a .x) + 12 * length (b .x))) ≡ writeAnswer a b buffer) × (t ≡ afterwards (λ v. v .buffer) (writeAnswer a b buffer) buffer)
+    pub write-answered :
+        (answered (writeValues t (16 + 12 * length (a .x) + 12 * length (b .x))) ≡ writeAnswer a b buffer)
+        × (t ≡ afterwards (λ v. v .buffer) (writeAnswer a b buffer) buffer)
     unfolding writeAnswer
     write-answered =
         let size = ready a b (length buffer) (sym p ∙ z) .size in

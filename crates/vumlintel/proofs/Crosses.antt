@@ -19,7 +19,8 @@ module _ {A : Type 0} {answer : Answer A} where
   unfolding numberOf afterwards
   crossed-values told stand = rw (← told) (record { number = refl; values = stand })
 
-  pub crossed-refusal : {n : ℕ} {places : Held A} → refused n ≡ answer → places .exit ≡ places .entry → Crosses answer n places
+  pub crossed-refusal : {n : ℕ} {places : Held A}
+      → refused n ≡ answer → places .exit ≡ places .entry → Crosses answer n places
   unfolding numberOf afterwards
   crossed-refusal told stay = rw (← told) (record { number = refl; values = stay })
 

@@ -1,4 +1,4 @@
--- `site_file::held_start` meets its contract.
+-- `held_start` meets its contract.
 use mathlib.Core.Path.{refl}
 use Rattle.site_file.proofs.ReaderAnswer.{held-first, held-second}
 use borrow.Author.Needs.{needs}

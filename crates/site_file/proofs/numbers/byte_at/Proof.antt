@@ -1,4 +1,4 @@
--- `site_file::byte_at` meets its contract.
+-- `byte_at` meets its contract.
 use mathlib.Core.Path.{sym}
 use lib.ListN.{List·getD-eq-default}
 use borrow.Author.Needs.{needs}

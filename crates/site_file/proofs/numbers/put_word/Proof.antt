@@ -1,4 +1,4 @@
--- `site_file::put_word` meets its contract.
+-- `put_word` meets its contract.
 use native.Mathlib.Omega.{arith}
 use borrow.Author.Needs.{needs}
 use lib.ListN.{length-set}
@@ -17,7 +17,8 @@ slice-write-buffer-4 c = simp length-set (omega arith)
 
 returns : tie.Need-returns
 returns c =
-    word-stored _ _ _ _ _ _ _ (c .before .before .before .before .before .pre) (c .before .before .before .low .ensures) (c .before .before .low2 .ensures) (c .before .low3 .ensures) (c .low4 .ensures)
+    word-stored _ _ _ _ _ _ _ (c .before .before .before .before .before .pre) (c .before .before .before .low .ensures)
+    (c .before .before .low2 .ensures) (c .before .low3 .ensures) (c .low4 .ensures)
 
 pub put-word-spec : {M : Type 1} → statement M
 put-word-spec =

@@ -1,4 +1,4 @@
--- `site_file::signed` meets its contract, for every `u32`.
+-- `signed` meets its contract, for every `u32`.
 use borrow.Author.Needs.{needs}
 use Rattle.site_file.proofs.Bytes.{signed-low, signed-difference, signed-cast-fits, signed-result}
 use Rattle.site_file.proofs.numbers.signed.Statement.{statement}

@@ -1,4 +1,4 @@
--- `site_file::whole_word` meets its contract.
+-- `whole_word` meets its contract.
 use native.Mathlib.Omega.{arith}
 use Rattle.site_file.specs.Bytes.{word}
 use borrow.Author.Needs.{needs}

@@ -1,4 +1,4 @@
--- `site_file::word_at` meets its contract: other words are read in the rest of the file.
+-- `word_at` meets its contract: other words are read in the rest of the file.
 use Rattle.site_file.proofs.Words.{word-made, word-none}
 use borrow.Author.Needs.{needs}
 use Rattle.site_file.proofs.numbers.word_at.Statement.{statement}
@@ -9,7 +9,8 @@ returns-2 c = word-none _ _ (c .if3 .taken)
 
 returns-3 : tie.Need-returns-3
 returns-3 c =
-    word-made _ _ (c .number-of .ensures) (c .before .before .before .before .byte-at .ensures) (c .before .before .before .byte-at2 .ensures) (c .before .before .byte-at3 .ensures) (c .before .byte-at4 .ensures)
+    word-made _ _ (c .number-of .ensures) (c .before .before .before .before .byte-at .ensures)
+    (c .before .before .before .byte-at2 .ensures) (c .before .before .byte-at3 .ensures) (c .before .byte-at4 .ensures)
 
 pub word-at-spec : {M : Type 1} → statement M
 word-at-spec =

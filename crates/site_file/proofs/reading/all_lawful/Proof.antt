@@ -1,4 +1,4 @@
--- `site_file::all_lawful` meets its contract: what is left to test answers for the whole.
+-- `all_lawful` meets its contract: what is left to test answers for the whole.
 use mathlib.Core.Path.{_≡_, refl, sym, _∙_}
 use Prim.Native.Nat.{_+_, _*_, _≤_}
 use borrow.Author.Needs.{needs}
@@ -13,7 +13,8 @@ use Rattle.site_file.proofs.reading.all_lawful.Tie as tie
 
 abbrev Inv-loop : tie.InvT-loop
 Inv-loop file start count at₀ left₀ at left =
-    (at + 12 * left ≤ length file) × (all lawfulSite (sitesFrom file at left) ≡ all lawfulSite (sitesFrom file start count))
+    (at + 12 * left ≤ length file) ×
+    (all lawfulSite (sitesFrom file at left) ≡ all lawfulSite (sitesFrom file start count))
 
 abbrev μ-loop : tie.MeasureT-loop
 μ-loop file start count at₀ left₀ at left = left
@@ -23,11 +24,17 @@ loop-holds c = (search needs, refl)
 
 returns : tie.Need-returns Inv-loop μ-loop
 returns c =
-    lawful-stop _ _ _ (c .before .before .loop-test .taken) (sym (c .before .lawful-at .ensures) ∙ not-true _ (c .if1 .taken)) ∙ c .before .before .before .loop .inv .1
+    let test = c .before .before in
+    lawful-stop _ _ _ (test .loop-test .taken) (sym (c .before .lawful-at .ensures) ∙ not-true _ (c .if1 .taken))
+    ∙ test .before .loop .inv .1
 
 loop-again : tie.Need-loop-again Inv-loop μ-loop
 loop-again c =
-    (search needs, lawful-step _ _ _ (c .before .before .loop-test .taken) (sym (c .before .lawful-at .ensures) ∙ not-false _ (c .if1 .left)) ∙ c .before .before .before .loop .inv .1)
+    let test = c .before .before in (
+      search needs,
+      lawful-step _ _ _ (test .loop-test .taken) (sym (c .before .lawful-at .ensures) ∙ not-false _ (c .if1 .left))
+          ∙ test .before .loop .inv .1,
+    )
 
 returns-2 : tie.Need-returns-2 Inv-loop μ-loop
 returns-2 c = lawful-end _ _ _ (c .loop-test .left) ∙ c .before .loop .inv .1

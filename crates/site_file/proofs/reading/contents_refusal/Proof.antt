@@ -1,4 +1,4 @@
--- `site_file::contents_refusal` meets its contract.
+-- `contents_refusal` meets its contract.
 use mathlib.Core.Path.{_∙_}
 use native.Mathlib.Omega.{arith}
 use Rattle.site_file.proofs.Contents.{short-file, first-long, second-long, first-start-wrong, second-start-wrong, length-wrong, contents-right}
@@ -20,19 +20,23 @@ returns-3 c =
 
 returns-4 : tie.Need-returns-4
 returns-4 c =
-    first-start-wrong _ (c .before .before .before .before .before .before .if1 .left) (omega arith) (omega arith) (λ e. c .if4 .taken (c .before .word-at3 .ensures ∙ e))
+    first-start-wrong _ (c .before .before .before .before .before .before .if1 .left) (omega arith) (omega arith)
+    (λ e. c .if4 .taken (c .before .word-at3 .ensures ∙ e))
 
 returns-5 : tie.Need-returns-5
 returns-5 c =
-    second-start-wrong _ (c .before .before .before .before .before .before .before .before .if1 .left) (omega arith) (omega arith) (omega arith) (λ e. c .if5 .taken (omega arith))
+    second-start-wrong _ (c .before .before .before .before .before .before .before .before .if1 .left) (omega arith)
+    (omega arith) (omega arith) (λ e. c .if5 .taken (omega arith))
 
 returns-6 : tie.Need-returns-6
 returns-6 c =
-    length-wrong _ (c .before .before .before .before .before .before .before .before .before .if1 .left) (omega arith) (omega arith) (omega arith) (omega arith) (λ e. c .if6 .taken (omega arith))
+    length-wrong _ (c .before .before .before .before .before .before .before .before .before .if1 .left) (omega arith)
+    (omega arith) (omega arith) (omega arith) (λ e. c .if6 .taken (omega arith))
 
 returns-7 : tie.Need-returns-7
 returns-7 c =
-    contents-right _ (c .before .before .before .before .before .before .before .before .before .if1 .left) (omega arith) (omega arith) (omega arith) (omega arith) (omega arith)
+    contents-right _ (c .before .before .before .before .before .before .before .before .before .if1 .left)
+    (omega arith) (omega arith) (omega arith) (omega arith) (omega arith)
 
 pub contents-refusal-spec : {M : Type 1} → statement M
 contents-refusal-spec =

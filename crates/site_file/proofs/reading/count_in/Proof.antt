@@ -1,4 +1,4 @@
--- `site_file::count_in` meets its contract.
+-- `count_in` meets its contract.
 use Rattle.site_file.proofs.File.{count-first, count-second}
 use borrow.Author.Needs.{needs}
 use Rattle.site_file.proofs.reading.count_in.Statement.{statement}

@@ -1,4 +1,4 @@
--- `site_file::put_sites` meets its contract: what is left to store, stored after what was, is the whole body.
+-- `put_sites` meets its contract: what is left to store, stored after what was, is the whole body.
 use mathlib.Core.Path.{_≡_, refl, _∙_}
 use mathlib.Core.List.{flatMap}
 use Prim.Native.Nat.{_+_, _-_, _*_, _≤_}
@@ -24,20 +24,25 @@ abbrev μ-loop : tie.MeasureT-loop
 μ-loop buffer₀ start x y number at₀ i₀ buffer at i = length x - i
 
 loop-holds : tie.Need-loop-holds Inv-loop μ-loop
-loop-holds c =
-    (search needs, search needs, refl, refl)
+loop-holds c = (search needs, search needs, refl, refl)
 
 loop-again : tie.Need-loop-again Inv-loop μ-loop
-loop-again c = (
-  search needs,
-  search needs,
-  c .before .before .put-site .kept .0 ∙ c .before .before .before .before .before .before .before .before .loop .inv .2,
-  sites-step _ (c .before .before .before .before .before .before .before .before .before .before .before .pre .1) _ _ _ (omega arith) (c .before .before .before .before .before .before .before .loop-test .taken) (record { sfits = c .before .before .before .before .before .put-site-arg2 .given }) (record { sfits = c .before .before .before .before .put-site-arg3 .given }) (c .before .before .put-site .ensures) ∙ c .before .before .before .before .before .before .before .before .loop .inv .3,
-)
+loop-again c =
+    let put = c .before .before in
+    let test = put .before .before .before .before .before in
+    let loop = test .before in (
+      search needs,
+      search needs,
+      put .put-site .kept .0 ∙ loop .loop .inv .2,
+      sites-step _ (loop .before .before .before .pre .1) _ _ _ (omega arith) (test .loop-test .taken)
+          (record { sfits = put .before .before .before .put-site-arg2 .given })
+          (record { sfits = put .before .before .put-site-arg3 .given })
+          (put .put-site .ensures)
+          ∙ loop .loop .inv .3,
+    )
 
 returns : tie.Need-returns Inv-loop μ-loop
-returns c =
-    sites-end _ (c .before .before .before .before .pre .1) _ _ _ (c .loop-test .left) ∙ c .before .loop .inv .3
+returns c = sites-end _ (c .before .before .before .before .pre .1) _ _ _ (c .loop-test .left) ∙ c .before .loop .inv .3
 
 pub put-sites-spec : {M : Type 1} → statement M
 put-sites-spec =

@@ -12,7 +12,8 @@ use Rattle.vumlintel.proofs.campaigns.job.Statement.{statement}
 use Rattle.vumlintel.proofs.campaigns.job.Tie as tie
 
 -- What the call told, crossed beside the campaign and the columns that it gave, and that campaign stored.
-job-crossed : {answer : Answer JobValues} {n r : ℕ} (done : JobDone) {c stored : Campaign} {l l' : Results} {s k d s' k' d' : ℕ}
+job-crossed : {answer : Answer JobValues} {n r : ℕ} (done : JobDone) {c stored : Campaign} {l l' : Results}
+    {s k d s' k' d' : ℕ}
     → (jobDoneAnswer done l' ≡ answer) × ((done .campaign ≡ afterwards (λ v. v .campaign) answer c)
     × (l' ≡ afterwards (λ v. v .results) answer l))
     → ((l : Results) → Crosses (jobDoneAnswer done l) n
