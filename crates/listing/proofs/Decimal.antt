@@ -131,7 +131,8 @@ pub record DigitsLeft (n at : ℕ) (before : List ℕ) (left : ℕ) (now : List 
 
 module _ (n at : ℕ) (before : List ℕ) where
   digits-left : {left next : ℕ} {now : List ℕ} → left ≤ 20
-      → Writing at (decimal n) before (map (digitAt n) (powersBelow left)) now next → DigitsLeft n at before left now next
+      → Writing at (decimal n) before (map (digitAt n) (powersBelow left)) now next
+      → DigitsLeft n at before left now next
   digits-left {left} {next} {now} h w =
       let r = writing-room w in
       record {

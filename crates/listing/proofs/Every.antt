@@ -17,7 +17,8 @@ module _ (test : ℕ → ℕ → Bool) where
   every-from [] i k t h = absurd (omega arith)
   every-from (x ∷ l) i zero t h = rw add-zero (and-eq-true-iff (test i x) (every test (suc i) l) .0 t .0)
   every-from (x ∷ l) i (suc k) t h =
-      rw (add-suc, ← suc-add) (every-from l (suc i) k (and-eq-true-iff (test i x) (every test (suc i) l) .0 t .1) (omega arith))
+      rw (add-suc, ← suc-add)
+      (every-from l (suc i) k (and-eq-true-iff (test i x) (every test (suc i) l) .0 t .1) (omega arith))
 
   -- So it holds at any place.
   pub every-at : (l : List ℕ) (k : ℕ) → every test 0 l ≡ true → k < length l → test k (getD l k 0) ≡ true

@@ -41,7 +41,11 @@ listings : (listing sampleInput ≡ sampleText)
     × (listing (replicate 4 0 ++ drop 4 sampleInput) ≡ bytes "refused 4\n")
     × (listing (replicate 4 0 ++ take 75 (drop 4 sampleInput)) ≡ bytes "refused 10\n")
     × (listing (take 3 sampleInput) ≡ bytes "refused 10\n")
-unfolding sampleInput sampleText bytes powersBelow decimal keep line siteAt entryLines listingText refusedText listingRefusal listing word signed startIn countIn siteIn sitesFrom sitesIn contentsRefusal readRefusal orElse contentRefusal within lawfulSite gap square squaredDistance siteBefore all sum lex ascending insert sort rankBefore kList bestK placedFrom whole pair product flatMap pairs lawfulK
+unfolding
+    sampleInput sampleText bytes powersBelow decimal keep line siteAt entryLines listingText refusedText
+    listingRefusal listing word signed startIn countIn siteIn sitesFrom sitesIn contentsRefusal readRefusal orElse
+    contentRefusal within lawfulSite gap square squaredDistance siteBefore all sum lex ascending insert sort
+    rankBefore kList bestK placedFrom whole pair product flatMap pairs lawfulK
 listings = (refl, refl, refl, refl)
 
 -- An input that is too long, whatever it holds.

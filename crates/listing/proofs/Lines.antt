@@ -120,7 +120,8 @@ entry-put a b c d h one two three four =
     rw pieces (four-put (omega (arith, entry-length a b c d, ap length pieces)) one two three four)
 
 pub heading-put : (a b : ℕ) {at p q r z : ℕ} {before l m n o : List ℕ} → at + 51 ≤ length before
-    → Put at (bytes "pairs ") before l p → Put p (field a 32) l m q → Put q (bytes "of ") m n r → Put r (field b 10) n o z
+    → Put at (bytes "pairs ") before l p → Put p (field a 32) l m q → Put q (bytes "of ") m n r
+    → Put r (field b 10) n o z
     → Put at (heading a b) before o z
 heading-put a b h one two three four =
     let pieces = heading-pieces a b in

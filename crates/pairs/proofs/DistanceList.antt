@@ -1,5 +1,5 @@
 -- What a distance list answers.
-use mathlib.Core.Path.{_≡_, refl, sym, ap, _∙_}
+use mathlib.Core.Path.{_≡_, sym, ap, _∙_}
 use mathlib.Core.List.{List, map}
 use Prim.Native.Nat.{ℕ, min, _≤_, _<_}
 use native.Mathlib.Nat.{zero-add}
@@ -10,7 +10,17 @@ use Rattle.column.proofs.Stored.{stored-start}
 use Rattle.site.specs.Answer.{refused, answered, afterwards}
 use Rattle.site.specs.SiteList.{Columns, sites}
 use Rattle.site.specs.Refusal.{listsRefusal}
-use Rattle.site.proofs.Answer.{answer-values, answer-refused, after-refused, after-answered, first-refused, next-decides, orElse-first, orElse-second, no-fault}
+use Rattle.site.proofs.Answer.{
+  answer-values,
+  answer-refused,
+  after-refused,
+  after-answered,
+  first-refused,
+  next-decides,
+  orElse-first,
+  orElse-second,
+  no-fault,
+}
 use Rattle.site.proofs.Accepted.{accepted-level, both-accepted}
 use Rattle.entry.specs.declared.Entry.{Entry}
 use Rattle.pairs.specs.DistanceList.{distanceList, distanceRefusal, distanceValues, distanceAnswer}

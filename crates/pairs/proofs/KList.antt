@@ -10,7 +10,17 @@ use Rattle.order.proofs.Best.{best-nil}
 use Rattle.site.specs.Answer.{Answer, refused, answered, afterwards, refuseIf, orElse}
 use Rattle.site.specs.SiteList.{Columns, sites}
 use Rattle.site.specs.Refusal.{listRefusal, listsRefusal}
-use Rattle.site.proofs.Answer.{answer-values, answer-refused, after-refused, after-answered, first-refused, next-decides, orElse-first, orElse-second, fault-none}
+use Rattle.site.proofs.Answer.{
+  answer-values,
+  answer-refused,
+  after-refused,
+  after-answered,
+  first-refused,
+  next-decides,
+  orElse-first,
+  orElse-second,
+  fault-none,
+}
 use Rattle.site.proofs.Accepted.{accepted-level, accepted-length, accepted-order, accepted-coordinates, both-accepted}
 use Rattle.entry.specs.declared.Entry.{Entry}
 use Rattle.entry.specs.Entry.{rankBefore, bestK, lawfulK}
@@ -42,12 +52,14 @@ sweep-k-list way k a b oka okb =
     sweep-whole-best way k (sites a) (sites b) [] [] (accepted-order a oka) (accepted-order b okb)
     (sym (best-nil rankBefore k))
 
-values-are : (s : State) (l : List Entry) {before after : Results} {answer : Swept} → s .entries ≡ l → SweptTo s before after answer
+values-are : (s : State) (l : List Entry) {before after : Results} {answer : Swept} → s .entries ≡ l
+    → SweptTo s before after answer
     → kListValues after (answer .entries) (answer .looks .0) (answer .distances .0)
     ≡ kListValues (holding l before) (length l) (s .looks) (s .distances)
 values-are s l {before} e v =
-    λ i.
-    kListValues ((v .columns ∙ ap (λ (t : List Entry). holding t before) e) i) ((v .entries ∙ ap length e) i) (v .looks i) (v .distances i)
+    let held = v .columns ∙ ap (λ (t : List Entry). holding t before) e in
+    let count = v .entries ∙ ap length e in
+    λ i. kListValues (held i) (count i) (v .looks i) (v .distances i)
 
 module _ (a b : Columns) (k : ℕ) (r : Results) where
   -- The refusal, by its tests.
@@ -112,7 +124,8 @@ module _ (a b : Columns) (k : ℕ) (r : Results) where
     -- What it then answers and leaves.
     pub swept-is : (way : Way) {after : Results} {answer : Swept}
         → SweptStrips way (a .x) (a .y) (b .x) (b .y) 0 (length (a .x)) 0 (length (b .x)) k 0 r after answer
-        → (answered (kListValues after (answer .entries) (answer .looks .0) (answer .distances .0)) ≡ kListAnswer way a b k r)
+        → let values = kListValues after (answer .entries) (answer .looks .0) (answer .distances .0) in
+        (answered values ≡ kListAnswer way a b k r)
         × (after ≡ afterwards (λ v. v .results) (kListAnswer way a b k r) r)
     unfolding kListAnswer
     swept-is way {after} {answer} w =
@@ -120,5 +133,7 @@ module _ (a b : Columns) (k : ℕ) (r : Results) where
         let l = lists-accepted in
         let u = w .numbered (a .number) (b .number) (accepted-level a (l .0)) (accepted-level b (l .1)) in
         let v : SweptTo s r after answer = subst (λ (t : State). SweptTo t r after answer) (over-whole way) u in
-        let e = values-are s (kList k (sites a) (sites b)) (sweep-k-list way k a b (l .0) (l .1)) v in
-        (ap {B = Answer KListValues} answered e ∙ answer-values ok, ap (λ v. v .results) e ∙ after-answered (λ v. v .results) _ r ok)
+        let e = values-are s (kList k (sites a) (sites b)) (sweep-k-list way k a b (l .0) (l .1)) v in (
+          ap {B = Answer KListValues} answered e ∙ answer-values ok,
+          ap (λ v. v .results) e ∙ after-answered (λ v. v .results) _ r ok,
+        )

@@ -25,7 +25,18 @@ use Rattle.sweep.proofs.RunLaws.{rightward-nil, rightward-cons, length-rightwar
 use Rattle.sweep.proofs.NumberLaws.{bare, strip-bare}
 use Rattle.pairs.specs.declared.Run.{Run}
 use Rattle.pairs.specs.DistanceList.{distanceList}
-use Rattle.pairs.specs.Internal.{Behind, RunOf, InOrder, Rising, offsetAt, near, nearSites, rowPairs, nearPairs, Reference}
+use Rattle.pairs.specs.Internal.{
+  Behind,
+  RunOf,
+  InOrder,
+  Rising,
+  offsetAt,
+  near,
+  nearSites,
+  rowPairs,
+  nearPairs,
+  Reference,
+}
 use Rattle.pairs.proofs.NearSites.{row-run}
 
 -- ---- no number
@@ -144,7 +155,8 @@ ready-starts =
     }
 
 -- The next reference stands further right.
-pub ready-more : {a b : List ℤ} {e i : ℕ} {run : Run} → Rising a → i < length a → RunOf a b e i run → Ready a b e (i + 1) run
+pub ready-more : {a b : List ℤ} {e i : ℕ} {run : Run} → Rising a → i < length a → RunOf a b e i run
+    → Ready a b e (i + 1) run
 ready-more {a} {b} {e} {i} {run} rising h r =
     record {
       within = omega arith;

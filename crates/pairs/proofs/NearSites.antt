@@ -11,7 +11,6 @@ use lib.IntN.{ℤ, pos}
 use lib.ListN.{length, getD}
 use Rattle.order.proofs.Lists.{keep-append, keep-yes, keep-no, keep-nil}
 use Rattle.site.specs.Site.{within, square}
-use Rattle.site.specs.SiteList.{site}
 use Rattle.site.specs.Terms.{Coordinates}
 use Rattle.site.proofs.Cases.{byTest}
 use Rattle.site.proofs.Accepted.{coordinate-x, coordinate-y}
@@ -19,7 +18,7 @@ use Rattle.sweep.specs.Strip.{Placed}
 use Rattle.sweep.specs.Terms.{spot, rightward}
 use Rattle.sweep.proofs.RunLaws.{rightward-nil, rightward-cons}
 use Rattle.pairs.specs.declared.Run.{Run}
-use Rattle.pairs.specs.Internal.{RunOf, near, nearSites, Reference}
+use Rattle.pairs.specs.Internal.{RunOf, siteOf, near, nearSites, Reference}
 use Rattle.pairs.proofs.Offset.{far-left, far-right, far}
 
 module _ (limit : ℕ) (x y : ℤ) (xs ys : List ℤ) where
@@ -28,7 +27,7 @@ module _ (limit : ℕ) (x y : ℤ) (xs ys : List ℤ) where
   test o = near limit x y (o .site)
 
   abbrev testAt : ℕ → Bool
-  testAt k = near limit x y (site (getD xs k (pos 0)) (getD ys k (pos 0)) 0)
+  testAt k = near limit x y (siteOf xs ys k)
 
   -- The near sites between two places.
   abbrev between : ℕ → ℕ → List Placed
@@ -48,7 +47,8 @@ module _ (limit : ℕ) (x y : ℤ) (xs ys : List ℤ) where
     unfolding nearSites spot
     near-no p = rw (rightward-cons xs ys from to h) (keep-no test (spot xs ys from) _ (sym e ∙ p))
 
-  rightward-append : (n m from : ℕ) → rightward xs ys from (n + m) ≡ rightward xs ys from n ++ rightward xs ys (from + n) m
+  rightward-append : (n m from : ℕ)
+      → rightward xs ys from (n + m) ≡ rightward xs ys from n ++ rightward xs ys (from + n) m
   unfolding rightward
   rightward-append zero m from = rw (zero-add, add-zero)
   rightward-append (suc n) m from =

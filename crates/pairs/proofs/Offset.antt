@@ -67,9 +67,12 @@ module _ (c : Columns) (ok : listRefusal c ≡ 0) where
       byTest (ltb k m)
       (λ t.
       let long : length (whole (sites c)) ≡ length (c .x) = length-whole (sites c) ∙ accepted-length c ok in
-      let s = sorted-at leftOf (whole (sites c)) none k m (whole-sorted (sites c) (accepted-order c ok)) (ltb-true k m t) (omega arith) in
-      offset-rises (getD (c .x) k (pos 0)) (getD (c .x) m (pos 0)) (inside-x c ok k (omega arith)) (inside-x c ok m g)
-      (le-not-lt (getD (c .x) k (pos 0)) (getD (c .x) m (pos 0)) ∙ ap not (rw (whole-at-x k (omega arith), whole-at-x m g) at s)))
+      let order = whole-sorted (sites c) (accepted-order c ok) in
+      let s = sorted-at leftOf (whole (sites c)) none k m order (ltb-true k m t) (omega arith) in
+      let x = getD (c .x) k (pos 0) in
+      let y = getD (c .x) m (pos 0) in
+      offset-rises x y (inside-x c ok k (omega arith)) (inside-x c ok m g)
+      (le-not-lt x y ∙ ap not (rw (whole-at-x k (omega arith), whole-at-x m g) at s)))
       (λ t. let e : k ≡ m = omega (arith, ltb-false k m t) in rw e (omega arith))
 
   pub in-order : InOrder (c .x) (c .y)
@@ -107,7 +110,8 @@ far x y s e h =
 
 -- Nor is one further than `e` in y, by a difference that wraps.
 pub far-y : (x y : ℤ) (s : Site) (e : ℕ) {a b r : ℕ} → within y ≡ true → within (s .y) ≡ true → e < 2 ^ 32 → r < 2 ^ 64
-    → a ≡ offset (s .y) → a < 2 ^ 32 → b ≡ offset y → b < 2 ^ 32 → (r + b) % 2 ^ 64 ≡ a + e → 2 * e < r → near (e * e) x y s ≡ false
+    → a ≡ offset (s .y) → a < 2 ^ 32 → b ≡ offset y → b < 2 ^ 32 → (r + b) % 2 ^ 64 ≡ a + e → 2 * e < r
+    → near (e * e) x y s ≡ false
 unfolding near square
 far-y x y s e {a} {b} {r} h k u v p g q f w t =
     let beyond : e < gap y (s .y) =
@@ -121,12 +125,14 @@ far-y x y s e {a} {b} {r} h k u v p g q f w t =
 pub between-none : (P : ℕ → Type 0) (f : ℕ) (k : ℕ) → f ≤ k → k < f → P k
 between-none P f k h g = absurd (omega arith)
 
-pub between-more : (P : ℕ → Type 0) (f i : ℕ) → ((k : ℕ) → f ≤ k → k < i → P k) → P i → (k : ℕ) → f ≤ k → k < i + 1 → P k
+pub between-more : (P : ℕ → Type 0) (f i : ℕ) → ((k : ℕ) → f ≤ k → k < i → P k) → P i
+    → (k : ℕ) → f ≤ k → k < i + 1 → P k
 between-more P f i h p k a b =
     byTest (ltb k i) (λ t. h k a (ltb-true k i t)) (λ t. let e : k ≡ i = omega (arith, ltb-false k i t) in rw e p)
 
 -- A run by its two ends.
-pub run-next : (a b : List ℤ) (e i : ℕ) (last : Run) {x low left right : ℕ} → Rising b → Behind a b e i last → x ≡ offsetAt a i → low ≡ x - e
+pub run-next : (a b : List ℤ) (e i : ℕ) (last : Run) {x low left right : ℕ} → Rising b → Behind a b e i last
+    → x ≡ offsetAt a i → low ≡ x - e
     → Skipped b (last .left) low left → Skipped b (last .right) (x + e + 1) right
     → RunOf a b e i (record { left = left; right = right })
 run-next a b e i last {x} {low} {left} {right} rises behind p q l r =

@@ -64,7 +64,7 @@ module _ (l m : List Entry) {n : ℕ} {f s : List ℕ} (room : Room (l ++ m) n f
           in-second = column-then (λ e. e .second) s s′ s″ (room .in-second) (w .in-second) (u .in-second);
         }
 
--- On the way from the columns `f` and `s` to all pairs `l` written: the pairs left have room, and with them written `l` is.
+-- On the way from the columns `f` and `s` to all pairs `l` written: with those left written, `l` is.
 pub record Writing (l : List Entry) (n : ℕ) (f s : List ℕ) (left : List Entry) (k : ℕ) (f′ s′ : List ℕ) : Type 0 where
   pub same-first : length f′ ≡ length f
   pub same-second : length s′ ≡ length s

@@ -28,9 +28,9 @@ list-file-requires c κs =
 
 returns-2 : tie.Need-returns-2
 returns-2 c =
-    let left = c .before .before .before .before in
-    put-start
-    (part-listed _ (left .before .input-refusal .ensures) (left .if1 .left) (c .before .before .before .word-at .ensures))
+    let read = c .before .before .before in
+    let left = read .before in
+    put-start (part-listed _ (left .before .input-refusal .ensures) (left .if1 .left) (read .word-at .ensures))
     (c .list-file .ensures)
 
 pub list-cases-spec : {M : Type 1} → statement M

@@ -1,4 +1,5 @@
 -- Columns for both lists of a file.
+use Prim.Native.Nat.{_≤_}
 use lib.IntN.{pos}
 use Rattle.site_file.specs.declared.Which.the-variants.{First, Second}
 use Rattle.listing.proofs.FileLists.{file-few, zeros-part, zeros-sized}
@@ -6,45 +7,59 @@ use borrow.Author.Needs.{needs}
 use Rattle.listing.proofs.cases.list_file.Statement.{statement}
 use Rattle.listing.proofs.cases.list_file.Tie as tie
 
+-- Neither list has more than 4,000 sites.
+few-first : (c : tie.After-count-in) → c .count-in .result ≤ 4_000
+few-first c = file-few (c .before .before .before .pre) First (c .count-in .ensures)
+
+few-second : (c : tie.After-count-in2) → c .count-in2 .result ≤ 4_000
+few-second c = file-few (c .before .before .before .before .pre) Second (c .count-in2 .ensures)
+
 array-borrow-prefix-ax : tie.Need-array-borrow-prefix-ax
-array-borrow-prefix-ax c = file-few (c .before .before .before .before .pre) First (c .before .count-in .ensures)
+array-borrow-prefix-ax c = few-first (c .before)
 
 slice-aggregate-list-sites : tie.Need-slice-aggregate-list-sites
-slice-aggregate-list-sites c = zeros-part (pos 0) _ (file-few (c .before .before .before .before .before .pre) First (c .before .before .count-in .ensures))
+slice-aggregate-list-sites c = zeros-part (pos 0) _ (few-first (c .before .before))
 
 array-borrow-prefix-ay : tie.Need-array-borrow-prefix-ay
-array-borrow-prefix-ay c = file-few (c .before .before .before .before .before .pre) First (c .before .before .count-in .ensures)
+array-borrow-prefix-ay c = few-first (c .before .before)
 
 slice-aggregate-list-sites-2 : tie.Need-slice-aggregate-list-sites-2
-slice-aggregate-list-sites-2 c = zeros-part (pos 0) _ (file-few (c .before .before .before .before .before .before .pre) First (c .before .before .before .count-in .ensures))
+slice-aggregate-list-sites-2 c = zeros-part (pos 0) _ (few-first (c .before .before .before))
 
 array-borrow-prefix-an : tie.Need-array-borrow-prefix-an
-array-borrow-prefix-an c = file-few (c .before .before .before .before .before .before .pre) First (c .before .before .before .count-in .ensures)
+array-borrow-prefix-an c = few-first (c .before .before .before)
 
 slice-aggregate-list-sites-3 : tie.Need-slice-aggregate-list-sites-3
-slice-aggregate-list-sites-3 c = zeros-part 0 _ (file-few (c .before .before .before .before .before .before .before .pre) First (c .before .before .before .before .count-in .ensures))
+slice-aggregate-list-sites-3 c = zeros-part 0 _ (few-first (c .before .before .before .before))
 
 array-borrow-prefix-bx : tie.Need-array-borrow-prefix-bx
-array-borrow-prefix-bx c = file-few (c .before .before .before .before .before .before .before .pre) Second (c .before .before .before .count-in2 .ensures)
+array-borrow-prefix-bx c = few-second (c .before .before .before)
 
 slice-aggregate-list-sites-4 : tie.Need-slice-aggregate-list-sites-4
-slice-aggregate-list-sites-4 c = zeros-part (pos 0) _ (file-few (c .before .before .before .before .before .before .before .before .pre) Second (c .before .before .before .before .count-in2 .ensures))
+slice-aggregate-list-sites-4 c = zeros-part (pos 0) _ (few-second (c .before .before .before .before))
 
 array-borrow-prefix-by : tie.Need-array-borrow-prefix-by
-array-borrow-prefix-by c = file-few (c .before .before .before .before .before .before .before .before .pre) Second (c .before .before .before .before .count-in2 .ensures)
+array-borrow-prefix-by c = few-second (c .before .before .before .before)
 
 slice-aggregate-list-sites-5 : tie.Need-slice-aggregate-list-sites-5
-slice-aggregate-list-sites-5 c = zeros-part (pos 0) _ (file-few (c .before .before .before .before .before .before .before .before .before .pre) Second (c .before .before .before .before .before .count-in2 .ensures))
+slice-aggregate-list-sites-5 c = zeros-part (pos 0) _ (few-second (c .before .before .before .before .before))
 
 array-borrow-prefix-bn : tie.Need-array-borrow-prefix-bn
-array-borrow-prefix-bn c = file-few (c .before .before .before .before .before .before .before .before .before .pre) Second (c .before .before .before .before .before .count-in2 .ensures)
+array-borrow-prefix-bn c = few-second (c .before .before .before .before .before)
 
 slice-aggregate-list-sites-6 : tie.Need-slice-aggregate-list-sites-6
-slice-aggregate-list-sites-6 c = zeros-part 0 _ (file-few (c .before .before .before .before .before .before .before .before .before .before .pre) Second (c .before .before .before .before .before .before .count-in2 .ensures))
+slice-aggregate-list-sites-6 c = zeros-part 0 _ (few-second (c .before .before .before .before .before .before))
 
 list-sites-requires : tie.Need-list-sites-requires
 list-sites-requires c κs =
-    (c .before .before .before .before .before .before .before .before .before .before .before .pre .0, (zeros-sized _ (c .before .before .before .before .before .before .before .before .count-in .ensures) (file-few (c .before .before .before .before .before .before .before .before .before .before .before .pre) First (c .before .before .before .before .before .before .before .before .count-in .ensures)), zeros-sized _ (c .before .before .before .before .before .before .before .count-in2 .ensures) (file-few (c .before .before .before .before .before .before .before .before .before .before .before .pre) Second (c .before .before .before .before .before .before .before .count-in2 .ensures))))
+    let second = c .before .before .before .before .before .before .before in
+    let first = second .before in (
+      first .before .before .before .pre .0,
+      (
+        zeros-sized _ (first .count-in .ensures) (few-first first),
+        zeros-sized _ (second .count-in2 .ensures) (few-second second),
+      ),
+    )
 
 pub list-file-spec : {M : Type 1} → statement M
 list-file-spec =

@@ -6,7 +6,9 @@ use Rattle.listing.proofs.cases.list_sites.Statement.{statement}
 use Rattle.listing.proofs.cases.list_sites.Tie as tie
 
 read-sites-requires : tie.Need-read-sites-requires
-read-sites-requires c κs = let pre = c .before .before .before .before .before .before .before .pre in (read-contents _ (pre .0 .accepted), pre .1 .0)
+read-sites-requires c κs =
+    let pre = c .before .before .before .before .before .before .before .pre in
+    (read-contents _ (pre .0 .accepted), pre .1 .0)
 
 read-sites-requires-2 : tie.Need-read-sites-requires-2
 read-sites-requires-2 c κs =
@@ -18,13 +20,16 @@ list-columns-requires : tie.Need-list-columns-requires
 list-columns-requires c κs =
     let second = c .before .before .before .before .before .before .before .before .before .before .before in
     let first = second .before .before .before .before .before .before .before .before in
-    read-lawful _ _ (first .read-sites .ensures) (second .read-sites2 .ensures) (first .before .before .before .before .before .before .before .before .pre .0)
+    let pre = first .before .before .before .before .before .before .before .before .pre in
+    read-lawful _ _ (first .read-sites .ensures) (second .read-sites2 .ensures) (pre .0)
 
 returns : tie.Need-returns
 returns c =
-    let second = c .before .before .before .before .before .before .before .before .before .before .before .before .before .before in
+    let listed = c .before .before in
+    let lent = listed .before .before .before in
+    let second = lent .before .before .before .before .before .before .before .before .before in
     let first = second .before .before .before .before .before .before .before .before in
-    read-text _ _ (first .read-sites .ensures) (second .read-sites2 .ensures) (c .before .before .list-columns .ensures)
+    read-text _ _ (first .read-sites .ensures) (second .read-sites2 .ensures) (listed .list-columns .ensures)
 
 pub list-sites-spec : {M : Type 1} → statement M
 list-sites-spec =

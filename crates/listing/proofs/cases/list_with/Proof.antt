@@ -7,22 +7,26 @@ use Rattle.listing.proofs.cases.list_with.Tie as tie
 
 put-text-requires : tie.Need-put-text-requires
 put-text-requires c κs =
-    let called = c .before .before .before .before .before .before .before .before .before .before .before .before .before in
-    let pre = called .before .before .before .before .before .before .before .before .before .before .pre in
-    text-ready ReverseRun _ _ _ _ (pre .0) (pre .1) _ (called .k-list .ensures .0) (c .before .before .before .before .before .count .given .1)
+    let matched = c .before .before .before .before .before in
+    let listed = matched .before .before .before .before .before .before .before .before in
+    let pre = listed .before .before .before .before .before .before .before .before .before .before .pre in
+    text-ready ReverseRun _ _ _ _ (pre .0) (pre .1) _ (listed .k-list .ensures .0) (matched .count .given .1)
 
 returns : tie.Need-returns
 returns c =
-    let called = c .before .before .before .before .before .before .before .before .before .before .before .before .before .before .before .before in
-    let pre = called .before .before .before .before .before .before .before .before .before .before .pre in
-    text-written ReverseRun _ _ _ _ (pre .0) (pre .1) _ (called .k-list .ensures .0) (c .before .before .before .before .before .before .before .before .count .given .1)
+    let matched = c .before .before .before .before .before .before .before .before in
+    let listed = matched .before .before .before .before .before .before .before .before in
+    let pre = listed .before .before .before .before .before .before .before .before .before .before .pre in
+    text-written ReverseRun _ _ _ _ (pre .0) (pre .1) _ (listed .k-list .ensures .0) (matched .count .given .1)
     (c .before .before .put-text .ensures)
 
 returns-2 : tie.Need-returns-2
 returns-2 c =
-    let called = c .before .before .before .before .before .before .before .before .before .before .before .before .before in
-    let pre = called .before .before .before .before .before .before .before .before .before .before .pre in
-    absurd (never-refused ReverseRun _ _ _ _ (pre .0) (pre .1) _ (called .k-list .ensures .0) (c .before .before .before .before .before .number .given .1))
+    let matched = c .before .before .before .before .before in
+    let listed = matched .before .before .before .before .before .before .before .before in
+    let pre = listed .before .before .before .before .before .before .before .before .before .before .pre in
+    absurd
+    (never-refused ReverseRun _ _ _ _ (pre .0) (pre .1) _ (listed .k-list .ensures .0) (matched .number .given .1))
 
 pub list-with-spec : {M : Type 1} → statement M
 list-with-spec =

@@ -16,7 +16,9 @@ loop-holds : tie.Need-loop-holds Inv-loop μ-loop
 loop-holds c = (search needs, search needs, λ h. absurd (omega arith))
 
 returns : tie.Need-returns Inv-loop μ-loop
-returns c = digits-found _ _ (search needs) (search needs) (omega (arith, c .before .power .ensures)) (c .before .before .before .loop .inv .2)
+returns c =
+    digits-found _ _ (search needs) (search needs) (omega (arith, c .before .power .ensures))
+    (c .before .before .before .loop .inv .2)
 
 loop-again : tie.Need-loop-again Inv-loop μ-loop
 loop-again c = (search needs, search needs, λ h. power-passed _ _ (omega (arith, c .before .power .ensures)))

@@ -4,9 +4,6 @@ use borrow.Author.Needs.{needs}
 use Rattle.listing.proofs.input.file_refusal.Statement.{statement}
 use Rattle.listing.proofs.input.file_refusal.Tie as tie
 
-enum-told : tie.Need-enum-told
-enum-told c = search needs
-
 returns : tie.Need-returns
 returns c = read-none _ (c .before .before .read .ensures) (c .enum-told .given .1)
 
@@ -15,4 +12,4 @@ returns-2 c = read-number _ (c .before .before .before .read .ensures) (c .befor
 
 pub file-refusal-spec : {M : Type 1} → statement M
 file-refusal-spec =
-    tie.close (tie.spec (λ c κs. search needs) enum-told (λ c. search needs) returns returns-2)
+    tie.close (tie.spec (λ c κs. search needs) (λ c. search needs) (λ c. search needs) returns returns-2)

@@ -16,11 +16,15 @@ returns-3 c = input-file _ (search needs) (search needs) (c .before .file-refusa
 
 returns-4 : tie.Need-returns-4
 returns-4 c =
-    input-k _ (search needs) (search needs) (c .before .before .before .before .file-refusal .ensures) (c .before .before .before .if3 .left) true (c .before .before .word-at .ensures) (c .before .lawful-k .ensures) (c .if4 .taken)
+    let left = c .before .before .before in
+    input-k _ (search needs) (search needs) (left .before .file-refusal .ensures) (left .if3 .left) true
+    (c .before .before .word-at .ensures) (c .before .lawful-k .ensures) (c .if4 .taken)
 
 returns-5 : tie.Need-returns-5
 returns-5 c =
-    input-k _ (search needs) (search needs) (c .before .before .before .before .file-refusal .ensures) (c .before .before .before .if3 .left) false (c .before .before .word-at .ensures) (c .before .lawful-k .ensures) (c .if4 .left)
+    let left = c .before .before .before in
+    input-k _ (search needs) (search needs) (left .before .file-refusal .ensures) (left .if3 .left) false
+    (c .before .before .word-at .ensures) (c .before .lawful-k .ensures) (c .if4 .left)
 
 pub input-refusal-spec : {M : Type 1} → statement M
 input-refusal-spec =

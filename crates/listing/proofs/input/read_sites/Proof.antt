@@ -18,11 +18,16 @@ loop-holds c = sites-starts _ (list-length _ _) (c .before .before .pre .1)
 
 read-site-requires : tie.Need-read-site-requires Inv-loop μ-loop
 read-site-requires c κs =
-    let here = sites-here _ _ _ (c .before .before .before .loop-test .taken) (c .before .before .before .before .loop .inv) in ((c .before .before .before .before .before .before .before .pre .0, here .0), here .1)
+    let turn = c .before .before .before in
+    let here = sites-here _ _ _ (turn .loop-test .taken) (turn .before .loop .inv) in
+    ((turn .before .before .before .before .pre .0, here .0), here .1)
 
 loop-again : tie.Need-loop-again Inv-loop μ-loop
 loop-again c =
-    let done = c .before .before .before .before .read-site .ensures in sites-more _ _ (c .before .before .before .before .before .before .before .before .loop-test .taken) (done .0) (done .1 .0) (done .1 .1) (c .before .before .before .before .before .before .before .before .before .loop .inv)
+    let read = c .before .before .before .before in
+    let turn = read .before .before .before .before in
+    let done = read .read-site .ensures in
+    sites-more _ _ (turn .loop-test .taken) (done .0) (done .1 .0) (done .1 .1) (turn .before .loop .inv)
 
 returns : tie.Need-returns Inv-loop μ-loop
 returns c = sites-ends _ _ (c .loop-test .left) (c .before .loop .inv)

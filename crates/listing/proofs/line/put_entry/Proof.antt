@@ -8,7 +8,8 @@ use Rattle.listing.proofs.line.put_entry.Tie as tie
 put-field-requires-2 : tie.Need-put-field-requires-2
 put-field-requires-2 c κs =
     let ranked = c .before .before .before in
-    omega (arith, field-next _ _ (ranked .put-field .ensures), ranked .put-field .kept, ranked .before .before .before .pre)
+    let pre = ranked .before .before .before .pre in
+    omega (arith, field-next _ _ (ranked .put-field .ensures), ranked .put-field .kept, pre)
 
 put-field-requires-3 : tie.Need-put-field-requires-3
 put-field-requires-3 c κs =

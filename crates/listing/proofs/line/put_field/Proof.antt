@@ -6,13 +6,19 @@ use Rattle.listing.proofs.line.put_field.Statement.{statement}
 use Rattle.listing.proofs.line.put_field.Tie as tie
 
 slice-write-out : tie.Need-slice-write-out
-slice-write-out c = let put = c .before .before in decimal-room _ (put .before .before .before .pre) (put .put-decimal .ensures)
+slice-write-out c =
+    let put = c .before .before in
+    decimal-room _ (put .before .before .before .pre) (put .put-decimal .ensures)
 
 add-result : tie.Need-add-result
-add-result c = let put = c .before .before in omega (arith, decimal-room _ (put .before .before .before .pre) (put .put-decimal .ensures))
+add-result c =
+    let put = c .before .before in
+    omega (arith, decimal-room _ (put .before .before .before .pre) (put .put-decimal .ensures))
 
 returns : tie.Need-returns
-returns c = let put = c .before .before in field-put _ (put .before .before .before .pre) (put .put-decimal .ensures) _
+returns c =
+    let put = c .before .before in
+    field-put _ (put .before .before .before .pre) (put .put-decimal .ensures) _
 
 pub put-field-spec : {M : Type 1} → statement M
 put-field-spec =

@@ -42,8 +42,9 @@ returns c =
     let joined = last .before .before .before .before in
     let counted = joined .before .before .before .before .before in
     let named = counted .before .before .before .before in
-    heading-put _ _ (named .before .before .before .before .pre) (named .put-bytes .ensures) (counted .put-field .ensures)
-    (joined .put-bytes2 .ensures) (last .put-field2 .ensures)
+    let pre = named .before .before .before .before .pre in
+    heading-put _ _ pre (named .put-bytes .ensures) (counted .put-field .ensures) (joined .put-bytes2 .ensures)
+    (last .put-field2 .ensures)
 
 pub put-heading-spec : {M : Type 1} → statement M
 put-heading-spec =

@@ -9,7 +9,8 @@ returns : tie.Need-returns
 unfolding bytes
 returns c =
     let named = c .before .before .before .before .before .before in
-    refused-put _ (named .before .before .before .before .pre) (named .put-bytes .ensures) (c .before .before .put-field .ensures)
+    refused-put _ (named .before .before .before .before .pre) (named .put-bytes .ensures)
+    (c .before .before .put-field .ensures)
 
 pub put-refused-spec : {M : Type 1} → statement M
 put-refused-spec =

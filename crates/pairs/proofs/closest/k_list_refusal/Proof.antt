@@ -16,17 +16,24 @@ returns-3 : tie.Need-returns-3
 returns-3 c =
     let l = c .before .before in
     let e = l .before .before in
-    k-short _ _ _ _ (e .before .lists-refusal .ensures) (e .if1 .left) (l .before .lawful-k .ensures) (l .if2 .left) (c .before .room .ensures)
-    (c .if3 .taken)
+    k-short _ _ _ _ (e .before .lists-refusal .ensures) (e .if1 .left) (l .before .lawful-k .ensures) (l .if2 .left)
+    (c .before .room .ensures) (c .if3 .taken)
 
 returns-4 : tie.Need-returns-4
 returns-4 c =
     let l = c .before .before in
     let e = l .before .before in
-    k-accepted _ _ _ _ (e .before .lists-refusal .ensures) (e .if1 .left) (l .before .lawful-k .ensures) (l .if2 .left) (c .before .room .ensures)
-    (c .if3 .left)
+    k-accepted _ _ _ _ (e .before .lists-refusal .ensures) (e .if1 .left) (l .before .lawful-k .ensures) (l .if2 .left)
+    (c .before .room .ensures) (c .if3 .left)
 
 pub k-list-refusal-spec : {M : Type 1} → statement M
 k-list-refusal-spec =
     tie.close
-    (tie.spec (λ c κs. search needs) returns (λ c κs. search needs) returns-2 (λ c κs. search needs) returns-3 returns-4)
+    (tie.spec
+    (λ c κs. search needs)
+    returns
+    (λ c κs. search needs)
+    returns-2
+    (λ c κs. search needs)
+    returns-3
+    returns-4)

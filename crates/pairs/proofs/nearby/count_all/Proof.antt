@@ -54,7 +54,8 @@ more c =
     let n = c .before .before .before in
     let s = started (n .before .before) in
     row-counted _ _ _ _ _ (s .pre .0) (s .pre .1) (n .before .loop-test .taken) (n .next-run .ensures)
-    (toZ-ofZ (sfits-of (c .before .before .count-row-arg .given))) (toZ-ofZ (sfits-of (c .before .count-row-arg2 .given)))
+    (toZ-ofZ (sfits-of (c .before .before .count-row-arg .given)))
+    (toZ-ofZ (sfits-of (c .before .count-row-arg2 .given)))
     (c .count-row .ensures)
 
 add-count : tie.Need-add-count Inv-loop μ-loop

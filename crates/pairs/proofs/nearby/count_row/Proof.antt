@@ -44,7 +44,8 @@ add-j c = omega (arith, below (c .before .before))
 abbrev left : tie.Start Inv-loop μ-loop → ℕ → List Placed
 left s j =
     let a = s .args in
-    nearSites (a .e * a .e) (toZ w32 (ofZ w32 (a .x))) (toZ w32 (ofZ w32 (a .y))) (a .bx .now) (a .by .now) j (a .run .right)
+    nearSites (a .e * a .e) (toZ w32 (ofZ w32 (a .x))) (toZ w32 (ofZ w32 (a .y))) (a .bx .now) (a .by .now) j
+    (a .run .right)
 
 loop-again : tie.Need-loop-again Inv-loop μ-loop
 loop-again c =

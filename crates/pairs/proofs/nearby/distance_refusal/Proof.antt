@@ -15,7 +15,8 @@ count-all-requires c κs = both-in-order _ _ (sym (c .before .lists-refusal .ens
 returns-2 : tie.Need-returns-2
 returns-2 c =
     let e = c .before .before in
-    too-short _ _ _ _ _ (e .before .lists-refusal .ensures) (e .if1 .left) (c .before .count-all .ensures) (omega (arith, c .if2 .taken))
+    too-short _ _ _ _ _ (e .before .lists-refusal .ensures) (e .if1 .left) (c .before .count-all .ensures)
+    (omega (arith, c .if2 .taken))
 
 returns-3 : tie.Need-returns-3
 returns-3 c =

@@ -3,13 +3,12 @@ use mathlib.Core.Path.{sym, ap}
 use Prim.Native.Nat.{ℕ, _*_}
 use borrow.Author.Needs.{needs, sfits-of}
 use lib.Dec.{leb}
-use lib.IntN.{ℤ, pos}
-use lib.ListN.{getD}
+use lib.IntN.{ℤ}
 use mir.Facts.{toZ-ofZ}
 use Rattle.site.specs.Site.{squaredDistance}
 use Rattle.site.specs.SiteList.{site}
 use Rattle.site.proofs.Machine.{at₁, at₄}
-use Rattle.pairs.specs.Internal.{offset, near}
+use Rattle.pairs.specs.Internal.{offset, siteOf, near}
 use Rattle.pairs.proofs.Offset.{far-y, square-fits}
 use Rattle.pairs.proofs.nearby.is_near.Statement.{statement}
 use Rattle.pairs.proofs.nearby.is_near.Tie as tie
@@ -20,11 +19,13 @@ started c = c .before .before .before .before
 returns : tie.Need-returns
 returns c =
     let w = c .before in
+    let o = w .before .before in
     let s = started w in
+    let a = s .args in
     sym
-    (far-y (s .args .x) (s .args .y) (site (getD (s .args .bx .now) (s .args .j) (pos 0)) (getD (s .args .by .now) (s .args .j) (pos 0)) 0) (s .args .e)
+    (far-y (a .x) (a .y) (siteOf (a .bx .now) (a .by .now) (a .j)) (a .e)
     (s .pre .1) (s .pre .5) (s .fits .e .fits) (w .wrapping-sub-u64 .ok)
-    (at₁ offset (toZ-ofZ (sfits-of (w .before .before .before .offset-arg .given))) (w .before .before .offset .ensures .0)) (w .before .before .offset .ensures .1)
+    (at₁ offset (toZ-ofZ (sfits-of (o .before .offset-arg .given))) (o .offset .ensures .0)) (o .offset .ensures .1)
     (at₁ offset (toZ-ofZ (s .fits .y)) (w .before .offset2 .ensures .0)) (w .before .offset2 .ensures .1)
     (w .wrapping-sub-u64 .ensures) (c .if1 .taken))
 
@@ -46,7 +47,8 @@ returns-2 c =
     let s = started (c .before .before .before .before) in
     ap (λ (n : ℕ). leb n (s .args .e * s .args .e))
     (at₄ (λ (x y u v : ℤ). squaredDistance (site x y 0) (site u v 0)) (toZ-ofZ (s .fits .x)) (toZ-ofZ (s .fits .y))
-    (toZ-ofZ (sfits-of (c .before .before .squared-distance-arg .given))) (toZ-ofZ (sfits-of (c .before .squared-distance-arg2 .given)))
+    (toZ-ofZ (sfits-of (c .before .before .squared-distance-arg .given)))
+    (toZ-ofZ (sfits-of (c .before .squared-distance-arg2 .given)))
     (c .squared-distance .ensures))
 
 pub is-near-spec : {M : Type 1} → statement M

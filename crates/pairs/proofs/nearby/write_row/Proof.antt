@@ -15,7 +15,15 @@ use Rattle.sweep.specs.Strip.{Placed, pair}
 use Rattle.sweep.specs.Terms.{spotOf, spot}
 use Rattle.pairs.specs.Internal.{rowPairs}
 use Rattle.pairs.proofs.NearSites.{near-none, near-yes, near-no, near-asks}
-use Rattle.pairs.proofs.Written.{written-none, written-one, Writing, writing-starts, writing-room, writing-more, writing-ends}
+use Rattle.pairs.proofs.Written.{
+  written-none,
+  written-one,
+  Writing,
+  writing-starts,
+  writing-room,
+  writing-more,
+  writing-ends,
+}
 use Rattle.pairs.proofs.nearby.write_row.Statement.{statement}
 use Rattle.pairs.proofs.nearby.write_row.Tie as tie
 
@@ -60,12 +68,14 @@ next c p =
     (near-yes _ _ _ _ _ (c .before .before .loop .j) _ (c .before .loop-test .taken) (c .is-near .ensures) p)
 
 room : (c : tie.Then1 Inv-loop μ-loop)
-    → let l = c .before .before .before .loop in (l .at < length (l .first)) × (l .at < length (l .second)) × (l .at < 2 ^ 61)
+    → let l = c .before .before .before .loop in
+    (l .at < length (l .first)) × (l .at < length (l .second)) × (l .at < 2 ^ 61)
 room c =
     let l = c .before .before .before in
     let e = ap length (next (c .before) (c .if1 .taken)) in
     let r = l .loop .inv .room in
-    (omega (arith, r .in-first), omega (arith, r .in-second), omega (arith, r .in-first, l .loop .inv .same-first, started l .good))
+    let small : l .loop .at < 2 ^ 61 = omega (arith, r .in-first, l .loop .inv .same-first, started l .good) in
+    (omega (arith, r .in-first), omega (arith, r .in-second), small)
 
 mul-first : tie.Need-mul-first Inv-loop μ-loop
 mul-first c = omega (arith, room c .2)

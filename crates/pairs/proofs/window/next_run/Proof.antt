@@ -8,14 +8,17 @@ use Rattle.pairs.proofs.Offset.{run-next}
 use Rattle.pairs.proofs.window.next_run.Statement.{statement}
 use Rattle.pairs.proofs.window.next_run.Tie as tie
 
-learnt : (c : tie.After-offset) → c .offset .result ≡ offsetAt (c .before .before .args .a .now) (c .before .before .args .i)
+learnt : (c : tie.After-offset)
+    → let args = c .before .before .args in c .offset .result ≡ offsetAt (args .a .now) (args .i)
 learnt c = at₁ offset (toZ-ofZ (sfits-of (c .before .offset-arg .given))) (c .offset .ensures .0)
 
 returns : tie.Need-returns
 returns c =
-    let s = c .before .before .before .before .before in
-    run-next (s .args .a .now) (s .args .b .now) (s .args .e) (s .args .i) (s .args .last) (s .pre .1) (s .pre .2)
-    (learnt (c .before .before .before)) (c .before .before .less .ensures) (c .before .skip-below .ensures) (c .skip-below2 .ensures)
+    let o = c .before .before .before in
+    let s = o .before .before in
+    let a = s .args in
+    run-next (a .a .now) (a .b .now) (a .e) (a .i) (a .last) (s .pre .1) (s .pre .2) (learnt o)
+    (c .before .before .less .ensures) (c .before .skip-below .ensures) (c .skip-below2 .ensures)
 
 pub next-run-spec : {M : Type 1} → statement M
 next-run-spec =

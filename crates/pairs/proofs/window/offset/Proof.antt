@@ -9,7 +9,15 @@ use lib.Signed.{ltZ}
 use mir.Syntax.{w32, w64}
 use mir.Val.{SFits, toZ, ofZ}
 use Rattle.site.specs.Site.{gap}
-use Rattle.site.proofs.Machine.{cast-fits, cast-back, difference-fits, difference-back, size-small, unsigned-fits, positive}
+use Rattle.site.proofs.Machine.{
+  cast-fits,
+  cast-back,
+  difference-fits,
+  difference-back,
+  size-small,
+  unsigned-fits,
+  positive,
+}
 use Rattle.pairs.specs.Internal.{offset}
 use Rattle.pairs.proofs.window.offset.Statement.{statement}
 use Rattle.pairs.proofs.window.offset.Tie as tie
@@ -19,13 +27,18 @@ least-fits = record { sfits = omega arith }
 
 not-below : (x : ℤ) → SFits w32 x → ltZ (x -ℤ negsuc 2_147_483_647) (pos 0) ≡ false
 not-below (pos n) h = le-ltb (n + 2_147_483_648) 0 (omega arith)
-not-below (negsuc n) h = rw (le-ltb 2_147_483_648 (suc n) (omega (arith, h .sfits))) (le-ltb (2_147_483_648 - suc n) 0 (omega arith))
+not-below (negsuc n) h =
+    rw (le-ltb 2_147_483_648 (suc n) (omega (arith, h .sfits))) (le-ltb (2_147_483_648 - suc n) 0 (omega arith))
 
 small : (x : ℤ) → SFits w32 x → offset x < 2 ^ 32
 unfolding offset gap
 small x h = size-small x (negsuc 2_147_483_647) h least-fits
 
-back : {x : ℤ} (h : SFits w32 x) → toZ w64 (ofZ w64 (toZ w64 (ofZ w64 (toZ w32 (ofZ w32 x))) -ℤ negsuc 2_147_483_647)) ≡ x -ℤ negsuc 2_147_483_647
+-- What the code computes, before it is read without a sign.
+abbrev computed : ℤ → ℤ
+computed x = toZ w64 (ofZ w64 (toZ w64 (ofZ w64 (toZ w32 (ofZ w32 x))) -ℤ negsuc 2_147_483_647))
+
+back : {x : ℤ} (h : SFits w32 x) → computed x ≡ x -ℤ negsuc 2_147_483_647
 back {x} h = difference-back h least-fits (cast-back h) refl
 
 cast-result : tie.Need-cast-result
@@ -37,9 +50,10 @@ add-result c = difference-fits (c .fits .x) least-fits (cast-back (c .fits .x)) 
 cast-result-2 : tie.Need-cast-result-2
 cast-result-2 c =
     let x = c .args .x in
-    unsigned-fits (back (c .fits .x) ∙ positive (x -ℤ negsuc 2_147_483_647) (not-below x (c .fits .x))) (size-small x (negsuc 2_147_483_647) (c .fits .x) least-fits)
+    unsigned-fits (back (c .fits .x) ∙ positive (x -ℤ negsuc 2_147_483_647) (not-below x (c .fits .x)))
+    (size-small x (negsuc 2_147_483_647) (c .fits .x) least-fits)
 
-learnt : (x : ℤ) (h : SFits w32 x) → natAbs (toZ w64 (ofZ w64 (toZ w64 (ofZ w64 (toZ w32 (ofZ w32 x))) -ℤ negsuc 2_147_483_647))) ≡ offset x
+learnt : (x : ℤ) (h : SFits w32 x) → natAbs (computed x) ≡ offset x
 unfolding offset gap
 learnt x h = ap natAbs (back h)
 

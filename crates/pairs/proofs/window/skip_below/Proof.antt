@@ -1,4 +1,4 @@
--- `pairs::skip_below` meets its contract. The invariant: every offset from `from` up to the place reached is below the limit.
+-- `pairs::skip_below` meets its contract. The invariant: the offsets from `from` to the place reached are below it.
 use mathlib.Core.Path.{_≡_}
 use Prim.Native.Nat.{ℕ, _-_, _≤_, _<_}
 use native.Mathlib.Omega.{arith}
@@ -20,7 +20,8 @@ abbrev μ-loop : tie.MeasureT-loop
 loop-holds : tie.Need-loop-holds Inv-loop μ-loop
 loop-holds c = (omega arith, omega arith, between-none _ _)
 
-learnt : (c : tie.After-offset Inv-loop μ-loop) → c .offset .result ≡ offsetAt (c .before .before .before .before .args .xs .now) (c .before .before .before .loop .i)
+learnt : (c : tie.After-offset Inv-loop μ-loop)
+    → let l = c .before .before .before in c .offset .result ≡ offsetAt (l .before .args .xs .now) (l .loop .i)
 learnt c = at₁ offset (toZ-ofZ (sfits-of (c .before .offset-arg .given))) (c .offset .ensures .0)
 
 returns : tie.Need-returns Inv-loop μ-loop
