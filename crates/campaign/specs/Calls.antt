@@ -3,7 +3,7 @@ use mathlib.Core.Bool.{Bool, not, cond, _&&_}
 use mathlib.Core.List.{List, [], _++_}
 use Prim.Native.Nat.{ℕ, _*_, _-_}
 use lib.Dec.{ltb}
-use lib.ListN.{length, replicate, set}
+use lib.ListN.{length, replicate}
 use Rattle.site.specs.declared.Site.{Site}
 use Rattle.site.specs.Answer.{Answer, refused, answered, answerUnless, refuseIf, orElse}
 use Rattle.site.specs.SiteList.{Columns, sites}
@@ -21,7 +21,7 @@ use Rattle.campaign.specs.declared.Outcome.the-variants as outcome
 use Rattle.campaign.specs.declared.JobDone.{JobDone}
 use Rattle.campaign.specs.declared.Status.{Status}
 use Rattle.campaign.specs.declared.Status.the-variants as status
-use Rattle.campaign.specs.Grid.{lawfulEnds, stripAt, Job, markOf, settled, settledJobs, jobPairs, squaredStripGap}
+use Rattle.campaign.specs.Grid.{lawfulEnds, stripAt, Job, settled, settle, settledJobs, jobPairs, squaredStripGap}
 use Rattle.campaign.specs.Keeper.{firstEnds, secondEnds, campaignRefusal}
 
 -- "Opening tests for 1 to 6."
@@ -81,7 +81,7 @@ jobEntries c a b l j = bestK (c .k) (l ++ jobPairs (firstEnds c) (secondEnds c) 
 unfoldable pub afterJob : Campaign → ℕ → Job → Campaign
 afterJob c count j =
     campaignOf (c .k) count (c .«first_strips») (c .«second_strips») (c .«first_ends») (c .«second_ends»)
-    (set (c .marks) (markOf j) 1)
+    (settle (c .marks) j)
 
 -- "the campaign, whether it was swept or skipped, looks and distances" and the result columns; swept is 1, skipped 0.
 pub record JobValues : Type 0 where

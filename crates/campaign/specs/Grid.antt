@@ -5,7 +5,7 @@ use Prim.Native.Nat.{ℕ, zero, suc, _+_, _*_, _/_, _%_}
 use lib.Dec.{leb, ltb, eqb}
 use lib.IntN.{ℤ, pos}
 use lib.Signed.{ltZ}
-use lib.ListN.{length, getD}
+use lib.ListN.{length, getD, set}
 use Rattle.order.specs.Order.{ascending}
 use Rattle.order.specs.Lists.{keep, last}
 use Rattle.site.specs.declared.Site.{Site}
@@ -50,6 +50,10 @@ markOf j = 32 * j .first + j .second
 -- "and 1 means settled."
 unfoldable pub settled : List ℕ → Job → Bool
 settled marks j = eqb (getD marks (markOf j) 0) 1
+
+-- The marks with a job settled.
+abbrev pub settle : List ℕ → Job → List ℕ
+settle marks j = set marks (markOf j) 1
 
 unfoldable pub settledJobs : Campaign → List Job
 settledJobs c = keep (settled (c .marks)) (jobs (c .«first_strips») (c .«second_strips»))

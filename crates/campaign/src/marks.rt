@@ -4,9 +4,9 @@ use super::ends;
 ghost use mathlib.Core.Path.{_≡_};
 ghost use mathlib.Core.List.{map};
 ghost use Prim.Native.Nat.{_≤_, _<_};
-ghost use lib.ListN.{length, set};
+ghost use lib.ListN.{length};
 ghost use Rattle.order.specs.Lists.{keep};
-ghost use Rattle.campaign.specs.Grid.{jobOf, countFrom, jobs, markOf, lawfulMarks, settled};
+ghost use Rattle.campaign.specs.Grid.{jobOf, countFrom, jobs, lawfulMarks, settled, settle};
 ghost use Rattle.campaign.specs.Internal.{lawfulMark, Cuts, Tally};
 
 // Whether mark `i` is 0, or 1 at a job.
@@ -55,7 +55,7 @@ pub(super) fn is_settled(marks: &[u8], a: usize, b: usize) -> bool
 // The marks with a job settled.
 pub(super) fn settle(marks: [u8; 1024], a: usize, b: usize) -> [u8; 1024]
     requires { ⌜ (a < 32) × (b < 32) ⌝ }
-    ensures { λ r. ⌜ r ≡ set marks (markOf (jobOf a b)) 1 ⌝ }
+    ensures { λ r. ⌜ r ≡ settle marks (jobOf a b) ⌝ }
 {
     let mut settled = marks;
     settled[32 * a + b] = 1;
