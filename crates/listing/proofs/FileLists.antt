@@ -64,10 +64,10 @@ module _ (i : ℕ) {s t : Site} (e : s ≡ t) where
   number-stored ns = ap (set ns i) (ap (λ r. r .number) e)
 
 -- A place of an accepted file is never refused: the site there is read.
-module _ (file : List ℕ) (w : Which) (i : ℕ) (r : SiteRead) (told : siteReadAnswer r ≡ siteAnswer file w i)
+module _ (file : List ℕ) (w : Which) (i : ℕ) (r : SiteRead) (answer : siteReadAnswer r ≡ siteAnswer file w i)
     (none : contentsRefusal file ≡ 0) (h : i < countIn file w) where
   found : siteReadAnswer r ≡ answered (siteAt (sitesIn file w) i)
-  found = told ∙ site-found file w i none h
+  found = answer ∙ site-found file w i none h
 
   pub found-site : {s : Site} → r ≡ Found s → s ≡ siteAt (sitesIn file w) i
   unfolding siteReadAnswer

@@ -92,16 +92,16 @@ module _ (way : Way) (a b : Columns) (k : ℕ) (r : Results) {buffer : List ℕ}
   second : (length (b .number) ≤ 65_535) × Level b
   second = level b (both-accepted a b (lawful .lists) .1)
 
-  module _ {l : Listed} (s : Results) (told : listedAnswer l s ≡ kListAnswer way a b k r) where
+  module _ {l : Listed} (s : Results) (answer : listedAnswer l s ≡ kListAnswer way a b k r) where
     pub never-refused : {n : ℕ} → l ≡ Refused n → ⊥
     unfolding listedAnswer kListAnswer
-    never-refused {n} e = refused-number (kListRefusal a b k r) n _ (sym (ap (λ x. listedAnswer x s) e) ∙ told) .1 none
+    never-refused {n} e = refused-number (kListRefusal a b k r) n _ (sym (ap (λ x. listedAnswer x s) e) ∙ answer) .1 none
 
     module _ {count : ℕ} {looks : Looks} {distances : Distances} (e : l ≡ Entries count looks distances) where
       values : (s ≡ holding found r) × (count ≡ length found)
       unfolding listedAnswer kListAnswer found
       values =
-          let v = sym (answered-values (kListRefusal a b k r) _ _ (sym told ∙ ap (λ x. listedAnswer x s) e) .1) in
+          let v = sym (answered-values (kListRefusal a b k r) _ _ (sym answer ∙ ap (λ x. listedAnswer x s) e) .1) in
           (ap (λ x. x .results) v, ap (λ x. x .count) v)
 
       -- What the text is written from.

@@ -1,4 +1,4 @@
--- `pairs::skip_below` meets its contract. The invariant: the offsets from `from` to the place reached are below it.
+-- `pairs::skip_below` meets its contract. The invariant: the offsets at the places passed are below the limit.
 use mathlib.Core.Path.{_≡_}
 use Prim.Native.Nat.{ℕ, _-_, _≤_, _<_}
 use native.Mathlib.Omega.{arith}
