@@ -86,10 +86,6 @@ module _ (rows cols : ℕ) where
 abbrev pub bookPairs : List Site → List Site → Book → List Entry
 bookPairs a b book = jobsPairs (book .ends) (book .ends') a b (book .done)
 
-pub length-book : (a b : List Site) (book : Book) → length (bookEntries a b book) ≤ book .k
-unfolding bookEntries bestK
-length-book a b book = omega (arith, length-best rankBefore (book .k) (bookPairs a b book))
-
 -- A job of the book's grid.
 abbrev pub InBook : Book → Job → Type 0
 InBook book = InGrid (length (book .ends)) (length (book .ends'))
@@ -115,3 +111,8 @@ module _ (a b : List Site) (book : Book) (o : LawfulBook a b book) where
       best-perm rank-order (book .k)
       (List·Permᴰ·trans (jobs-pairs-perm (book .ends) (book .ends') a b all)
       (Permᴰ·symm (grid-pairs (book .ends) (book .ends') a b (o .cut) (o .cut'))))
+
+-- There are at most K.
+pub length-book : (a b : List Site) (book : Book) → length (bookEntries a b book) ≤ book .k
+unfolding bookEntries bestK
+length-book a b book = omega (arith, length-best rankBefore (book .k) (bookPairs a b book))

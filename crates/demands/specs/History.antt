@@ -13,15 +13,15 @@ use Rattle.campaign.specs.Calls.{jobAnswer}
 use Rattle.demands.specs.Book.{Book, bookRefusal}
 
 -- What a job or a status is lent beside B's campaign: B's two lists and columns, other lists, or other columns.
-pub data Lent : Type 0 where
-  own : Lent
-  otherLists : Columns → Columns → Lent
-  otherColumns : Columns → Columns → Results → Lent
+pub data Lending : Type 0 where
+  own : Lending
+  otherLists : Columns → Columns → Lending
+  otherColumns : Columns → Columns → Results → Lending
 
 -- A call. A job and a status get B's campaign as the last call left it.
 pub data Call : Type 0 where
-  job : Lent → Job → Way → Call
-  status : Lent → Call
+  job : Lending → Job → Way → Call
+  status : Lending → Call
   opening : Columns → Columns → ℕ → List ℕ → List ℕ → Results → Call
 
 -- What B holds: its campaign and its result columns.
