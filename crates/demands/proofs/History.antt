@@ -5,7 +5,7 @@ use mathlib.Core.List.{List, [], _∷_, _++_, flatMap, List·Memᴰ·head, List�
 use Prim.Native.Nat.{ℕ, zero, suc, _-_, _≤_, _<_}
 use native.Mathlib.Omega.{arith}
 use lib.Dec.{ltb, eqb}
-use lib.ListN.{length, replicate, set, length-replicate}
+use lib.ListN.{length, replicate, length-replicate}
 use lib.Seq.{take-append-seam}
 use borrow.Author.Tests.{ne-eqb}
 use Rattle.order.specs.Lists.{Distinct}
@@ -25,7 +25,7 @@ use Rattle.entry.specs.Results.{Results, entriesOf, holding, roomFor}
 use Rattle.entry.proofs.Rank.{rank-order}
 use Rattle.entry.proofs.Columns.{entries-holding, room-holding}
 use Rattle.sweep.specs.declared.Way.{Way}
-use Rattle.campaign.specs.Grid.{lawfulEnds, Job, markOf, settled, jobPairs, jobsPairs}
+use Rattle.campaign.specs.Grid.{lawfulEnds, Job, markOf, settled, settle, jobPairs, jobsPairs}
 use Rattle.campaign.specs.Keeper.{firstEnds, secondEnds}
 use Rattle.campaign.specs.Calls.{slots, newCampaign, openRefusal, jobEntries, afterJob, JobValues, jobValues, jobAnswer}
 use Rattle.campaign.proofs.GridLaws.{InGrid, same-job, jobs-pairs-snoc}
@@ -60,7 +60,7 @@ module _ (a b : Columns) (bench : Bench) (book : Book) (i : Invariant a b bench 
 
     -- The marks tell the settled jobs and this one.
     job-settles : (x : Job) → InBook book x
-        → settled (set (bench .campaign .marks) (markOf j) 1) x ≡ isDone x (book .done ++ (j ∷ []))
+        → settled (settle (bench .campaign .marks) j) x ≡ isDone x (book .done ++ (j ∷ []))
     job-settles x h =
         byTest (isDone x (j ∷ []))
         (λ t.
