@@ -23,7 +23,16 @@ use Rattle.site_file.specs.Calls.{readRefusal}
 use Rattle.site_file.specs.RoundTrip.{Numbers}
 use Rattle.site_file.proofs.File.{list-length}
 use Rattle.site_file.proofs.Contents.{inside, read-laid, read-content}
-use Rattle.site_file.proofs.Words.{Bytes, digits, word-past, signed-back, unsigned-back, coordinate-fits, bytes-back, word-fits}
+use Rattle.site_file.proofs.Words.{
+  Bytes,
+  digits,
+  word-past,
+  signed-back,
+  unsigned-back,
+  coordinate-fits,
+  bytes-back,
+  word-fits,
+}
 
 -- A site that can be written: inside the limits, with a number of 32 bits.
 abbrev pub Fit : Site → Type 0
@@ -36,7 +45,8 @@ site-length s = refl
 -- A site that was written is read.
 site-words : (s : Site) (q : List ℕ) → unsigned (s .x) < 4_294_967_296 → unsigned (s .y) < 4_294_967_296
     → s .number < 4_294_967_296
-    → (word (siteBytes s ++ q) 0 ≡ unsigned (s .x)) × (word (siteBytes s ++ q) 4 ≡ unsigned (s .y)) × (word (siteBytes s ++ q) 8 ≡ s .number)
+    → (word (siteBytes s ++ q) 0 ≡ unsigned (s .x)) × (word (siteBytes s ++ q) 4 ≡ unsigned (s .y))
+    × (word (siteBytes s ++ q) 8 ≡ s .number)
 unfolding siteBytes bytes4 word
 site-words s q hx hy hn = (digits (unsigned (s .x)) hx, digits (unsigned (s .y)) hy, digits (s .number) hn)
 
@@ -103,7 +113,9 @@ body-back l at zero h k = refl
 body-back l at (suc n) h k =
     let e : 12 * suc n ≡ 12 + 12 * n = omega arith in
     rw (site-back l at h (omega arith), body-back l (at + 12) n h (omega arith), e)
-    (sym (take-add 12 (12 * n) (drop at l) ∙ ap (λ (r : List ℕ). take 12 (drop at l) ++ take (12 * n) r) (drop-drop 12 at l)))
+    (sym
+    (take-add 12 (12 * n) (drop at l)
+    ∙ ap (λ (r : List ℕ). take 12 (drop at l) ++ take (12 * n) r) (drop-drop 12 at l)))
 
 -- The sites of an accepted list can be written.
 all-both : {A : Type 0} (P Q : A → Type 0) (l : List A) → All P l → All Q l → All (λ a. P a × Q a) l

@@ -96,7 +96,8 @@ module _ (z : ℤ) (h : SFits w32 z) where
   unsigned-sum-back t = toZ-ofZ (unsigned-sum-fits t) ∙ unsigned-sum t
 
   pub unsigned-cast : ltZ (toZ w32 (ofZ w32 z)) (pos 0) ≡ true
-      → T (nonNeg (toZ w64 (ofZ w64 (toZ w64 (ofZ w64 (toZ w32 (ofZ w32 z))) +ℤ pos 4_294_967_296)))) × Fits w32 (natAbs (toZ w64 (ofZ w64 (toZ w64 (ofZ w64 (toZ w32 (ofZ w32 z))) +ℤ pos 4_294_967_296))))
+      → T (nonNeg (toZ w64 (ofZ w64 (toZ w64 (ofZ w64 (toZ w32 (ofZ w32 z))) +ℤ pos 4_294_967_296))))
+      × Fits w32 (natAbs (toZ w64 (ofZ w64 (toZ w64 (ofZ w64 (toZ w32 (ofZ w32 z))) +ℤ pos 4_294_967_296))))
   unsigned-cast t = nonneg-cast (unsigned z) (unsigned-fits z h) (unsigned-sum-back t)
 
   pub unsigned-result : ltZ (toZ w32 (ofZ w32 z)) (pos 0) ≡ true

@@ -15,7 +15,16 @@ use Rattle.site.specs.Answer.{refused, answered, answerUnless, refuseIf, orElse
 use Rattle.site.specs.SiteList.{siteAt}
 use Rattle.site.specs.Refusal.{contentRefusal}
 use Rattle.site.proofs.Cases.{byTest, and-first, and-second, or-first, or-second}
-use Rattle.site.proofs.Answer.{answer-values, answer-refused, first-refused, next-decides, orElse-first, orElse-second, no-fault, fault-none}
+use Rattle.site.proofs.Answer.{
+  answer-values,
+  answer-refused,
+  first-refused,
+  next-decides,
+  orElse-first,
+  orElse-second,
+  no-fault,
+  fault-none,
+}
 use Rattle.site_file.specs.Bytes.{word}
 use Rattle.site_file.specs.declared.Which.{Which}
 use Rattle.site_file.specs.declared.Which.the-variants.{First, Second}

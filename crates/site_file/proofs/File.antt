@@ -129,7 +129,8 @@ unfolding siteBytes bytes4
 site-stored l at n x y h hx hy pa e pb f g =
     let u : ℕ = unsigned x in
     let v : ℕ = unsigned y in
-    let one : stored (at + 8) (bytes4 n) (stored (at + 4) (bytes4 v) (stored at (bytes4 u) l)) ≡ stored (at + 8) (bytes4 n) (stored at (bytes4 u ++ bytes4 v) l) =
+    let one : stored (at + 8) (bytes4 n) (stored (at + 4) (bytes4 v) (stored at (bytes4 u) l))
+    ≡ stored (at + 8) (bytes4 n) (stored at (bytes4 u ++ bytes4 v) l) =
     rw (stored-after at (at + 4) (bytes4 u) (bytes4 v) l refl (omega arith)) in
     rw (g, f, e, pa ∙ ap unsigned (toZ-ofZ hx), pb ∙ ap unsigned (toZ-ofZ hy))
     (one ∙ stored-after at (at + 8) (bytes4 u ++ bytes4 v) (bytes4 n) l refl (omega arith))
@@ -140,9 +141,11 @@ module _ (c : Columns) (level : Level c) where
       → SFits w32 (getD (c .x) i (pos 0)) → SFits w32 (getD (c .y) i (pos 0))
       → m ≡ stored at
       (siteBytes
-      (site (toZ w32 (ofZ w32 (getD (c .x) i (pos 0)))) (toZ w32 (ofZ w32 (getD (c .y) i (pos 0)))) (getD (c .number) i 0)))
+      (site (toZ w32 (ofZ w32 (getD (c .x) i (pos 0)))) (toZ w32 (ofZ w32 (getD (c .y) i (pos 0))))
+      (getD (c .number) i 0)))
       l
-      → stored (at + 12) (flatMap siteBytes (drop (i + 1) (sites c))) m ≡ stored at (flatMap siteBytes (drop i (sites c))) l
+      → stored (at + 12) (flatMap siteBytes (drop (i + 1) (sites c))) m
+      ≡ stored at (flatMap siteBytes (drop i (sites c))) l
   unfolding flatMap siteBytes bytes4
   sites-step l at i h lt hx hy e =
       let left = drop-cons (sites c) i nowhere (omega (arith, sites-length c level)) in
@@ -151,4 +154,5 @@ module _ (c : Columns) (level : Level c) where
 
   pub sites-end : (l : List ℕ) (at i : ℕ) → length (c .x) ≤ i → l ≡ stored at (flatMap siteBytes (drop i (sites c))) l
   unfolding flatMap
-  sites-end l at i h = rw (drop-of-length-le (sites c) {i = i} (omega (arith, sites-length c level))) (sym (stored-none at l))
+  sites-end l at i h =
+      rw (drop-of-length-le (sites c) {i = i} (omega (arith, sites-length c level))) (sym (stored-none at l))

@@ -18,7 +18,15 @@ use Rattle.site_file.specs.declared.Which.{Which}
 use Rattle.site_file.specs.declared.Which.the-variants.{First, Second}
 use Rattle.site_file.specs.Bytes.{bytes4, word}
 use Rattle.site_file.specs.File.{siteBytes, contentsBytes, fileBytes, startIn, countIn, sitesFrom, sitesIn}
-use Rattle.site_file.specs.Calls.{WriteValues, writeValues, writeRefusal, writeAnswer, contentsRefusal, readRefusal, siteAnswer}
+use Rattle.site_file.specs.Calls.{
+  WriteValues,
+  writeValues,
+  writeRefusal,
+  writeAnswer,
+  contentsRefusal,
+  readRefusal,
+  siteAnswer,
+}
 use Rattle.site_file.specs.RoundTrip.{EveryOutputAccepted, EveryAcceptedIsOutput}
 use Rattle.site_file.proofs.Words.{Bytes, digits, bytes-back}
 use Rattle.site_file.proofs.File.{from-length, list-length}
@@ -28,14 +36,16 @@ use Rattle.site_file.proofs.Bodies.{Fit, sites-read, body-back, sites-f
 
 -- The four words of a file's contents.
 contents-words : (n m : ℕ) → n ≤ 65_535 → m ≤ 65_535 → (r : List ℕ)
-    → (word (contentsBytes n m ++ r) 0 ≡ 16) × (word (contentsBytes n m ++ r) 4 ≡ n) × (word (contentsBytes n m ++ r) 8 ≡ 16 + 12 * n) × (word (contentsBytes n m ++ r) 12 ≡ m)
+    → (word (contentsBytes n m ++ r) 0 ≡ 16) × (word (contentsBytes n m ++ r) 4 ≡ n)
+    × (word (contentsBytes n m ++ r) 8 ≡ 16 + 12 * n) × (word (contentsBytes n m ++ r) 12 ≡ m)
 unfolding contentsBytes bytes4 word
 contents-words n m hn hm r =
     (refl, digits n (omega arith), digits (16 + 12 * n) (omega arith), digits m (omega arith))
 
 -- What a file of two lists says.
 module _ (a b : List Site) (hn : length a ≤ 65_535) (hm : length b ≤ 65_535) where
-  file-words : (word (fileBytes a b) 0 ≡ 16) × (word (fileBytes a b) 4 ≡ length a) × (word (fileBytes a b) 8 ≡ 16 + 12 * length a) × (word (fileBytes a b) 12 ≡ length b)
+  file-words : (word (fileBytes a b) 0 ≡ 16) × (word (fileBytes a b) 4 ≡ length a)
+      × (word (fileBytes a b) 8 ≡ 16 + 12 * length a) × (word (fileBytes a b) 12 ≡ length b)
   unfolding fileBytes
   file-words = contents-words (length a) (length b) hn hm (flatMap siteBytes a ++ flatMap siteBytes b)
 
@@ -50,7 +60,8 @@ module _ (a b : List Site) (hn : length a ≤ 65_535) (hm : length b ≤ 65_535)
   unfolding fileBytes
   file-bodies h k =
       let c : List ℕ = contentsBytes (length a) (length b) in
-      let e : c ++ (flatMap siteBytes a ++ flatMap siteBytes b) ≡ (c ++ flatMap siteBytes a) ++ (flatMap siteBytes b ++ []) =
+      let e : c ++ (flatMap siteBytes a ++ flatMap siteBytes b)
+      ≡ (c ++ flatMap siteBytes a) ++ (flatMap siteBytes b ++ []) =
       rw (append-nil (flatMap siteBytes b), append-assoc c (flatMap siteBytes a) (flatMap siteBytes b)) in (
         sites-read a c (flatMap siteBytes b) 16 (contents-length (length a) (length b)) h,
         rw e (sites-read b (c ++ flatMap siteBytes a) [] (16 + 12 * length a) (body-end a b) k),
@@ -117,7 +128,8 @@ every-output-accepted a b buffer v ha hb h =
 contents-back : (file : List ℕ) → Bytes file → 16 ≤ length file
     → bytes4 (word file 0) ++ (bytes4 (word file 4) ++ (bytes4 (word file 8) ++ bytes4 (word file 12))) ≡ take 16 file
 contents-back file h k =
-    let parts : take 16 file ≡ take 4 file ++ (take 4 (drop 4 file) ++ (take 4 (drop 8 file) ++ take 4 (drop 12 file))) =
+    let parts : take 16 file
+    ≡ take 4 file ++ (take 4 (drop 4 file) ++ (take 4 (drop 8 file) ++ take 4 (drop 12 file))) =
     take-add 4 12 file
     ∙ ap (λ (r : List ℕ). take 4 file ++ r)
     (take-add 4 8 (drop 4 file)

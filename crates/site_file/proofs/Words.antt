@@ -2,7 +2,15 @@
 use mathlib.Core.Path.{_≡_, refl, sym, ap, _∙_}
 use mathlib.Core.List.{List, [], _∷_, _++_}
 use Prim.Native.Nat.{ℕ, zero, suc, _+_, _*_, _-_, _/_, _%_, _≤_, _<_}
-use native.Mathlib.Nat.{add-zero, zero-add, mod-eq-of-lt, div-eq-of-lt, div-div-eq-div-mul, add-mul-div-left, add-mul-mod-self-left}
+use native.Mathlib.Nat.{
+  add-zero,
+  zero-add,
+  mod-eq-of-lt,
+  div-eq-of-lt,
+  div-div-eq-div-mul,
+  add-mul-div-left,
+  add-mul-mod-self-left,
+}
 use native.Mathlib.Omega.{arith}
 use borrow.Author.Tests.{leb-true}
 use lib.Dec.{ltb, leb}

@@ -12,7 +12,17 @@ use Rattle.site.specs.declared.Site.{Site}
 use Rattle.site.specs.Answer.{refused, answered, afterwards}
 use Rattle.site.specs.SiteList.{Columns, sites}
 use Rattle.site.specs.Refusal.{listRefusal, listsRefusal}
-use Rattle.site.proofs.Answer.{answer-values, answer-refused, after-refused, after-answered, first-refused, next-decides, orElse-first, orElse-second, no-fault}
+use Rattle.site.proofs.Answer.{
+  answer-values,
+  answer-refused,
+  after-refused,
+  after-answered,
+  first-refused,
+  next-decides,
+  orElse-first,
+  orElse-second,
+  no-fault,
+}
 use Rattle.site.proofs.Accepted.{accepted-few, accepted-length, both-accepted}
 use Rattle.site_file.specs.Bytes.{bytes4}
 use Rattle.site_file.specs.File.{siteBytes, contentsBytes, fileBytes}
@@ -49,15 +59,16 @@ contents-length n m = refl
 module _ (a b : List Site) where
   pub body-end : length (contentsBytes (length a) (length b) ++ flatMap siteBytes a) ≡ 16 + 12 * length a
   body-end =
-      omega
-      (arith, length-append (contentsBytes (length a) (length b)) (flatMap siteBytes a), contents-length (length a) (length b), body-length a)
+      let c : List ℕ = contentsBytes (length a) (length b) in
+      omega (arith, length-append c (flatMap siteBytes a), contents-length (length a) (length b), body-length a)
 
   pub file-length : length (fileBytes a b) ≡ 16 + 12 * length a + 12 * length b
   unfolding fileBytes
   file-length =
       let c : List ℕ = contentsBytes (length a) (length b) in
-      omega
-      (arith, length-append c (flatMap siteBytes a ++ flatMap siteBytes b), length-append (flatMap siteBytes a) (flatMap siteBytes b), contents-length (length a) (length b), body-length a, body-length b)
+      let first : List ℕ = flatMap siteBytes a in
+      rw (← append-assoc c first (flatMap siteBytes b))
+      (omega (arith, length-append (c ++ first) (flatMap siteBytes b), body-end, body-length b))
 
   -- Contents and two bodies stored one after another are a file.
   file-stored : (l : List ℕ) → 16 + 12 * length a + 12 * length b ≤ length l

@@ -1,5 +1,5 @@
 -- An answer crosses: in its values, or in its number and what was there before.
-use mathlib.Core.Path.{_≡_, refl, sym, ap, _∙_}
+use mathlib.Core.Path.{_≡_, refl, ap, _∙_}
 use Prim.Native.Nat.{ℕ}
 use lib.IntN.{ℤ}
 use mir.Syntax.{w32}
@@ -9,10 +9,6 @@ use Rattle.column.specs.Lent.{Held}
 use Rattle.site.specs.SiteList.{site}
 use Rattle.site.specs.Answer.{Answer, refused, answered, numberOf, afterwards}
 use Rattle.vumlintel.specs.Crosses.{Crosses}
-
--- In the arm of a case `s` of an answer `r`, what `s` tells is what the call ensures.
-pub in-case : {R T : Type 0} (told : R → T) {r s : R} {t : T} → r ≡ s → told r ≡ t → told s ≡ t
-in-case told case ensures = sym (ap told case) ∙ ensures
 
 module _ {A : Type 0} {answer : Answer A} where
   pub crossed-values : {v : A} {places : Held A} → answered v ≡ answer → places .exit ≡ v → Crosses answer 0 places

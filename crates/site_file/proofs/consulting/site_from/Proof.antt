@@ -4,7 +4,14 @@ use native.Mathlib.Omega.{arith}
 use borrow.Author.Needs.{needs}
 use lib.ListN.{length}
 use Rattle.site_file.specs.Calls.{siteReadAnswer}
-use Rattle.site_file.proofs.ReaderAnswer.{held-refused, held-first-wrong, held-second-wrong, held-past, held-found, held-reach}
+use Rattle.site_file.proofs.ReaderAnswer.{
+  held-refused,
+  held-first-wrong,
+  held-second-wrong,
+  held-past,
+  held-found,
+  held-reach,
+}
 use Rattle.site_file.proofs.consulting.site_from.Statement.{statement}
 use Rattle.site_file.proofs.consulting.site_from.Tie as tie
 

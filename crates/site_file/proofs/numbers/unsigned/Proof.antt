@@ -1,6 +1,12 @@
 -- `unsigned` meets its contract, for every `i32`.
 use Rattle.site.proofs.Machine.{cast-fits}
-use Rattle.site_file.proofs.Bytes.{unsigned-sum-fits, unsigned-cast, unsigned-result, unsigned-same-cast, unsigned-same-result}
+use Rattle.site_file.proofs.Bytes.{
+  unsigned-sum-fits,
+  unsigned-cast,
+  unsigned-result,
+  unsigned-same-cast,
+  unsigned-same-result,
+}
 use Rattle.site_file.proofs.numbers.unsigned.Statement.{statement}
 use Rattle.site_file.proofs.numbers.unsigned.Tie as tie
 

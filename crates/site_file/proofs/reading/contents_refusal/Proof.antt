@@ -1,7 +1,15 @@
 -- `contents_refusal` meets its contract.
 use mathlib.Core.Path.{_∙_}
 use native.Mathlib.Omega.{arith}
-use Rattle.site_file.proofs.Contents.{short-file, first-long, second-long, first-start-wrong, second-start-wrong, length-wrong, contents-right}
+use Rattle.site_file.proofs.Contents.{
+  short-file,
+  first-long,
+  second-long,
+  first-start-wrong,
+  second-start-wrong,
+  length-wrong,
+  contents-right,
+}
 use borrow.Author.Needs.{needs}
 use Rattle.site_file.proofs.reading.contents_refusal.Statement.{statement}
 use Rattle.site_file.proofs.reading.contents_refusal.Tie as tie

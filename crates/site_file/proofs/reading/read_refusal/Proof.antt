@@ -42,5 +42,7 @@ read-refusal-spec =
     (λ c. search needs)
     (λ c κs. search needs)
     (λ c. search needs)
-    (λ c κs. let g = known (c .before .before .before .before .before) in omega (arith, c .word-at3 .ensures, c .before .word-at2 .ensures))
+    (λ c κs.
+    let g = known (c .before .before .before .before .before) in
+    omega (arith, c .word-at3 .ensures, c .before .word-at2 .ensures))
     returns-3)

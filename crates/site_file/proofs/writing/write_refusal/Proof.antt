@@ -10,7 +10,8 @@ use Rattle.site_file.proofs.writing.write_refusal.Tie as tie
 
 -- Two accepted lists are not long.
 few : (c : tie.Else1)
-    → (length (c .before .before .before .before .args .ax .now) ≤ 65_535) × (length (c .before .before .before .before .args .bx .now) ≤ 65_535)
+    → (length (c .before .before .before .before .args .ax .now) ≤ 65_535)
+    × (length (c .before .before .before .before .args .bx .now) ≤ 65_535)
 few c = both-few _ _ (sym (c .before .lists-refusal .ensures) ∙ c .if1 .left)
 
 returns : tie.Need-returns

@@ -34,18 +34,22 @@ unfolding numberOf afterwards
 job-refused (refused number) e some campaign = sym campaign
 job-refused (answered values) e some campaign = absurd (some e)
 
+abbrev called : tie.After-cross-done → tie.After-job
+called c = c .before .before .before .before .before .before .before .before .before .before .before
+
 returns : tie.Need-returns
 returns c =
-    let call = c .before .before .before .before .before .before .before .before .before .before .before .before .job .ensures in
-    let crossed = c .before .cross-done .ensures in
-    let number = crossed _ .number ∙ ap numberOf (call .0) in
-    job-crossed _ call crossed refl (job-refused _ number (c .if1 .taken) (call .1 .0))
+    let crossed = c .before in
+    let call = called crossed .job .ensures in
+    let number = crossed .cross-done .ensures _ .number ∙ ap numberOf (call .0) in
+    job-crossed _ call (crossed .cross-done .ensures) refl (job-refused _ number (c .if1 .taken) (call .1 .0))
 
 returns-2 : tie.Need-returns-2
 returns-2 c =
     let test = c .before .before .before .before .before .before .before .before in
-    let call = test .before .before .before .before .before .before .before .before .before .before .before .before .job .ensures in
-    job-crossed _ call (test .before .cross-done .ensures) (test .if1 .left) (c .put .ensures)
+    let crossed = test .before in
+    let call = called crossed .job .ensures in
+    job-crossed _ call (crossed .cross-done .ensures) (test .if1 .left) (c .put .ensures)
 
 pub job-spec : {M : Type 1} → statement M
 job-spec =
