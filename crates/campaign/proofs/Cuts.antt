@@ -9,10 +9,10 @@ use lib.ListN.{length, getD, replicate, length-replicate, List·getD-eq-default}
 use borrow.Author.Tests.{leb-true, leb-false}
 use Rattle.order.proofs.Order.{byTest}
 use Rattle.site.specs.declared.Site.{Site}
-use Rattle.site.proofs.Columns.{nowhere}
+use Rattle.site.proofs.SiteList.{nowhere}
 use Rattle.campaign.specs.Grid.{lawfulEnds}
 use Rattle.campaign.specs.Internal.{lastEnd, stripFrom, stripTo, Cuts, Cutting}
-use Rattle.campaign.proofs.CutLaws.{Cut, lawful-cut, strip-inside}
+use Rattle.campaign.proofs.LawfulEnds.{Cut, lawful-cut, strip-inside}
 
 -- Lawful for a list of at most 65,535 sites.
 pub lawful-cuts : (n : ℕ) (ends : List ℕ) → lawfulEnds n ends ≡ true → n ≤ 65_535 → Cuts ends

@@ -4,7 +4,7 @@ use mathlib.Core.List.{List, [], _∷_, flatMap, zipWith}
 use Prim.Native.Nat.{ℕ, _*_, _-_}
 use lib.IntN.{pos}
 use Rattle.order.specs.Order.{lex, ascending}
-use Rattle.order.specs.Best.{insert, sort}
+use Rattle.order.specs.Sort.{insert, sort}
 use Rattle.order.specs.Lists.{all, keep, last, sum}
 use Rattle.column.specs.Column.{overwritten}
 use Rattle.site.specs.Answer.{Answer, refused, answered, answerUnless, afterwards, orElse}
@@ -35,7 +35,7 @@ use Rattle.campaign.specs.Grid.{
   rangeGap,
   squaredStripGap,
 }
-use Rattle.campaign.specs.Keeper.{firstEnds, secondEnds, soundEntry, sound, campaignRefusal}
+use Rattle.campaign.specs.Soundness.{firstEnds, secondEnds, soundEntry, sound, campaignRefusal}
 use Rattle.campaign.specs.Calls.{slots, newCampaign, jobRefusal, skips, jobEntries, afterJob, JobValues, jobAnswer}
 
 -- What a job answers, in one number: the refusal's, or 100 where it was swept and 200 where it was skipped.

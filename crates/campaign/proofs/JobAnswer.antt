@@ -18,7 +18,7 @@ use Rattle.entry.specs.declared.Entry.{Entry}
 use Rattle.entry.specs.Entry.{bestK}
 use Rattle.entry.specs.Results.{Results, entriesOf, holding, roomFor}
 use Rattle.entry.proofs.Rank.{rank-order}
-use Rattle.entry.proofs.Columns.{length-entries, last-distance-column, holding-self}
+use Rattle.entry.proofs.Results.{length-entries, last-distance-column, holding-self}
 use Rattle.sweep.specs.declared.Way.{Way}
 use Rattle.sweep.specs.declared.Swept.{Swept}
 use Rattle.sweep.specs.Strip.{Placed, strip, pairs}
@@ -26,14 +26,14 @@ use Rattle.sweep.specs.Scan.{beyond}
 use Rattle.sweep.specs.Sweep.{sweep}
 use Rattle.sweep.specs.Terms.{SweptTo}
 use Rattle.sweep.proofs.ScanLaws.{beyond-under}
-use Rattle.sweep.proofs.StripLaws.{leftOf, strip-sorted}
+use Rattle.sweep.proofs.LeftOf.{leftOf, strip-sorted}
 use Rattle.sweep.proofs.SweepLaws.{sweep-sorted}
 use Rattle.campaign.specs.declared.Campaign.{Campaign}
 use Rattle.campaign.specs.declared.Outcome.the-variants as outcome
 use Rattle.campaign.specs.declared.JobDone.{JobDone}
 use Rattle.campaign.specs.declared.Strip.{Strip}
 use Rattle.campaign.specs.Grid.{stripAt, jobOf, jobPairs, squaredStripGap}
-use Rattle.campaign.specs.Keeper.{firstEnds, secondEnds}
+use Rattle.campaign.specs.Soundness.{firstEnds, secondEnds}
 use Rattle.campaign.specs.Calls.{jobRefusal, skips, jobEntries, afterJob, JobValues, jobValues, jobAnswer, jobDoneAnswer}
 use Rattle.campaign.specs.Internal.{stripFrom, stripTo, StripOf, JobAsked}
 use Rattle.site.proofs.Accepted.{accepted-order}

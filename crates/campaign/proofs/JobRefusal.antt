@@ -9,14 +9,14 @@ use borrow.Author.Tests.{lt-ltb, le-ltb, ltb-true}
 use Rattle.site.specs.Answer.{orElse}
 use Rattle.site.specs.SiteList.{Columns}
 use Rattle.site.specs.Terms.{Level, Coordinates}
-use Rattle.site.proofs.Cases.{and-first, and-second}
+use Rattle.site.proofs.Tests.{and-first, and-second}
 use Rattle.site.proofs.Answer.{first-refused, next-decides, orElse-first, orElse-second, fault-none}
 use Rattle.entry.specs.Results.{Results}
 use Rattle.entry.specs.Terms.{Ready}
-use Rattle.entry.proofs.Columns.{room-lengths}
+use Rattle.entry.proofs.Results.{room-lengths}
 use Rattle.campaign.specs.declared.Campaign.{Campaign}
 use Rattle.campaign.specs.Grid.{jobOf, settled}
-use Rattle.campaign.specs.Keeper.{campaignRefusal}
+use Rattle.campaign.specs.Soundness.{campaignRefusal}
 use Rattle.campaign.specs.Calls.{jobRefusal}
 use Rattle.campaign.specs.Internal.{JobAsked}
 use Rattle.site.proofs.Accepted.{accepted-level, accepted-coordinates}

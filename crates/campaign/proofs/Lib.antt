@@ -1,8 +1,7 @@
 -- The laws of cut ends, strips, jobs, marks and campaigns, and examples.
 pub mod FlatMap
-pub mod Gathered
-pub mod CutLaws
-pub mod GridLaws
+pub mod LawfulEnds
+pub mod Grid
 pub mod MarkLaws
 pub mod EndsInvariant
 pub mod Cuts

@@ -9,7 +9,7 @@ use lib.Seq.{getD-set-same, getD-set-other}
 use borrow.Author.Tests.{lt-ltb}
 use Rattle.campaign.specs.Grid.{Job, markOf, settled, lawfulMarks}
 use Rattle.campaign.specs.Internal.{lawfulMark}
-use Rattle.campaign.proofs.GridLaws.{InGrid}
+use Rattle.campaign.proofs.Grid.{InGrid}
 
 zeros-at : (n i : ℕ) → getD {A = ℕ} (replicate n 0) i 0 ≡ 0
 zeros-at zero i = refl

@@ -7,14 +7,14 @@ use lib.ListN.{length, replicate}
 use Rattle.site.specs.Answer.{answerUnless, afterwards, orElse}
 use Rattle.site.specs.SiteList.{Columns}
 use Rattle.site.specs.Refusal.{listsRefusal}
-use Rattle.site.proofs.Cases.{and-first, and-second}
+use Rattle.site.proofs.Tests.{and-first, and-second}
 use Rattle.site.proofs.Answer.{answer-refused, after-refused, after-answered, first-refused, next-decides, orElse-first, orElse-second, fault-none}
 use Rattle.entry.specs.Results.{Results, roomFor}
 use Rattle.entry.specs.Entry.{lawfulK}
 use Rattle.campaign.specs.declared.Campaign.{Campaign}
 use Rattle.campaign.specs.Grid.{lawfulEnds}
 use Rattle.campaign.specs.Calls.{slots, campaignOf, openRefusal, newCampaign, noCampaign, openAnswer, openedAnswer}
-use Rattle.campaign.proofs.CutLaws.{lawful-cut}
+use Rattle.campaign.proofs.LawfulEnds.{lawful-cut}
 
 module _ (a b : Columns) (k : ℕ) (ends ends' : List ℕ) (r : Results) where
   module _ {q : ℕ} (is : q ≡ listsRefusal a b) where

@@ -10,7 +10,7 @@ use Rattle.site.specs.declared.Site.{Site}
 use Rattle.site.specs.SiteList.{Columns, sites}
 use Rattle.site.specs.Terms.{Level}
 use Rattle.site.specs.Refusal.{listsRefusal}
-use Rattle.site.proofs.Columns.{sites-length}
+use Rattle.site.proofs.SiteList.{sites-length}
 use Rattle.site.proofs.Answer.{first-refused, next-decides}
 use Rattle.entry.specs.declared.Entry.{Entry}
 use Rattle.entry.specs.Entry.{rankBefore, lawfulK}
@@ -18,7 +18,7 @@ use Rattle.entry.specs.Results.{Results, entriesOf, roomFor}
 use Rattle.campaign.specs.declared.Campaign.{Campaign}
 use Rattle.campaign.specs.Grid.{lawfulMarks}
 use Rattle.campaign.specs.Internal.{lawfulSlots, Cutting, soundPlan, rightCount, soundEntries}
-use Rattle.campaign.specs.Keeper.{firstEnds, secondEnds, soundEntry, sound, campaignRefusal}
+use Rattle.campaign.specs.Soundness.{firstEnds, secondEnds, soundEntry, sound, campaignRefusal}
 use Rattle.campaign.proofs.SoundPlan.{plan-parts}
 
 -- ---- the tests

@@ -12,15 +12,15 @@ use Rattle.order.proofs.Sorted.{ascending-ascends, ascends-sorted}
 use Rattle.site.specs.Answer.{orElse}
 use Rattle.site.specs.SiteList.{Columns, sites}
 use Rattle.site.specs.Refusal.{listRefusal, listsRefusal}
-use Rattle.site.proofs.Cases.{and-first, and-second}
+use Rattle.site.proofs.Tests.{and-first, and-second}
 use Rattle.site.proofs.Answer.{orElse-first, orElse-second, fault-none}
 use Rattle.entry.specs.Entry.{rankBefore}
 use Rattle.entry.specs.Results.{Results, entriesOf, roomFor}
 use Rattle.entry.specs.Terms.{Ready}
 use Rattle.entry.proofs.Rank.{rank-order}
-use Rattle.entry.proofs.Columns.{length-entries}
+use Rattle.entry.proofs.Results.{length-entries}
 use Rattle.campaign.specs.declared.Campaign.{Campaign}
-use Rattle.campaign.specs.Keeper.{firstEnds, secondEnds, soundEntry, sound, campaignRefusal}
+use Rattle.campaign.specs.Soundness.{firstEnds, secondEnds, soundEntry, sound, campaignRefusal}
 use Rattle.campaign.specs.Internal.{SoundPlan, soundPlan, rightCount, soundEntries}
 use Rattle.site.proofs.Accepted.{accepted-level, accepted-few, both-accepted}
 use Rattle.campaign.proofs.SoundPlan.{sound-plan}

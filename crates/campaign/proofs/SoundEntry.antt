@@ -12,13 +12,13 @@ use Rattle.order.proofs.Lists.{length-keep}
 use Rattle.site.specs.Site.{squaredDistance}
 use Rattle.site.specs.SiteList.{Columns, site, sites, siteAt}
 use Rattle.site.specs.Terms.{Level}
-use Rattle.site.proofs.Columns.{sites-length, site-at}
+use Rattle.site.proofs.SiteList.{sites-length, site-at}
 use Rattle.entry.specs.declared.Entry.{Entry}
 use Rattle.entry.specs.Entry.{entry}
 use Rattle.entry.specs.Results.{Results, entriesOf, roomFor}
-use Rattle.entry.proofs.Columns.{length-entries, entry-at}
+use Rattle.entry.proofs.Results.{length-entries, entry-at}
 use Rattle.campaign.specs.Grid.{jobOf, settled, stripHolding}
-use Rattle.campaign.specs.Keeper.{soundEntry}
+use Rattle.campaign.specs.Soundness.{soundEntry}
 use Rattle.site.proofs.Distance.{numberless}
 
 -- ---- an entry

@@ -10,15 +10,15 @@ use lib.Seq.{length-take-le}
 use borrow.Author.Tests.{leb-true, eqb-true}
 use Rattle.order.specs.Lists.{keep}
 use Rattle.site.specs.declared.Site.{Site}
-use Rattle.site.proofs.Cases.{and-first, and-second}
+use Rattle.site.proofs.Tests.{and-first, and-second}
 use Rattle.entry.specs.Entry.{lawfulK}
 use Rattle.entry.proofs.Rank.{k-limits}
 use Rattle.campaign.specs.declared.Campaign.{Campaign}
 use Rattle.campaign.specs.declared.Settled.{Settled}
 use Rattle.campaign.specs.Grid.{lawfulEnds, jobOf, jobs, lawfulMarks, settled, settledJobs, jobsPairs}
-use Rattle.campaign.specs.Keeper.{firstEnds, secondEnds}
+use Rattle.campaign.specs.Soundness.{firstEnds, secondEnds}
 use Rattle.campaign.specs.Internal.{stripFrom, stripTo, lawfulSlots, Cutting, Tally, SoundPlan, JobAsked, soundPlan, rightCount}
-use Rattle.campaign.proofs.CutLaws.{lawful-cut, strip-inside}
+use Rattle.campaign.proofs.LawfulEnds.{lawful-cut, strip-inside}
 use Rattle.campaign.proofs.Cuts.{lawful-cuts, sampled}
 
 -- ---- the tests in their order

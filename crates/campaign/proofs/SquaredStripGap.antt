@@ -17,7 +17,7 @@ use Rattle.site.proofs.Integers.{lt-le, le-refl, le-trans as leZ-trans}
 use Rattle.site.proofs.Distance.{gap-sym, gap-grows, gap-shrinks, square-le, squared-gap-x}
 use Rattle.sweep.specs.Strip.{Placed, pair, pairs}
 use Rattle.sweep.proofs.Geometry.{not-left}
-use Rattle.sweep.proofs.StripLaws.{leftOf}
+use Rattle.sweep.proofs.LeftOf.{leftOf}
 use Rattle.sweep.proofs.ProductLaws.{all-product}
 use Rattle.campaign.specs.Grid.{rangeGap, squaredStripGap}
 

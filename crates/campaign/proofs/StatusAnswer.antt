@@ -8,7 +8,7 @@ use Rattle.campaign.specs.declared.Campaign.{Campaign}
 use Rattle.campaign.specs.declared.Settled.{Settled}
 use Rattle.campaign.specs.declared.Status.the-variants as status
 use Rattle.campaign.specs.Grid.{settledJobs}
-use Rattle.campaign.specs.Keeper.{firstEnds, secondEnds, campaignRefusal}
+use Rattle.campaign.specs.Soundness.{firstEnds, secondEnds, campaignRefusal}
 use Rattle.campaign.specs.Calls.{statusAnswer, statusOf}
 use Rattle.campaign.specs.Internal.{Tally}
 

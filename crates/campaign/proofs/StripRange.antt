@@ -12,9 +12,9 @@ use Rattle.site.specs.declared.Site.{Site}
 use Rattle.site.specs.Site.{gap, square}
 use Rattle.site.specs.SiteList.{Columns, sites}
 use Rattle.site.specs.Terms.{Level}
-use Rattle.site.proofs.Columns.{nowhere, sites-length, sites-at}
+use Rattle.site.proofs.SiteList.{nowhere, sites-length, sites-at}
 use Rattle.sweep.specs.Strip.{Placed, strip}
-use Rattle.sweep.proofs.PlaceLaws.{placed, strip-at, length-strip-within}
+use Rattle.sweep.proofs.Strip.{placed, strip-at, length-strip-within}
 use Rattle.campaign.specs.Grid.{rangeGap, squaredStripGap}
 use Rattle.campaign.proofs.SquaredStripGap.{firstX, lastX, gap-by-x}
 

@@ -12,13 +12,13 @@ use Rattle.site.specs.declared.Site.{Site}
 use Rattle.entry.specs.declared.Entry.{Entry}
 use Rattle.sweep.specs.Strip.{whole, strip, pair, product, pairs}
 use Rattle.sweep.proofs.ProductLaws.{product-nil, product-cons, length-product}
-use Rattle.sweep.proofs.PlaceLaws.{length-whole}
+use Rattle.sweep.proofs.Strip.{length-whole}
 use Rattle.campaign.specs.declared.Settled.{Settled}
 use Rattle.campaign.specs.Grid.{stripAt, Job, jobOf, countFrom, jobs, settled, jobPairs, jobsPairs}
 use Rattle.campaign.specs.Internal.{lastEnd, stripFrom, stripTo, Cuts, Cutting, Tally}
-use Rattle.campaign.proofs.CutLaws.{lawful-cut}
+use Rattle.campaign.proofs.LawfulEnds.{lawful-cut}
 use Rattle.campaign.proofs.Cuts.{cut-low, sampled}
-use Rattle.campaign.proofs.GridLaws.{InGrid, jobs-pairs-append, pairs-one, length-job}
+use Rattle.campaign.proofs.Grid.{InGrid, jobs-pairs-append, pairs-one, length-job}
 
 -- No strip has more sites than its list.
 strip-few : (ends : List ℕ) (l : List Site) (s : ℕ) → length (stripAt ends l s) ≤ length l

@@ -22,7 +22,7 @@ use Rattle.campaign.specs.declared.JobDone.{JobDone}
 use Rattle.campaign.specs.declared.Status.{Status}
 use Rattle.campaign.specs.declared.Status.the-variants as status
 use Rattle.campaign.specs.Grid.{lawfulEnds, stripAt, Job, settled, settle, settledJobs, jobPairs, squaredStripGap}
-use Rattle.campaign.specs.Keeper.{firstEnds, secondEnds, campaignRefusal}
+use Rattle.campaign.specs.Soundness.{firstEnds, secondEnds, campaignRefusal}
 
 -- "Opening tests for 1 to 6."
 unfoldable pub openRefusal : Columns → Columns → ℕ → List ℕ → List ℕ → Results → ℕ

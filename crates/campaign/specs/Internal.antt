@@ -18,7 +18,7 @@ use Rattle.campaign.specs.declared.Settled.{Settled}
 use Rattle.campaign.specs.declared.Strip.{Strip}
 use Rattle.campaign.specs.declared.Campaign.{Campaign}
 use Rattle.campaign.specs.Grid.{lawfulEnds, Job, settledJobs, jobsPairs, lawfulMarks}
-use Rattle.campaign.specs.Keeper.{firstEnds, secondEnds, soundEntry}
+use Rattle.campaign.specs.Soundness.{firstEnds, secondEnds, soundEntry}
 
 -- The coordinate columns of two lawful lists.
 abbrev pub BothCoordinates : RefT (List ℤ) → RefT (List ℤ) → RefT (List ℤ) → RefT (List ℤ) → Type 0

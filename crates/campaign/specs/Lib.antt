@@ -1,6 +1,6 @@
 -- What a reader must believe of campaigns. The laws are in `proofs/`.
 pub mod Grid
-pub mod Keeper
+pub mod Soundness
 pub mod Calls
 -- Nothing to believe: terms that only this crate's functions cite.
 pub mod Internal

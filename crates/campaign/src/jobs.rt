@@ -17,7 +17,7 @@ ghost use Rattle.entry.specs.Results.{results, entriesOf, roomFor, lentResults}
 ghost use Rattle.sweep.specs.Sweep.{sweep};
 ghost use Rattle.sweep.specs.Terms.{SweptTo};
 ghost use Rattle.campaign.specs.Grid.{stripAt, jobOf};
-ghost use Rattle.campaign.specs.Keeper.{firstEnds, secondEnds};
+ghost use Rattle.campaign.specs.Soundness.{firstEnds, secondEnds};
 ghost use Rattle.campaign.specs.Internal.{BothCoordinates, NumberedLent, Across, JobAsked};
 ghost use Rattle.campaign.specs.Calls.{jobRefusal, skips, afterJob};
 

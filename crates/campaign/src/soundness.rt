@@ -26,7 +26,7 @@ ghost use Rattle.campaign.specs.Internal.{
   rightCount,
   soundEntries,
 };
-ghost use Rattle.campaign.specs.Keeper.{firstEnds, secondEnds, soundEntry, sound, campaignRefusal};
+ghost use Rattle.campaign.specs.Soundness.{firstEnds, secondEnds, soundEntry, sound, campaignRefusal};
 
 // The squared distance of the sites at two places.
 fn distance_at(ax: &[i32], ay: &[i32], bx: &[i32], by: &[i32], i: usize, j: usize) -> u64

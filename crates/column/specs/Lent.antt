@@ -2,7 +2,7 @@
 use denote.Ref.{RefT}
 use denote.Triple.Both.{Both}
 
-infixl 50 _of_
+infixl 50 _of_ _with_
 -- A lent place.
 abbrev pub Lent : Type 0 → Type 0
 Lent A = Both (RefT A) (RefT A)
@@ -17,3 +17,7 @@ the make = record { entry = make; exit = make }
 
 abbrev pub _of_ : {A B : Type 0} → Held (A → B) → Lent A → Held B
 make of place = record { entry = make .entry (place .entry .now); exit = make .exit (place .exit .now) }
+
+-- The same for places that are bundled already.
+abbrev pub _with_ : {A B : Type 0} → Held (A → B) → Held A → Held B
+make with part = record { entry = make .entry (part .entry); exit = make .exit (part .exit) }

@@ -18,8 +18,8 @@ use Rattle.entry.specs.Entry.{rankBefore, bestK}
 use Rattle.entry.proofs.Rank.{rank-order}
 use Rattle.pairs.specs.KList.{kList}
 use Rattle.campaign.specs.Grid.{Job, jobs, jobsPairs}
-use Rattle.campaign.proofs.CutLaws.{Cut}
-use Rattle.campaign.proofs.GridLaws.{InGrid, same-job, kept-jobs, jobs-pairs-perm, jobs-pairs-distinct, grid-pairs}
+use Rattle.campaign.proofs.LawfulEnds.{Cut}
+use Rattle.campaign.proofs.Grid.{InGrid, same-job, kept-jobs, jobs-pairs-perm, jobs-pairs-distinct, grid-pairs}
 use Rattle.demands.specs.Book.{Book, isDone, bookEntries, noneOpen}
 
 -- ---- a job among some

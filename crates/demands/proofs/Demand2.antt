@@ -18,13 +18,13 @@ use Rattle.site.proofs.Accepted.{both-accepted, accepted-order}
 use Rattle.entry.specs.declared.Entry.{Entry}
 use Rattle.entry.specs.Entry.{rankBefore, bestK}
 use Rattle.entry.specs.Results.{entriesOf, holding}
-use Rattle.entry.proofs.Columns.{entries-holding}
+use Rattle.entry.proofs.Results.{entries-holding}
 use Rattle.sweep.specs.Strip.{whole, allPairs}
 use Rattle.sweep.proofs.SweepLaws.{sweep-whole-best}
-use Rattle.sweep.proofs.PlaceLaws.{byPlaces, whole-ascends, pairs-ascend, whole-pairs-distinct}
+use Rattle.sweep.proofs.Strip.{byPlaces, whole-ascends, pairs-ascend, whole-pairs-distinct}
 use Rattle.pairs.specs.KList.{kList}
 use Rattle.pairs.specs.DistanceList.{distanceList, distanceRefusal, DistanceValues, distanceValues, distanceAnswer}
-use Rattle.campaign.proofs.Gathered.{ascends-keep, ascends-neighbours}
+use Rattle.order.proofs.Sorted.{ascends-keep, ascends-ascending}
 use Rattle.site_file.proofs.RoundTrip.{every-output-accepted, every-accepted-is-output}
 use Rattle.demands.specs.Demand2.{KClosest, WithinLimit, Demand2}
 use Rattle.demands.proofs.KClosest.{k-list-closest, written, k-list-values}
@@ -55,7 +55,7 @@ distances-within a b e first second =
         λ h. mem-keep test all (h .0) (le-leb (p .distance) (square e) (h .1)),
       );
       once = distinct-keep test all distinct;
-      inOrder = ascends-neighbours byPlaces (keep test all) (ascends-keep byPlaces test all ascends);
+      inOrder = ascends-ascending byPlaces (keep test all) (ascends-keep byPlaces test all ascends);
       count = refl;
       firsts = written (keep test all) (λ p. p .first) first;
       seconds = written (keep test all) (λ p. p .second) second;

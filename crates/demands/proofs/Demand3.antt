@@ -9,7 +9,7 @@ use Rattle.site.specs.SiteList.{Columns, sites}
 use Rattle.site.proofs.Answer.{answer-number, answered-values}
 use Rattle.entry.specs.declared.Entry.{Entry}
 use Rattle.entry.specs.Results.{Results, entriesOf, holding}
-use Rattle.entry.proofs.Columns.{entries-columns}
+use Rattle.entry.proofs.Results.{entries-columns}
 use Rattle.sweep.specs.declared.Way.the-variants.{Classic}
 use Rattle.pairs.specs.KList.{kList}
 use Rattle.campaign.specs.Calls.{newCampaign, openRefusal, openAnswer, jobRefusal, jobAnswer}

@@ -1,7 +1,7 @@
 -- M1 to M10 hold: the definitions are evaluated.
 use mathlib.Core.Path.{refl}
 use mathlib.Core.List.{flatMap, zipWith}
-use Rattle.order.specs.Best.{insert, sort}
+use Rattle.order.specs.Sort.{insert, sort}
 use Rattle.order.specs.Lists.{all, keep, last, sum}
 use Rattle.order.specs.Order.{ascending, lex}
 use Rattle.column.specs.Column.{overwritten}
@@ -18,7 +18,7 @@ use Rattle.pairs.specs.DistanceList.{distanceList}
 use Rattle.pairs.specs.KList.{kList}
 use Rattle.campaign.specs.Calls.{afterJob, jobAnswer, jobEntries, jobRefusal, newCampaign, openAnswer, openRefusal, skips, slots, statusAnswer}
 use Rattle.campaign.specs.Grid.{countFrom, jobPairs, jobs, jobsPairs, lawfulEnds, lawfulMarks, markOf, rangeGap, settled, settledJobs, squaredStripGap, stripAt, stripHolding}
-use Rattle.campaign.specs.Keeper.{campaignRefusal, firstEnds, secondEnds, sound, soundEntry}
+use Rattle.campaign.specs.Soundness.{campaignRefusal, firstEnds, secondEnds, sound, soundEntry}
 use Rattle.demands.specs.Examples.{examples, ExamplesHold, figures, places, run, steps}
 
 pub examples-hold : ExamplesHold

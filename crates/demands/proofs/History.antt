@@ -9,10 +9,9 @@ use lib.ListN.{length, replicate, length-replicate}
 use lib.Seq.{take-append-seam}
 use borrow.Author.Tests.{ne-eqb}
 use Rattle.order.specs.Lists.{Distinct}
-use Rattle.order.specs.Best.{best}
+use Rattle.order.proofs.Best.{best, best-nil}
 use Rattle.order.proofs.Order.{byTest, never-both}
 use Rattle.order.proofs.Lists.{all-nil}
-use Rattle.order.proofs.Best.{best-nil}
 use Rattle.order.proofs.Sorted.{best-of-best}
 use Rattle.site.specs.Answer.{answerUnless, afterwards, refuseIf}
 use Rattle.site.specs.SiteList.{Columns, sites}
@@ -23,12 +22,12 @@ use Rattle.entry.specs.declared.Entry.{Entry}
 use Rattle.entry.specs.Entry.{rankBefore, bestK, lawfulK}
 use Rattle.entry.specs.Results.{Results, entriesOf, holding, roomFor}
 use Rattle.entry.proofs.Rank.{rank-order}
-use Rattle.entry.proofs.Columns.{entries-holding, room-holding}
+use Rattle.entry.proofs.Results.{entries-holding, room-holding}
 use Rattle.sweep.specs.declared.Way.{Way}
 use Rattle.campaign.specs.Grid.{lawfulEnds, Job, markOf, settled, settle, jobPairs, jobsPairs}
-use Rattle.campaign.specs.Keeper.{firstEnds, secondEnds}
+use Rattle.campaign.specs.Soundness.{firstEnds, secondEnds}
 use Rattle.campaign.specs.Calls.{slots, newCampaign, openRefusal, jobEntries, afterJob, JobValues, jobValues, jobAnswer}
-use Rattle.campaign.proofs.GridLaws.{InGrid, same-job, jobs-pairs-snoc}
+use Rattle.campaign.proofs.Grid.{InGrid, same-job, jobs-pairs-snoc}
 use Rattle.campaign.proofs.MarkLaws.{none-settled, lawful-zeros, lawful-settled, mark-below, mark-apart, length-settle, settled-same, settled-other}
 use Rattle.demands.specs.Book.{Book, openBook, isDone, bookRefusal, bookEntries}
 use Rattle.demands.specs.History.{own, job, Bench, benchOf, benchAfter, bookAfter}

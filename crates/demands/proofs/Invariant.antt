@@ -9,7 +9,7 @@ use borrow.Author.Tests.{le-leb, lt-ltb, eq-eqb, ltb-true}
 use Rattle.order.specs.Order.{ascending}
 use Rattle.order.specs.Lists.{all, keep, All, Distinct}
 use Rattle.order.proofs.Order.{byTest}
-use Rattle.order.proofs.Lists.{mem-all, all-mem, holds-all, perm-length}
+use Rattle.order.proofs.Lists.{mem-all, all-mem, holds-all, perm-length, keep-same}
 use Rattle.order.proofs.Best.{length-best}
 use Rattle.order.proofs.Sorted.{mem-best, ascends-best, ascends-ascending}
 use Rattle.site.specs.Answer.{answered, orElse}
@@ -21,11 +21,10 @@ use Rattle.entry.specs.Entry.{rankBefore, bestK, lawfulK}
 use Rattle.entry.specs.Results.{entriesOf, roomFor}
 use Rattle.entry.proofs.Rank.{rank-order}
 use Rattle.campaign.specs.Grid.{lawfulEnds, Job, jobs, settled, settledJobs, lawfulMarks, jobsPairs}
-use Rattle.campaign.specs.Keeper.{firstEnds, secondEnds, soundEntry, sound, campaignRefusal}
+use Rattle.campaign.specs.Soundness.{firstEnds, secondEnds, soundEntry, sound, campaignRefusal}
 use Rattle.campaign.specs.Calls.{jobRefusal, statusAnswer}
-use Rattle.campaign.proofs.Gathered.{keep-same}
-use Rattle.campaign.proofs.CutLaws.{lawful-cut}
-use Rattle.campaign.proofs.GridLaws.{InGrid, jobs-in-grid, jobs-entry, jobs-pairs-perm}
+use Rattle.campaign.proofs.LawfulEnds.{lawful-cut}
+use Rattle.campaign.proofs.Grid.{InGrid, jobs-in-grid, jobs-entry, jobs-pairs-perm}
 use Rattle.demands.specs.Book.{Book, isDone, bookRefusal, bookEntries, bookStatus}
 use Rattle.demands.specs.History.{Bench}
 use Rattle.demands.proofs.Book.{mem-done, done-kept, bookPairs, InBook, LawfulBook, settled-pairs-distinct}
@@ -84,7 +83,7 @@ module _ (a b : Columns) (bench : Bench) (book : Book) (i : Invariant a b bench 
   unfolding bookEntries bestK
   sound-order =
       let distinct = settled-pairs-distinct (sites a) (sites b) book lawful-book in
-      rw (i .entries) (ascends-ascending rank-order _ (ascends-best rank-order (book .k) _ distinct))
+      rw (i .entries) (ascends-ascending rankBefore _ (ascends-best rank-order (book .k) _ distinct))
 
   -- An entry is of a settled job.
   sound-entry : (e : Entry) → List·Memᴰ e (entriesOf (bench .campaign .entries) (bench .results))

@@ -6,10 +6,10 @@ use Prim.Native.Nat.{ℕ, _≤_}
 use lib.Dec.{ltb}
 use lib.ListN.{length, take, length-map}
 use borrow.Author.Tests.{ltb-true, ltb-false}
-use Rattle.order.specs.Best.{best, sort}
+use Rattle.order.specs.Sort.{sort}
+use Rattle.order.proofs.Best.{best, length-best}
 use Rattle.order.proofs.Order.{byTest, never-both}
 use Rattle.order.proofs.Lists.{all-mem}
-use Rattle.order.proofs.Best.{length-best}
 use Rattle.order.proofs.Sorted.{mem-best, distinct-best, sorted-best, sort-sorted, ascends-best, ascends-ascending}
 use Rattle.order.proofs.Choice.{sort-weights, no-equal-choice-better, best-none-better}
 use Rattle.column.specs.Column.{overwritten}
@@ -25,7 +25,7 @@ use Rattle.entry.proofs.Rank.{rank-order, rank-farther}
 use Rattle.sweep.specs.declared.Way.{Way}
 use Rattle.sweep.specs.Strip.{whole, allPairs}
 use Rattle.sweep.specs.Sweep.{sweep}
-use Rattle.sweep.proofs.PlaceLaws.{whole-pairs-distinct}
+use Rattle.sweep.proofs.Strip.{whole-pairs-distinct}
 use Rattle.pairs.specs.KList.{kList, kListRefusal, KListValues, kListValues, kListAnswer}
 use Rattle.demands.specs.Demand3.{NoChoiceBetter}
 use Rattle.demands.specs.Demand2.{KClosest}
@@ -66,7 +66,7 @@ module _ (a b : List Site) (k : ℕ) where
     size = length-best rankBefore k (allPairs a b);
     different = distinct-best rankBefore k (allPairs a b) (whole-pairs-distinct a b);
     among = λ e m. mem-best rankBefore k (allPairs a b) m;
-    ranked = ascends-ascending rank-order (best rankBefore k (allPairs a b))
+    ranked = ascends-ascending rankBefore (best rankBefore k (allPairs a b))
         (ascends-best rank-order k (allPairs a b) (whole-pairs-distinct a b));
     closest = λ e h m out n. let t = k-list-before e h m out n in (t, rank-grows h e t);
     noneBetter = k-list-none-better;

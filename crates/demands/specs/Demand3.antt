@@ -5,7 +5,7 @@ use mathlib.Core.List.{List, [], _∷_, map, List·Memᴰ}
 use Prim.Native.Nat.{ℕ, _<_, _≤_}
 use lib.Dec.{ltb}
 use lib.ListN.{length, getD, take}
-use Rattle.order.specs.Best.{sort}
+use Rattle.order.specs.Sort.{sort}
 use Rattle.order.specs.Lists.{Distinct}
 use Rattle.site.specs.declared.Site.{Site}
 use Rattle.site.specs.Answer.{answered, numberOf}
@@ -16,11 +16,10 @@ use Rattle.sweep.specs.declared.Way.the-variants.{Classic}
 use Rattle.sweep.specs.Strip.{allPairs}
 use Rattle.pairs.specs.KList.{KListValues, kListAnswer}
 use Rattle.campaign.specs.declared.Campaign.{Campaign}
-use Rattle.campaign.specs.Keeper.{campaignRefusal}
+use Rattle.campaign.specs.Soundness.{campaignRefusal}
 use Rattle.campaign.specs.Calls.{openRefusal, openAnswer, jobRefusal, jobAnswer, statusAnswer}
 use Rattle.demands.specs.Book.{Book, openBook, bookRefusal, bookEntries, bookStatus, noneOpen}
-use Rattle.demands.specs.History.{own, otherLists, otherColumns, Call, job, status, opening}
-use Rattle.demands.specs.History.{Bench, benchOf, benchAfter, bookAfter}
+use Rattle.demands.specs.History.{own, otherLists, otherColumns, Call, job, status, opening, Bench, benchOf, benchAfter, bookAfter}
 
 -- "For every other choice of as many distinct pairs, its i-th smallest distance is no smaller than theirs, for each i":
 -- "any set of that many among all pairs", "the squared distances in ascending order, repeats kept".

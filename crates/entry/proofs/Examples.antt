@@ -1,7 +1,7 @@
 -- Examples of the rank: what M1 to M10 do not tell apart.
 use mathlib.Core.Path.{_≡_, refl}
 use mathlib.Core.List.{[], _∷_}
-use Rattle.order.specs.Best.{insert, sort}
+use Rattle.order.specs.Sort.{insert, sort}
 use Rattle.order.specs.Order.{lex}
 use Rattle.entry.specs.Entry.{entry, rankBefore, bestK, offer}
 

@@ -12,7 +12,7 @@ use Rattle.entry.specs.Internal.{PlaceOf}
 use Rattle.entry.specs.Terms.{Ready, Holds}
 use Rattle.column.proofs.Inserted.{inserted-key}
 use Rattle.entry.proofs.Rank.{length-offer, offer-split, offer-full}
-use Rattle.entry.proofs.Columns.{room-lengths, lengths-room, length-entries, entries-columns, holding-self}
+use Rattle.entry.proofs.Results.{room-lengths, lengths-room, length-entries, entries-columns, holding-self}
 
 module _ (k count : ℕ) (r : Results) (ready : Ready k count r) where
   -- Room for the entries there are.

@@ -9,7 +9,7 @@ use Rattle.entry.specs.Entry.{rankBefore}
 use Rattle.entry.specs.Results.{Results, entriesOf}
 use Rattle.entry.specs.Internal.{PlaceOf}
 use Rattle.entry.specs.Terms.{Ready, entryAt}
-use Rattle.entry.proofs.Columns.{entry-at, length-entries}
+use Rattle.entry.proofs.Results.{entry-at, length-entries}
 use Rattle.entry.proofs.Rank.{rank-order, insert-split, sorted-front}
 
 -- Between two places: all in front of the low one come before the entry, the high one does not.

@@ -9,9 +9,9 @@ use lib.ListN.{length, take, drop, getD, length-take, length-drop}
 use lib.Seq.{take-all, take-append-le, take-append-add, length-take-le, take-take}
 use borrow.Author.Tests.{lt-ltb, le-ltb, leb-true, leb-false}
 use Rattle.order.specs.Order.{on, lex}
-use Rattle.order.specs.Terms.{StrictOrder, Sorted}
-use Rattle.order.specs.Best.{insert}
-use Rattle.order.proofs.Order.{byTest, strict, by-number, lex-order, lex-less, lex-more, lex-next, weak-before}
+use Rattle.order.specs.Terms.{Sorted}
+use Rattle.order.proofs.Order.{StrictOrder, byTest, strict, by-number, lex-order, lex-less, lex-more, lex-next, weak-before}
+use Rattle.order.specs.Sort.{insert}
 use Rattle.order.proofs.Lists.{all-at, last-map, last-at}
 use Rattle.order.proofs.Best.{insert-nil, insert-later, insert-here, length-insert}
 use Rattle.order.proofs.Sorted.{sorted-insert, sorted-take, take-insert-full, last-weak}

@@ -6,7 +6,7 @@ use lib.Dec.{leb, ltb}
 use lib.ListN.{take}
 use Rattle.order.specs.Order.{on, lex}
 use Rattle.order.specs.Lists.{last}
-use Rattle.order.specs.Best.{insert, sort}
+use Rattle.order.specs.Sort.{insert, sort}
 use Rattle.entry.specs.declared.Entry.{Entry}
 
 abbrev pub entry : ℕ → ℕ → ℕ → Entry

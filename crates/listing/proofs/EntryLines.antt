@@ -14,7 +14,7 @@ use Rattle.entry.specs.declared.Entry.{Entry}
 use Rattle.entry.specs.Entry.{entry}
 use Rattle.entry.specs.Terms.{entryAt}
 use Rattle.entry.specs.Results.{Results, entriesOf, roomFor}
-use Rattle.entry.proofs.Columns.{room-lengths, length-entries, entry-at}
+use Rattle.entry.proofs.Results.{room-lengths, length-entries, entry-at}
 use Rattle.listing.specs.Listing.{entryLines}
 use Rattle.listing.specs.Internal.{entryLine, heading, numberAt, entriesText, Put}
 use Rattle.listing.proofs.Lines.{entry-length, heading-length}

@@ -14,7 +14,7 @@ use Rattle.site.specs.Refusal.{contentRefusal}
 use Rattle.site.specs.Site.{within, lawfulSite, gap, square, squaredDistance, siteBefore}
 use Rattle.order.specs.Lists.{keep, all, sum}
 use Rattle.order.specs.Order.{lex, ascending}
-use Rattle.order.specs.Best.{insert, sort}
+use Rattle.order.specs.Sort.{insert, sort}
 use Rattle.entry.specs.Entry.{rankBefore, bestK, lawfulK}
 use Rattle.sweep.specs.Strip.{placedFrom, whole, pair, product, pairs}
 use Rattle.pairs.specs.KList.{kList}

@@ -14,7 +14,7 @@ use Rattle.site.specs.declared.Site.{Site}
 use Rattle.site.specs.SiteList.{Columns, columns, sites, siteAt, columnsOf}
 use Rattle.site.specs.Answer.{refused, answered, orElse}
 use Rattle.site.specs.Refusal.{listsRefusal}
-use Rattle.site.proofs.Columns.{nowhere, columns-sites}
+use Rattle.site.proofs.SiteList.{nowhere, columns-sites}
 use Rattle.site_file.specs.declared.Which.{Which}
 use Rattle.site_file.specs.declared.Which.the-variants.{First, Second}
 use Rattle.site_file.specs.declared.SiteRead.{SiteRead}
@@ -22,8 +22,8 @@ use Rattle.site_file.specs.declared.SiteRead.the-variants.{Found, Refused}
 use Rattle.site_file.specs.File.{countIn, sitesIn}
 use Rattle.site_file.specs.Calls.{contentsRefusal, siteAnswer, siteReadAnswer}
 use Rattle.site_file.proofs.File.{list-length}
-use Rattle.site_file.proofs.Contents.{inside, read-laid, site-found}
-use Rattle.site_file.proofs.Bodies.{columns-accepted}
+use Rattle.site_file.proofs.ReadAnswer.{inside, read-laid, site-found}
+use Rattle.site_file.proofs.SitesIn.{columns-accepted}
 use Rattle.listing.specs.Listing.{listingText}
 use Rattle.listing.specs.Internal.{fileText, Put, Lawful, Sized, FileLists}
 

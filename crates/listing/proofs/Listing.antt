@@ -25,7 +25,7 @@ use Rattle.site_file.specs.Bytes.{word}
 use Rattle.site_file.specs.declared.FileRead.{FileRead}
 use Rattle.site_file.specs.declared.FileRead.the-variants.{Counts, Refused}
 use Rattle.site_file.specs.Calls.{readRefusal, readAnswer, fileReadAnswer}
-use Rattle.site_file.proofs.Words.{rest-of}
+use Rattle.site_file.proofs.Word.{rest-of}
 use Rattle.listing.specs.Listing.{listingRefusal, refusedText, listing}
 use Rattle.listing.specs.Internal.{fileText, Put, FileLists}
 

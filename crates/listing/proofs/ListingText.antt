@@ -15,16 +15,17 @@ use Rattle.site.specs.Answer.{orElse}
 use Rattle.site.specs.Refusal.{listRefusal}
 use Rattle.site.proofs.Answer.{answered-values, refused-number}
 use Rattle.site.proofs.Accepted.{accepted-level, accepted-few, both-accepted}
-use Rattle.site.proofs.Columns.{nowhere, sites-length, site-at}
+use Rattle.site.proofs.SiteList.{nowhere, sites-length, site-at}
 use Rattle.entry.specs.declared.Entry.{Entry}
 use Rattle.entry.specs.Entry.{rankBefore, bestK}
 use Rattle.entry.specs.Results.{Results, results, entriesOf, holding, roomFor}
 use Rattle.entry.proofs.Rank.{k-limits}
-use Rattle.entry.proofs.Columns.{room-lengths, lengths-room, entries-holding, room-holding}
+use Rattle.entry.proofs.Results.{room-lengths, lengths-room, entries-holding, room-holding}
 use Rattle.sweep.specs.declared.Way.{Way}
 use Rattle.sweep.specs.declared.Looks.{Looks}
 use Rattle.sweep.specs.declared.Distances.{Distances}
 use Rattle.sweep.specs.Strip.{allPairs}
+use Rattle.sweep.proofs.Strip.{length-whole-pairs}
 use Rattle.pairs.specs.declared.Listed.{Listed}
 use Rattle.pairs.specs.declared.Listed.the-variants.{Entries, Refused}
 use Rattle.pairs.specs.KList.{kList, kListRefusal, kListAnswer, listedAnswer}
@@ -53,6 +54,7 @@ pub listing-text : (k : ℕ) (a b : Columns) → Level a → Level b
 unfolding listingText entriesText heading
 listing-text k a b p q =
     rw (
+      length-whole-pairs (sites a) (sites b),
       sites-length a p,
       sites-length b q,
       p .number,

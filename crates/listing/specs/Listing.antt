@@ -1,7 +1,7 @@
 -- The text of the case listing, as bytes.
 use mathlib.Core.Bool.{not}
 use mathlib.Core.List.{List, [], _∷_, _++_}
-use Prim.Native.Nat.{ℕ, zero, suc, _*_}
+use Prim.Native.Nat.{ℕ, zero, suc}
 use Prim.Native.Char.{code}
 use Prim.Native.String.{String, [] as noText, _∷_ as _before_}
 use lib.Dec.{ltb}
@@ -11,6 +11,7 @@ use Rattle.site.specs.Answer.{refuseIf, orElse}
 use Rattle.site.specs.SiteList.{siteAt}
 use Rattle.entry.specs.declared.Entry.{Entry}
 use Rattle.entry.specs.Entry.{lawfulK}
+use Rattle.sweep.specs.Strip.{allPairs}
 use Rattle.pairs.specs.KList.{kList}
 use Rattle.site_file.specs.declared.Which.the-variants.{First, Second}
 use Rattle.site_file.specs.Bytes.{word}
@@ -40,7 +41,7 @@ entryLines a b rank (e ∷ l) =
 unfoldable pub listingText : ℕ → List Site → List Site → List ℕ
 listingText k a b =
     let entries = kList k a b in
-    line (bytes "pairs" ∷ decimal (length entries) ∷ bytes "of" ∷ decimal (length a * length b) ∷ [])
+    line (bytes "pairs" ∷ decimal (length entries) ∷ bytes "of" ∷ decimal (length (allPairs a b)) ∷ [])
     ++ entryLines (λ i. siteAt a i .number) (λ i. siteAt b i .number) 1 entries
 
 -- "A refusal prints one line only, as `refused 4`."

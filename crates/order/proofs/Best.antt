@@ -6,9 +6,12 @@ use Prim.Native.Nat.{ℕ, zero, suc, _+_, min}
 use native.Mathlib.Omega.{arith}
 use lib.ListN.{length, take, length-take}
 use lib.Seq.{take-take}
-use Rattle.order.specs.Terms.{StrictOrder}
-use Rattle.order.specs.Best.{insert, sort, best}
-use Rattle.order.proofs.Order.{byTest}
+use Rattle.order.proofs.Order.{StrictOrder, byTest}
+use Rattle.order.specs.Sort.{insert, sort}
+
+-- The first `k` of a list by the order, or all where there are fewer.
+abbrev pub best : {A : Type 0} → (A → A → Bool) → ℕ → List A → List A
+best before k l = take k (sort before l)
 
 -- Each element of the first list inserted into the second.
 unfoldable pub inserts : {A : Type 0} → (A → A → Bool) → List A → List A → List A

@@ -8,13 +8,13 @@ use native.Mathlib.Omega.{arith}
 use lib.Dec.{ltb}
 use lib.ListN.{length, take, drop, getD, take-append-drop, length-take, length-drop}
 use borrow.Author.Tests.{le-ltb}
-use Rattle.order.specs.Terms.{StrictOrder, Sorted, Ascends}
+use Rattle.order.specs.Terms.{Sorted}
+use Rattle.order.proofs.Sorted.{Ascends, sort-is-perm, mem-sort, sort-mem, sorted-sort, sort-sorted, ascends-sort, ascends-sorted, ascends-apart, mem-later}
+use Rattle.order.proofs.Order.{StrictOrder, byTest, irrefl, weak-trans, ltb-order}
 use Rattle.order.specs.Lists.{All, Distinct}
-use Rattle.order.specs.Best.{sort, best}
-use Rattle.order.proofs.Order.{byTest, irrefl, weak-trans, ltb-order}
+use Rattle.order.specs.Sort.{sort}
+use Rattle.order.proofs.Best.{best, length-sort, length-best, sort-perm}
 use Rattle.order.proofs.Lists.{all-mem, mem-all, mem-length, all-map, all-weaken, perm-map, mem-parts}
-use Rattle.order.proofs.Best.{length-sort, length-best, sort-perm}
-use Rattle.order.proofs.Sorted.{sort-is-perm, mem-sort, sort-mem, sorted-sort, sort-sorted, ascends-sort, ascends-sorted, ascends-apart, mem-later}
 
 -- At each place of the second list, the first has an element there, and the second's does not come before it.
 Dominates : {A : Type 0} → (A → A → Bool) → List A → List A → Type 0

@@ -1,8 +1,8 @@
 -- Small laws of lists: statements and tests of each element, members, permutations, distinct lists, parts, the last, sums, joined lists.
 use mathlib.Core.Path.{_≡_, refl, sym, ap, _∙_, subst⁻¹}
 use mathlib.Core.Logic.{_⊎_, ⊎-elim, _↔_}
-use mathlib.Core.Bool.{Bool, true, false}
-use mathlib.Core.List.{List, [], _∷_, _++_, map, zipWith, List·Memᴰ, List·Memᴰ·head, List·Memᴰ·tail, List·Memᴰ·not-nil, List·Memᴰ·cases-cons, List·Memᴰ·append-cases, Memᴰ·append-left, Memᴰ·append-right, Memᴰ·cast, List·Permᴰ, List·Permᴰ·nil, List·Permᴰ·cons, List·Permᴰ·swap, List·Permᴰ·trans, Permᴰ·symm}
+use mathlib.Core.Bool.{Bool, true, false, not}
+use mathlib.Core.List.{List, [], _∷_, _++_, map, zipWith, List·Memᴰ, List·Memᴰ·head, List·Memᴰ·tail, List·Memᴰ·not-nil, List·Memᴰ·cases-cons, List·Memᴰ·append-cases, Memᴰ·append-left, Memᴰ·append-right, Memᴰ·cast, List·Permᴰ, List·Permᴰ·nil, List·Permᴰ·cons, List·Permᴰ·swap, List·Permᴰ·trans, Permᴰ·refl, Permᴰ·symm, Permᴰ·middle}
 use Prim.Native.Nat.{ℕ, zero, suc, _+_, _-_, _≤_, _<_, min}
 use native.Mathlib.Omega.{arith}
 use lib.ListN.{length, take, drop, getD, take-append-drop}
@@ -345,3 +345,27 @@ module _ {A B C : Type 0} (f : A → B → C) where
   zip-take (suc n) [] m = refl
   zip-take (suc n) (a ∷ l) [] = refl
   zip-take (suc n) (a ∷ l) (b ∷ m) = ap (λ (r : List C). f a b ∷ r) (zip-take n l m)
+
+-- ---- permutations of what a test keeps
+
+pub perm-eq : {A : Type 0} {l m : List A} → l ≡ m → List·Permᴰ l m
+perm-eq {A} {l} {m} e = rw e (Permᴰ·refl m)
+
+-- What a test keeps and what it does not are the whole.
+pub keep-split : {A : Type 0} (test : A → Bool) (l : List A) → List·Permᴰ l (keep test l ++ keep (λ a. not (test a)) l)
+keep-split test [] = rw (keep-nil test) (rw (keep-nil (λ a. not (test a))) List·Permᴰ·nil)
+keep-split {A} test (a ∷ l) =
+    byTest (test a)
+    (λ p.
+    let q : not (test a) ≡ false = ap not p in
+    rw (keep-yes test a l p, keep-no (λ (x : A). not (test x)) a l q) (List·Permᴰ·cons refl (keep-split test l)))
+    (λ p.
+    let q : not (test a) ≡ true = ap not p in
+    rw (keep-no test a l p, keep-yes (λ (x : A). not (test x)) a l q)
+    (List·Permᴰ·trans (List·Permᴰ·cons refl (keep-split test l)) (Permᴰ·symm (Permᴰ·middle a (keep test l) (keep (λ x. not (test x)) l)))))
+
+-- Two tests that agree on the list keep the same.
+pub keep-same : {A : Type 0} (test test' : A → Bool) (l : List A) → ((a : A) → List·Memᴰ a l → test a ≡ test' a) → keep test l ≡ keep test' l
+unfolding keep
+keep-same test test' [] h = refl
+keep-same test test' (a ∷ l) h = rw (h a (List·Memᴰ·head refl), keep-same test test' l (λ x m. h x (List·Memᴰ·tail m)))

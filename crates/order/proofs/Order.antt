@@ -8,7 +8,12 @@ use lib.IntN.{ℤ, pos, negsuc}
 use lib.Signed.{ltZ}
 use borrow.Author.Tests.{ltb-true, ltb-false, lt-ltb, le-ltb}
 use Rattle.order.specs.Order.{on, lex}
-use Rattle.order.specs.Terms.{StrictOrder}
+
+-- A strict total order: never both ways, transitive, and two elements of which neither comes first are the same.
+pub record StrictOrder {A : Type 0} (before : A → A → Bool) : Type 0 where
+  pub asym : (a b : A) → before a b ≡ true → before b a ≡ false
+  pub trans : (a b c : A) → before a b ≡ true → before b c ≡ true → before a c ≡ true
+  pub total : (a b : A) → before a b ≡ false → before b a ≡ false → a ≡ b
 
 -- A proof by the two values of a test.
 pub byTest : {P : Type 0} → (b : Bool) → (b ≡ true → P) → (b ≡ false → P) → P

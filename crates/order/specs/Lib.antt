@@ -1,6 +1,6 @@
 -- What a reader must believe of orders and lists. The laws are in `proofs/`.
 pub mod Order
-pub mod Best
+pub mod Sort
 pub mod Lists
 -- Nothing to believe: terms of contracts that other crates cite.
 pub mod Terms

@@ -32,7 +32,7 @@ use Rattle.sweep.specs.Strip.{Placed, whole, strip}
 use Rattle.sweep.specs.Scan.{State}
 use Rattle.sweep.specs.Sweep.{sweep}
 use Rattle.sweep.specs.Terms.{SweepAsked, SweptTo, SweptStrips}
-use Rattle.sweep.proofs.PlaceLaws.{strip-whole}
+use Rattle.sweep.proofs.Strip.{strip-whole}
 use Rattle.sweep.proofs.SweepLaws.{sweep-whole-best}
 use Rattle.pairs.specs.KList.{kList, kListRefusal, KListValues, kListValues, kListAnswer}
 

@@ -13,16 +13,16 @@ use Rattle.order.proofs.Lists.{keep-append, keep-nil, keep-map, length-keep}
 use Rattle.site.specs.Site.{square}
 use Rattle.site.specs.SiteList.{Columns, sites}
 use Rattle.site.specs.Terms.{Level}
-use Rattle.site.proofs.Columns.{sites-length}
+use Rattle.site.proofs.SiteList.{sites-length}
 use Rattle.site.proofs.Distance.{numberless}
 use Rattle.site.proofs.Accepted.{coordinate-x, coordinate-y}
 use Rattle.entry.specs.declared.Entry.{Entry}
 use Rattle.sweep.specs.Strip.{Placed, whole, product, pair, pairs}
 use Rattle.sweep.specs.Terms.{spotOf, spot, rightward}
-use Rattle.sweep.proofs.PlaceLaws.{length-pairs, strip-whole}
+use Rattle.sweep.proofs.Strip.{length-pairs, strip-whole}
 use Rattle.sweep.proofs.ProductLaws.{product-nil, product-cons}
-use Rattle.sweep.proofs.RunLaws.{rightward-nil, rightward-cons, length-rightward}
-use Rattle.sweep.proofs.NumberLaws.{bare, strip-bare}
+use Rattle.sweep.proofs.SiteRuns.{rightward-nil, rightward-cons, length-rightward}
+use Rattle.sweep.proofs.Unnumbered.{bare, strip-bare}
 use Rattle.pairs.specs.declared.Run.{Run}
 use Rattle.pairs.specs.DistanceList.{distanceList}
 use Rattle.pairs.specs.Internal.{

@@ -12,11 +12,11 @@ use lib.ListN.{length, getD}
 use Rattle.order.proofs.Lists.{keep-append, keep-yes, keep-no, keep-nil}
 use Rattle.site.specs.Site.{within, square}
 use Rattle.site.specs.Terms.{Coordinates}
-use Rattle.site.proofs.Cases.{byTest}
+use Rattle.site.proofs.Tests.{byTest}
 use Rattle.site.proofs.Accepted.{coordinate-x, coordinate-y}
 use Rattle.sweep.specs.Strip.{Placed}
 use Rattle.sweep.specs.Terms.{spot, rightward}
-use Rattle.sweep.proofs.RunLaws.{rightward-nil, rightward-cons}
+use Rattle.sweep.proofs.SiteRuns.{rightward-nil, rightward-cons}
 use Rattle.pairs.specs.declared.Run.{Run}
 use Rattle.pairs.specs.Internal.{RunOf, siteOf, near, nearSites, Reference}
 use Rattle.pairs.proofs.Offset.{far-left, far-right, far}

@@ -18,14 +18,14 @@ use Rattle.order.specs.Terms.{Sorted}
 use Rattle.order.proofs.Lists.{all-at}
 use Rattle.site.specs.SiteList.{Columns, site, sites}
 use Rattle.site.specs.Refusal.{listRefusal}
-use Rattle.site.proofs.Columns.{nowhere, sites-at}
+use Rattle.site.proofs.SiteList.{nowhere, sites-at}
 use Rattle.site.proofs.Accepted.{accepted-level, accepted-length, accepted-order, accepted-coordinates, inside-x}
-use Rattle.site.proofs.Cases.{byTest, and-first}
+use Rattle.site.proofs.Tests.{byTest, and-first}
 use Rattle.site.proofs.Integers.{up, down, le-not-lt, le-sides, le-total, le-trans, size-up, size-down}
 use Rattle.site.proofs.Distance.{squared-gap-x, squared-gap-y}
 use Rattle.sweep.specs.Strip.{Placed, whole}
-use Rattle.sweep.proofs.PlaceLaws.{length-whole, whole-at}
-use Rattle.sweep.proofs.StripLaws.{leftOf, whole-sorted}
+use Rattle.sweep.proofs.Strip.{length-whole, whole-at}
+use Rattle.sweep.proofs.LeftOf.{leftOf, whole-sorted}
 use Rattle.pairs.specs.declared.Run.{Run}
 use Rattle.pairs.specs.Internal.{offset, offsetAt, Rising, InOrder, Skipped, Behind, RunOf, near}
 

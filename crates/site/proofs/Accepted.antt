@@ -11,20 +11,19 @@ use lib.IntN.{ℤ, pos}
 use lib.ListN.{length, getD}
 use Rattle.order.specs.Order.{ascending}
 use Rattle.order.specs.Lists.{all, All}
-use Rattle.order.specs.Terms.{Ascends}
+use Rattle.order.proofs.Sorted.{Ascends, ascending-ascends, ascends-ascending}
 use Rattle.order.proofs.Lists.{all-holds, holds-all, all-at}
-use Rattle.order.proofs.Sorted.{ascending-ascends, ascends-ascending}
 use Rattle.site.specs.declared.Site.{Site}
 use Rattle.site.specs.Answer.{orElse}
 use Rattle.site.specs.Site.{within, lawfulSite, siteBefore}
 use Rattle.site.specs.SiteList.{Columns, sites, siteAt}
 use Rattle.site.specs.Terms.{Level, Coordinates}
 use Rattle.site.specs.Refusal.{equalLengths, sizeFault, contentRefusal, listRefusal, listsRefusal}
-use Rattle.site.proofs.Cases.{and-first, and-second}
+use Rattle.site.proofs.Tests.{and-first, and-second}
 use Rattle.site.proofs.Answer.{orElse-first, orElse-second, fault-none}
 use Rattle.site.proofs.SiteBefore.{site-order}
-use Rattle.site.proofs.Columns.{columnsAt, sites-length, site-at}
-use Rattle.site.proofs.Lawful.{lawful-columns, equal-level, content-left}
+use Rattle.site.proofs.SiteList.{columnsAt, sites-length, site-at}
+use Rattle.site.proofs.Refusal.{lawful-columns, equal-level, content-left}
 
 -- Sites that no test refuses, by the tests and one by one.
 module _ (l : List Site) (ok : contentRefusal l ≡ 0) where
@@ -44,7 +43,7 @@ module _ (l : List Site) (ok : contentRefusal l ≡ 0) where
 
 pub content-lawful : (l : List Site) → All (λ s. lawfulSite s ≡ true) l → Ascends siteBefore l → contentRefusal l ≡ 0
 unfolding contentRefusal orElse
-content-lawful l h k = simp (holds-all lawfulSite l h, ascends-ascending site-order l k)
+content-lawful l h k = simp (holds-all lawfulSite l h, ascends-ascending siteBefore l k)
 
 -- A coordinate at a place of columns inside the limits.
 module _ {xs ys : List ℤ} (h : Coordinates xs ys) (i : ℕ) (inside : i < length xs) where

@@ -14,8 +14,8 @@ use Rattle.site.specs.SiteList.{Columns, sites, inUse}
 use Rattle.site.specs.Terms.{Level}
 use Rattle.site.specs.Refusal.{equalLengths, sizeFault, contentRefusal, listRefusal}
 use Rattle.site.specs.Addition.{placeOf, present, addRefusal, AddValues, insertSite, addAnswer, addedAnswer}
-use Rattle.site.proofs.Lawful.{lawful-is, level-equal, equal-level, content-left}
-use Rattle.site.proofs.Cases.{and-first, or-first, or-second}
+use Rattle.site.proofs.Refusal.{lawful-is, level-equal, equal-level, content-left}
+use Rattle.site.proofs.Tests.{and-first, or-first, or-second}
 use Rattle.site.proofs.Answer.{answer-values, answer-refused, after-refused, after-answered, first-refused, orElse-first, orElse-second, no-fault, fault-none}
 
 -- The values of an addition that is not refused.

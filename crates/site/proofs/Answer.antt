@@ -4,7 +4,7 @@ use mathlib.Core.Bool.{Bool, true, false, not, cond}
 use Prim.Native.Nat.{ℕ, zero, suc}
 use native.Mathlib.Omega.{arith}
 use borrow.Author.Tests.{not-false}
-use Rattle.site.specs.Answer.{refused, answered, answerUnless, unlessRefused, afterwards, numberOf, orElse}
+use Rattle.site.specs.Answer.{refused, answered, answerUnless, afterwards, numberOf, orElse}
 
 -- There is none, or there is one.
 pub byNumber : {P : Type 0} → (n : ℕ) → (n ≡ 0 → P) → ((n ≡ 0 → ⊥) → P) → P
@@ -42,16 +42,7 @@ module _ {A : Type 0} where
   answer-number zero values = refl
   answer-number (suc n) values = refl
 
-  -- ---- what a lent place holds
-
-  pub unless-kept : {n r : ℕ} (before after : A) → r ≡ n → (r ≡ 0 → ⊥) → before ≡ unlessRefused n before after
-  unfolding unlessRefused
-  unless-kept {r = zero} before after e h = absurd (h refl)
-  unless-kept {r = suc r} before after e h = rw (← e)
-
-  pub unless-done : {n r : ℕ} (before after : A) → r ≡ n → r ≡ 0 → after ≡ unlessRefused n before after
-  unfolding unlessRefused
-  unless-done before after e h = rw (← e, h)
+-- ---- what a lent place holds
 
 module _ {A B : Type 0} (value : A → B) where
   pub after-refused : {n r : ℕ} (values : A) (before : B) → r ≡ n → (r ≡ 0 → ⊥)

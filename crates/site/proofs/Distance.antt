@@ -14,7 +14,7 @@ use Rattle.site.specs.declared.Site.{Site}
 use Rattle.site.specs.SiteList.{site}
 use Rattle.site.specs.Site.{within, plane, gap, square, squaredDistance}
 use Rattle.order.proofs.Order.{byTest}
-use Rattle.site.proofs.Cases.{and-first, and-second}
+use Rattle.site.proofs.Tests.{and-first, and-second}
 use Rattle.site.proofs.Integers.{up, down, le-sides, le-total, le-trans as leZ-trans, size-up, size-down}
 
 -- A gap by sides.

@@ -9,15 +9,14 @@ use borrow.Author.Tests.{not-false}
 use lib.IntN.{ℤ}
 use lib.ListN.{length, take, drop, length-append, length-take, length-drop}
 use lib.Seq.{take-at, drop-at, take-add, length-take-le}
-use Rattle.order.specs.Terms.{StrictOrder, Ascends}
+use Rattle.order.proofs.Sorted.{Ascends, insert-is-perm, sorted-insert, ascends-sorted, ascends-distinct, distinct-ascends}
+use Rattle.order.proofs.Order.{StrictOrder, byTest, never-both, irrefl}
 use Rattle.column.specs.Column.{inserted}
 use Rattle.column.proofs.Inserted.{length-inserted}
 use Rattle.order.specs.Lists.{all, keep, All, Distinct}
-use Rattle.order.specs.Best.{insert}
-use Rattle.order.proofs.Order.{byTest, never-both, irrefl}
+use Rattle.order.specs.Sort.{insert}
 use Rattle.order.proofs.Lists.{all-weaken, all-holds, keep-yes, keep-none, perm-all, perm-distinct}
 use Rattle.order.proofs.Best.{insert-nil, insert-later, insert-here}
-use Rattle.order.proofs.Sorted.{insert-is-perm, sorted-insert, ascends-sorted, ascends-distinct, distinct-ascends}
 use Rattle.site.specs.declared.Site.{Site}
 use Rattle.site.specs.Answer.{afterwards}
 use Rattle.site.specs.Site.{lawfulSite, siteBefore}
@@ -26,7 +25,7 @@ use Rattle.site.specs.Terms.{Level}
 use Rattle.site.specs.Refusal.{listRefusal}
 use Rattle.site.specs.Addition.{placeOf, present, addRefusal, insertSite, addAnswer}
 use Rattle.site.proofs.SiteBefore.{site-order}
-use Rattle.site.proofs.Columns.{sites-length}
+use Rattle.site.proofs.SiteList.{sites-length}
 use Rattle.site.proofs.PlaceOf.{place-le}
 use Rattle.site.proofs.Accepted.{LawfulList, content-inside, content-ascends, lawful-accepted}
 use Rattle.site.proofs.Addition.{in-use-level, added-content, added-lawful, added-new, added-room, added-few, added-level, added-after}

@@ -1,14 +1,14 @@
 -- The laws of sites and site lists.
-pub mod Cases
+pub mod Tests
 pub mod Answer
 pub mod Integers
 pub mod Distance
-pub mod Machine
+pub mod Signed
 pub mod Within
 pub mod Counting
 pub mod SiteBefore
-pub mod Columns
-pub mod Lawful
+pub mod SiteList
+pub mod Refusal
 pub mod Accepted
 pub mod PlaceOf
 pub mod Addition

@@ -4,8 +4,7 @@ use mathlib.Core.Bool.{true, false, cond}
 use lib.Dec.{ltb}
 use lib.Signed.{ltZ}
 use Rattle.order.specs.Order.{lex}
-use Rattle.order.specs.Terms.{StrictOrder}
-use Rattle.order.proofs.Order.{strict, lex-order, by-integer, by-number}
+use Rattle.order.proofs.Order.{StrictOrder, strict, lex-order, by-integer, by-number}
 use Rattle.site.specs.declared.Site.{Site}
 use Rattle.site.specs.Site.{siteBefore}
 

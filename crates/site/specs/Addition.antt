@@ -42,12 +42,15 @@ pub record AddValues : Type 0 where
   pub place : ℕ
   pub count : ℕ
 
+abbrev pub addValues : Columns → ℕ → ℕ → AddValues
+addValues c place count = record { columns = c; place = place; count = count }
+
 unfoldable pub addAnswer : Columns → ℕ → Site → Answer AddValues
 addAnswer c count s =
     let p = placeOf s (sites (inUse count c)) in
-    answerUnless (addRefusal c count s) (record { columns = insertSite p count s c; place = p; count = count + 1 })
+    answerUnless (addRefusal c count s) (addValues (insertSite p count s c) p (count + 1))
 
 -- The number and the values for each case of `Added`, with the columns at exit.
 unfoldable pub addedAnswer : Added → Columns → Answer AddValues
-addedAnswer (At place count) c = answered (record { columns = c; place = place; count = count })
+addedAnswer (At place count) c = answered (addValues c place count)
 addedAnswer (Refused number) c = refused number

@@ -12,11 +12,6 @@ unfoldable pub answerUnless : {A : Type 0} → ℕ → A → Answer A
 answerUnless zero values = answered values
 answerUnless (suc n) values = refused (suc n)
 
--- What a lent place holds afterwards: "every lent buffer and the campaign being as before" a refusal.
-unfoldable pub unlessRefused : {A : Type 0} → ℕ → A → A → A
-unlessRefused zero before after = after
-unlessRefused (suc n) before after = before
-
 -- What a lent place holds afterwards: a value of the answer, or what it held before a refusal.
 unfoldable pub afterwards : {A B : Type 0} → (A → B) → Answer A → B → B
 afterwards value (refused number) before = before

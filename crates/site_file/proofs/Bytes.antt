@@ -14,7 +14,7 @@ use mir.Syntax.{w32, w64}
 use mir.Val.{Fits, SFits, toZ, ofZ}
 use mir.Facts.{toZ-ofZ, sfits-widen}
 use Rattle.order.proofs.Order.{byTest, never-both}
-use Rattle.site.proofs.Machine.{cast-back}
+use Rattle.site.proofs.Signed.{cast-back}
 use Rattle.site_file.specs.Bytes.{bytes4, unsigned, signed}
 use Rattle.column.specs.Column.{stored}
 use Rattle.column.proofs.Stored.{sets-stored}

@@ -18,7 +18,7 @@ use Rattle.site.specs.declared.Site.{Site}
 use Rattle.site.specs.Site.{within, lawfulSite, siteBefore}
 use Rattle.site.specs.SiteList.{Columns, site, sites}
 use Rattle.site.specs.Terms.{Level}
-use Rattle.site.proofs.Columns.{nowhere, sites-length, sites-at}
+use Rattle.site.proofs.SiteList.{nowhere, sites-length, sites-at}
 use Rattle.site_file.specs.declared.Which.{Which}
 use Rattle.site_file.specs.declared.Which.the-variants.{First, Second}
 use Rattle.site_file.specs.Bytes.{bytes4, word, unsigned, signed}

@@ -1,9 +1,9 @@
 -- The laws of site files.
 pub mod Bytes
 pub mod File
-pub mod Contents
+pub mod ReadAnswer
 pub mod WriteAnswer
 pub mod ReaderAnswer
-pub mod Words
-pub mod Bodies
+pub mod Word
+pub mod SitesIn
 pub mod RoundTrip

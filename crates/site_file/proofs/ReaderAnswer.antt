@@ -16,7 +16,7 @@ use Rattle.site_file.specs.Bytes.{word}
 use Rattle.site_file.specs.File.{startIn, countIn, siteIn}
 use Rattle.site_file.specs.Calls.{contentsRefusal, siteRefusal, siteAnswer}
 use Rattle.site_file.specs.ReaderAnswer.{heldStart, ownStarts, readerRefusal, readerAnswer}
-use Rattle.site_file.proofs.Contents.{laid, inside, site-position}
+use Rattle.site_file.proofs.ReadAnswer.{laid, inside, site-position}
 
 pub held-first : (first second : ℕ) {r : ℕ} {w : Which} → w ≡ First → r ≡ first → r ≡ heldStart first second w
 unfolding heldStart

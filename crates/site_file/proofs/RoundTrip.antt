@@ -12,7 +12,7 @@ use Rattle.site.specs.Answer.{answered, orElse}
 use Rattle.site.specs.SiteList.{Columns, sites, siteAt, columnsOf}
 use Rattle.site.specs.Refusal.{contentRefusal, listsRefusal}
 use Rattle.site.proofs.Answer.{answer-values, answered-values, or-none}
-use Rattle.site.proofs.Columns.{columns-sites, columns-length}
+use Rattle.site.proofs.SiteList.{columns-sites, columns-length}
 use Rattle.site.proofs.Accepted.{accepted-length, accepted-content}
 use Rattle.site_file.specs.declared.Which.{Which}
 use Rattle.site_file.specs.declared.Which.the-variants.{First, Second}
@@ -28,11 +28,11 @@ use Rattle.site_file.specs.Calls.{
   siteAnswer,
 }
 use Rattle.site_file.specs.RoundTrip.{EveryOutputAccepted, EveryAcceptedIsOutput}
-use Rattle.site_file.proofs.Words.{Bytes, digits, bytes-back}
+use Rattle.site_file.proofs.Word.{Bytes, digits, bytes-back}
 use Rattle.site_file.proofs.File.{from-length, list-length}
-use Rattle.site_file.proofs.Contents.{Laid, contents-right, read-laid, read-answered, site-found}
+use Rattle.site_file.proofs.ReadAnswer.{Laid, contents-right, read-laid, read-answered, site-found}
 use Rattle.site_file.proofs.WriteAnswer.{ready, contents-length, body-end, file-length, write-ready}
-use Rattle.site_file.proofs.Bodies.{Fit, sites-read, body-back, sites-fit, columns-numbers, columns-accepted}
+use Rattle.site_file.proofs.SitesIn.{Fit, sites-read, body-back, sites-fit, columns-numbers, columns-accepted}
 
 -- The four words of a file's contents.
 contents-words : (n m : ℕ) → n ≤ 65_535 → m ≤ 65_535 → (r : List ℕ)

@@ -55,9 +55,12 @@ pub record ReadValues : Type 0 where
   pub first : ℕ
   pub second : ℕ
 
+abbrev pub readValues : ℕ → ℕ → ReadValues
+readValues first second = record { first = first; second = second }
+
 -- "the file reader, both site counts", or the refusal.
 unfoldable pub readAnswer : List ℕ → Answer ReadValues
-readAnswer file = answerUnless (readRefusal file) (record { first = countIn file First; second = countIn file Second })
+readAnswer file = answerUnless (readRefusal file) (readValues (countIn file First) (countIn file Second))
 
 -- "Reading a site of a file makes the tests for 1 and 10 again, then 8, but not those for 2 and 3."
 unfoldable pub siteRefusal : List ℕ → Which → ℕ → ℕ
@@ -73,7 +76,7 @@ writtenAnswer (written.Bytes length) buffer = answered (writeValues buffer lengt
 writtenAnswer (written.Refused number) buffer = refused number
 
 unfoldable pub fileReadAnswer : FileRead → Answer ReadValues
-fileReadAnswer (read.Counts first second) = answered (record { first = first; second = second })
+fileReadAnswer (read.Counts first second) = answered (readValues first second)
 fileReadAnswer (read.Refused number) = refused number
 
 unfoldable pub siteReadAnswer : SiteRead → Answer Site

@@ -9,7 +9,7 @@ use Rattle.site.specs.Answer.{answered}
 use Rattle.site.specs.SiteList.{Columns, sites, siteAt}
 use Rattle.site_file.specs.declared.Which.the-variants.{First, Second}
 use Rattle.site_file.specs.File.{sitesIn}
-use Rattle.site_file.specs.Calls.{WriteValues, writeValues, writeAnswer, readRefusal, readAnswer, siteAnswer}
+use Rattle.site_file.specs.Calls.{WriteValues, writeValues, writeAnswer, readRefusal, readValues, readAnswer, siteAnswer}
 
 -- What a column of numbers can hold.
 abbrev pub Numbers : Columns → Type 0
@@ -17,7 +17,7 @@ Numbers c = All (λ n. n < 4_294_967_296) (c .number)
 
 -- A file is accepted with two lists, and consulting it site by site yields them.
 pub record Yields (file : List ℕ) (a b : Columns) : Type 0 where
-  pub accepted : readAnswer file ≡ answered (record { first = length (a .x); second = length (b .x) })
+  pub accepted : readAnswer file ≡ answered (readValues (length (a .x)) (length (b .x)))
   pub first : sitesIn file First ≡ sites a
   pub second : sitesIn file Second ≡ sites b
   pub first-site : (p : ℕ) → p < length (a .x) → siteAnswer file First p ≡ answered (siteAt (sites a) p)

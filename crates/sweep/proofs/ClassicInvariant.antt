@@ -17,7 +17,7 @@ use Rattle.sweep.specs.Terms.{spot, rightward, SweepAsked}
 use Rattle.sweep.specs.Internal.{referenceAt, lookFrom, firstNext, stateOf, TallyReady, ScanAsked, Updated, Tallied}
 use Rattle.sweep.proofs.ClassicLaws.{classic-nil, classic-nil-right, classic-first, classic-second}
 use Rattle.sweep.proofs.Counted.{classic-counted}
-use Rattle.sweep.proofs.RunLaws.{rightward-nil, rightward-cons}
+use Rattle.sweep.proofs.SiteRuns.{rightward-nil, rightward-cons}
 use Rattle.sweep.proofs.Updated.{updated-none, updated-twice}
 use Rattle.sweep.proofs.FirstNext.{next-leads}
 use Rattle.sweep.proofs.ReferenceLaws.{looks-first, looks-second, reference-asks}

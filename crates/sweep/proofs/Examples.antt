@@ -3,7 +3,7 @@ use mathlib.Core.Path.{_≡_, refl}
 use mathlib.Core.List.{[], _∷_}
 use lib.IntN.{pos}
 use Rattle.sweep.specs.declared.Way.the-variants.{Classic, ReverseRun}
-use Rattle.order.specs.Best.{insert}
+use Rattle.order.specs.Sort.{insert}
 use Rattle.order.specs.Lists.{sum, last}
 use Rattle.order.specs.Order.{lex}
 use Rattle.site.specs.Site.{gap, square, squaredDistance}

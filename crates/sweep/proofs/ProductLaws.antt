@@ -8,8 +8,8 @@ use native.Mathlib.Omega.{arith}
 use lib.ListN.{length, length-append, length-map}
 use mathlib.Core.List.{List, [], _∷_, _++_, map, flatMap, append-assoc, List·Memᴰ, List·Memᴰ·head, List·Memᴰ·tail, List·Memᴰ·not-nil, List·Memᴰ·cases-cons, List·Memᴰ·append-cases, Memᴰ·append-left, Memᴰ·append-right, Memᴰ·map, Memᴰ·of-map, List·Permᴰ, List·Permᴰ·nil, List·Permᴰ·cons, List·Permᴰ·trans, Permᴰ·refl, Permᴰ·symm, Permᴰ·append-left, Permᴰ·append-right, List·Permᴰ·append-comm}
 use Rattle.order.specs.Lists.{All}
-use Rattle.order.specs.Terms.{Ascends}
-use Rattle.order.proofs.Lists.{all-append, all-map, all-weaken, mem-all}
+use Rattle.order.proofs.Sorted.{Ascends}
+use Rattle.order.proofs.Lists.{perm-eq, all-append, all-map, all-weaken, mem-all}
 use Rattle.sweep.specs.Strip.{product}
 
 -- Two lists that ascend, the first before the second.
@@ -21,10 +21,6 @@ ascends-join before (a ∷ l) m s t h =
     (all-append (λ b. before a b ≡ true) l m (s .0) (h .0), ascends-join before l m (s .1) t (h .1))
 
 module _ {C : Type 0} where
-  -- Equal lists.
-  pub perm-eq : {l m : List C} → l ≡ m → List·Permᴰ l m
-  perm-eq {l} {m} e = rw e (Permᴰ·refl m)
-
   -- Two parts change places in front of a rest.
   pub perm-exchange : (a b r : List C) → List·Permᴰ (a ++ (b ++ r)) (b ++ (a ++ r))
   perm-exchange a b r = rw (← append-assoc a b r, ← append-assoc b a r) (Permᴰ·append-right r (List·Permᴰ·append-comm a b))

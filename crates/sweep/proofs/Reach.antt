@@ -13,7 +13,7 @@ use Rattle.entry.specs.Entry.{offer, lastDistance}
 use Rattle.entry.specs.Results.{Results, entriesOf}
 use Rattle.entry.specs.Terms.{Ready, reachOf}
 use Rattle.entry.proofs.Rank.{offer-past}
-use Rattle.entry.proofs.Columns.{length-entries, last-distance-column}
+use Rattle.entry.proofs.Results.{length-entries, last-distance-column}
 use Rattle.sweep.specs.Scan.{beyond}
 
 module _ (k : ℕ) where

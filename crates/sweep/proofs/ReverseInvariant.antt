@@ -21,7 +21,7 @@ use Rattle.sweep.specs.Terms.{spot, rightward, SweepAsked}
 use Rattle.sweep.specs.Internal.{leftward, referenceAt, lookFrom, firstNext, stateOf, TallyReady, ScanAsked, Updated, Tallied}
 use Rattle.sweep.proofs.ReverseLaws.{reverse-nil, reverse-first, reverse-first-last, reverse-second, reverse-second-last}
 use Rattle.sweep.proofs.Counted.{scan-passed, reverse-counted}
-use Rattle.sweep.proofs.RunLaws.{rightward-nil, rightward-cons, leftward-nil, leftward-more, take-leftward, length-leftward}
+use Rattle.sweep.proofs.SiteRuns.{rightward-nil, rightward-cons, leftward-nil, leftward-more, take-leftward, length-leftward}
 use Rattle.sweep.proofs.Updated.{updated-none, updated-twice}
 use Rattle.sweep.proofs.FirstNext.{next-none, next-alone, next-leads}
 use Rattle.sweep.proofs.ReferenceLaws.{looks-first, looks-second, reference-asks}

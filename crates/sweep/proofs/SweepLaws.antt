@@ -18,7 +18,7 @@ use Rattle.sweep.specs.Sweep.{leads, look, sweep}
 use Rattle.sweep.proofs.Geometry.{Geometry, by-keys}
 use Rattle.sweep.proofs.ClassicLaws.{classic-best}
 use Rattle.sweep.proofs.ReverseLaws.{reverse-best}
-use Rattle.sweep.proofs.StripLaws.{leftOf, whole-sorted, strip-sorted}
+use Rattle.sweep.proofs.LeftOf.{leftOf, whole-sorted, strip-sorted}
 
 -- Sites in the plane: the x-difference squared bounds the squared distance.
 pub plane-geometry : Geometry leftOf leftOf leads look

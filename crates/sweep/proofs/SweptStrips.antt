@@ -7,7 +7,7 @@ use lib.IntN.{ℤ}
 use lib.ListN.{length}
 use Rattle.site.specs.SiteList.{columns}
 use Rattle.entry.specs.Results.{Results, entriesOf, holding}
-use Rattle.entry.proofs.Columns.{length-entries}
+use Rattle.entry.proofs.Results.{length-entries}
 use Rattle.sweep.specs.declared.Swept.{Swept}
 use Rattle.sweep.specs.declared.Tally.{Tally}
 use Rattle.sweep.specs.declared.Way.{Way}
@@ -16,8 +16,8 @@ use Rattle.sweep.specs.Sweep.{sweep}
 use Rattle.sweep.specs.Terms.{rightward, SweepAsked, SweptStrips}
 use Rattle.sweep.specs.Internal.{stateOf, Tallied}
 use Rattle.sweep.proofs.Counted.{Counted, sweep-looks-fit, sweep-distances-bound}
-use Rattle.sweep.proofs.RunLaws.{length-rightward}
-use Rattle.sweep.proofs.NumberLaws.{sweep-strips}
+use Rattle.sweep.proofs.SiteRuns.{length-rightward}
+use Rattle.sweep.proofs.Unnumbered.{sweep-strips}
 
 module _ (way : Way) (ax ay bx by : List ℤ) (aFrom aTo bFrom bTo k old : ℕ) (before : Results) (asked : SweepAsked ax ay bx by aFrom aTo bFrom bTo k old before) where
   -- The state in the end.

@@ -9,7 +9,7 @@ use Rattle.entry.specs.Entry.{offer}
 use Rattle.entry.specs.Results.{Results, entriesOf, holding}
 use Rattle.entry.specs.Terms.{Ready, Holds}
 use Rattle.entry.proofs.Rank.{length-offer, sorted-offer}
-use Rattle.entry.proofs.Columns.{room-lengths, lengths-room, length-entries, entries-holding, holding-self, holding-again, holding-lengths, room-holding}
+use Rattle.entry.proofs.Results.{room-lengths, lengths-room, length-entries, entries-holding, holding-self, holding-again, holding-lengths, room-holding}
 use Rattle.sweep.specs.Internal.{Updated}
 
 -- The columns have the same lengths.

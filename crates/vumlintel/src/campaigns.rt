@@ -1,13 +1,13 @@
 // Opening a campaign, its jobs and its status. A campaign crosses in its parts, each behind a reference.
 ghost use mathlib.Core.Path.{_≡_};
-ghost use Rattle.column.specs.Lent.{the, _of_};
+ghost use Rattle.column.specs.Lent.{the, _of_, _with_};
 ghost use Rattle.site.specs.SiteList.{lentList};
 ghost use Rattle.entry.specs.Results.{Results, lentResults};
 ghost use Rattle.sweep.specs.declared.Way.the-variants.{Classic, ReverseRun};
 ghost use Rattle.campaign.specs.Grid.{jobOf};
 ghost use Rattle.campaign.specs.Calls.{openAnswer, jobValues, jobAnswer, jobDoneAnswer, statusValues, statusAnswer};
 ghost use Rattle.vumlintel.specs.Crosses.{Crosses};
-ghost use Rattle.vumlintel.specs.Lent.{_with_, lentCampaign};
+ghost use Rattle.vumlintel.specs.Lent.{lentCampaign};
 use campaign::Campaign;
 use campaign::JobDone;
 use campaign::Outcome;

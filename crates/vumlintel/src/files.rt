@@ -2,9 +2,8 @@
 ghost use Rattle.column.specs.Lent.{the, _of_};
 ghost use Rattle.site.specs.SiteList.{lentList, site};
 ghost use Rattle.site_file.specs.declared.Which.the-variants.{First, Second};
-ghost use Rattle.site_file.specs.Calls.{writeValues, writeAnswer, readAnswer, siteAnswer};
+ghost use Rattle.site_file.specs.Calls.{writeValues, writeAnswer, readAnswer, siteAnswer, readValues};
 ghost use Rattle.vumlintel.specs.Crosses.{Crosses};
-ghost use Rattle.vumlintel.specs.Lent.{readValues};
 use site_file::FileRead;
 use site_file::SiteRead;
 use site_file::Which;

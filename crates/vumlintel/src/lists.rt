@@ -1,10 +1,9 @@
 // Checking a site list, and adding a site to one.
-ghost use Rattle.column.specs.Lent.{the, _of_};
+ghost use Rattle.column.specs.Lent.{the, _of_, _with_};
 ghost use Rattle.site.specs.SiteList.{lentList, site};
 ghost use Rattle.site.specs.Refusal.{checkAnswer};
-ghost use Rattle.site.specs.Addition.{addAnswer};
+ghost use Rattle.site.specs.Addition.{addAnswer, addValues};
 ghost use Rattle.vumlintel.specs.Crosses.{Crosses};
-ghost use Rattle.vumlintel.specs.Lent.{_with_, addValues};
 use site::Added;
 use site::Checked;
 use site::Site;

@@ -1,12 +1,11 @@
 // The K list and the distance list of two lists.
-ghost use Rattle.column.specs.Lent.{the, _of_};
+ghost use Rattle.column.specs.Lent.{the, _of_, _with_};
 ghost use Rattle.site.specs.SiteList.{lentList};
 ghost use Rattle.entry.specs.Results.{lentResults};
 ghost use Rattle.sweep.specs.declared.Way.the-variants.{Classic, ReverseRun};
 ghost use Rattle.pairs.specs.KList.{kListValues, kListAnswer};
 ghost use Rattle.pairs.specs.DistanceList.{distanceValues, distanceAnswer};
 ghost use Rattle.vumlintel.specs.Crosses.{Crosses};
-ghost use Rattle.vumlintel.specs.Lent.{_with_};
 use pairs::Listed;
 use pairs::Within;
 use sweep::Way;

@@ -3,7 +3,7 @@ use Prim.Native.Nat.{_-_}
 use native.Mathlib.Omega.{arith}
 use borrow.Author.Needs.{needs}
 use Rattle.entry.specs.Results.{results}
-use Rattle.entry.proofs.Columns.{room-lengths}
+use Rattle.entry.proofs.Results.{room-lengths}
 use Rattle.entry.proofs.PlaceOf.{Between, between-starts, between-raised, between-lowered, between-ends}
 use Rattle.entry.proofs.place.Statement.{statement}
 use Rattle.entry.proofs.place.Tie as tie

@@ -1,5 +1,5 @@
 -- `entry::room` meets its contract.
-use Rattle.entry.proofs.Columns.{no-room-distance, no-room-first, room-second}
+use Rattle.entry.proofs.Results.{no-room-distance, no-room-first, room-second}
 use Rattle.entry.proofs.room.Statement.{statement}
 use Rattle.entry.proofs.room.Tie as tie
 

@@ -13,7 +13,7 @@ use Rattle.site.specs.Terms.{Level, Numbered}
 use Rattle.entry.specs.declared.Entry.{Entry}
 use Rattle.entry.specs.Entry.{entry}
 use Rattle.entry.specs.Results.{results, entriesOf}
-use Rattle.campaign.specs.Keeper.{soundEntry}
+use Rattle.campaign.specs.Soundness.{soundEntry}
 use Rattle.campaign.proofs.SoundEntry.{stands-at, entries-many}
 use Rattle.campaign.proofs.AllAscending.{all-more, all-falls, all-end}
 use Rattle.campaign.proofs.soundness.all_sound.Statement.{statement}

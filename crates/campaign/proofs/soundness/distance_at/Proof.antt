@@ -4,7 +4,7 @@ use lib.IntN.{ℤ}
 use mir.Facts.{toZ-ofZ}
 use Rattle.site.specs.Site.{squaredDistance}
 use Rattle.site.specs.SiteList.{columns, site}
-use Rattle.site.proofs.Machine.{at₄}
+use Rattle.site.proofs.Signed.{at₄}
 use Rattle.site.proofs.Accepted.{coordinate-x, coordinate-y}
 use Rattle.campaign.proofs.SoundEntry.{apart-at}
 use Rattle.campaign.proofs.soundness.distance_at.Statement.{statement}

@@ -11,7 +11,7 @@ use lib.ListN.{getD, drop}
 use Rattle.order.specs.Order.{ascending}
 use Rattle.entry.specs.Entry.{entry, rankBefore}
 use Rattle.entry.specs.Results.{results, entriesOf}
-use Rattle.entry.proofs.Columns.{room-lengths, entry-at}
+use Rattle.entry.proofs.Results.{room-lengths, entry-at}
 use Rattle.campaign.proofs.AllAscending.{order-more, order-falls, order-end}
 use Rattle.campaign.proofs.soundness.in_order.Statement.{statement}
 use Rattle.campaign.proofs.soundness.in_order.Tie as tie

@@ -5,7 +5,7 @@ use mathlib.Core.Bool.{Bool, not, cond}
 use Rattle.site.specs.SiteList.{Columns, columns}
 use Rattle.site.specs.Refusal.{listRefusal}
 use Rattle.entry.specs.Results.{Results, results}
-use Rattle.campaign.specs.Keeper.{campaignRefusal}
+use Rattle.campaign.specs.Soundness.{campaignRefusal}
 use Rattle.site.proofs.Accepted.{both-accepted, accepted-level, accepted-coordinates}
 use Rattle.campaign.proofs.Sound.{lists-refused, sound-decides}
 use Rattle.campaign.proofs.soundness.refusal.Statement.{statement}

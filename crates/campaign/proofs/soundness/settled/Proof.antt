@@ -3,7 +3,7 @@ use borrow.Author.Needs.{needs}
 use mathlib.Core.Path.{_≡_}
 use native.Mathlib.Omega.{arith}
 use lib.ListN.{length}
-use Rattle.campaign.specs.Keeper.{firstEnds, secondEnds}
+use Rattle.campaign.specs.Soundness.{firstEnds, secondEnds}
 use Rattle.campaign.proofs.SoundPlan.{in-use, tally-plan}
 use Rattle.campaign.proofs.soundness.settled.Statement.{statement}
 use Rattle.campaign.proofs.soundness.settled.Tie as tie

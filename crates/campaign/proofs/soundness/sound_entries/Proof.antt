@@ -9,7 +9,7 @@ use lib.Seq.{length-take-le}
 use Rattle.order.specs.Order.{ascending}
 use Rattle.entry.specs.Entry.{rankBefore}
 use Rattle.entry.specs.Results.{Results, results, entriesOf}
-use Rattle.entry.proofs.Columns.{room-lengths, room-first, entries-first}
+use Rattle.entry.proofs.Results.{room-lengths, room-first, entries-first}
 use Rattle.campaign.proofs.SoundPlan.{in-use}
 use Rattle.campaign.proofs.Sound.{order-fails, entries-decide}
 use Rattle.campaign.proofs.soundness.sound_entries.Statement.{statement}

@@ -5,7 +5,7 @@ use lib.IntN.{ℤ}
 use lib.Signed.{ltZ}
 use mir.Facts.{toZ-ofZ}
 use Rattle.site.specs.Site.{gap, square}
-use Rattle.site.proofs.Machine.{at₂}
+use Rattle.site.proofs.Signed.{at₂}
 use Rattle.campaign.proofs.StripRange.{range-before, range-after, range-touch}
 use Rattle.campaign.proofs.strips.range_gap.Statement.{statement}
 use Rattle.campaign.proofs.strips.range_gap.Tie as tie

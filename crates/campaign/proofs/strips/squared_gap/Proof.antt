@@ -5,7 +5,7 @@ use lib.IntN.{ℤ}
 use mir.Facts.{toZ-ofZ}
 use Rattle.site.specs.Site.{square}
 use Rattle.site.specs.SiteList.{columns}
-use Rattle.site.proofs.Machine.{at₄}
+use Rattle.site.proofs.Signed.{at₄}
 use Rattle.campaign.specs.Grid.{rangeGap}
 use Rattle.campaign.proofs.StripRange.{strip-gap}
 use Rattle.campaign.proofs.strips.squared_gap.Statement.{statement}

@@ -1,5 +1,5 @@
 -- Both lists read into columns, and their text.
-use Rattle.site_file.proofs.Contents.{read-contents}
+use Rattle.site_file.proofs.ReadAnswer.{read-contents}
 use Rattle.listing.proofs.FileLists.{read-lawful, read-text}
 use borrow.Author.Needs.{needs}
 use Rattle.listing.proofs.cases.list_sites.Statement.{statement}

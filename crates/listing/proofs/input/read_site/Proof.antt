@@ -1,6 +1,6 @@
 -- One site of a file into its columns: the consulted file is never refused.
 use native.Mathlib.Omega.{arith}
-use Rattle.site_file.proofs.Contents.{laid, inside}
+use Rattle.site_file.proofs.ReadAnswer.{laid, inside}
 use Rattle.listing.proofs.FileLists.{x-stored, y-stored, number-stored, found-site, found-always}
 use borrow.Author.Needs.{needs}
 use Rattle.listing.proofs.input.read_site.Statement.{statement}

@@ -7,7 +7,7 @@ use lib.IntN.{ℤ}
 use mir.Facts.{toZ-ofZ}
 use Rattle.site.specs.Site.{squaredDistance}
 use Rattle.site.specs.SiteList.{site}
-use Rattle.site.proofs.Machine.{at₁, at₄}
+use Rattle.site.proofs.Signed.{at₁, at₄}
 use Rattle.pairs.specs.Internal.{offset, siteOf, near}
 use Rattle.pairs.proofs.Offset.{far-y, square-fits}
 use Rattle.pairs.proofs.nearby.is_near.Statement.{statement}

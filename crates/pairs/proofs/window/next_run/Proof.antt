@@ -2,7 +2,7 @@
 use mathlib.Core.Path.{_≡_}
 use borrow.Author.Needs.{needs, sfits-of}
 use mir.Facts.{toZ-ofZ}
-use Rattle.site.proofs.Machine.{at₁}
+use Rattle.site.proofs.Signed.{at₁}
 use Rattle.pairs.specs.Internal.{offset, offsetAt}
 use Rattle.pairs.proofs.Offset.{run-next}
 use Rattle.pairs.proofs.window.next_run.Statement.{statement}

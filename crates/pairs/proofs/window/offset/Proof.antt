@@ -9,7 +9,7 @@ use lib.Signed.{ltZ}
 use mir.Syntax.{w32, w64}
 use mir.Val.{SFits, toZ, ofZ}
 use Rattle.site.specs.Site.{gap}
-use Rattle.site.proofs.Machine.{
+use Rattle.site.proofs.Signed.{
   cast-fits,
   cast-back,
   difference-fits,

@@ -5,7 +5,7 @@ use native.Mathlib.Omega.{arith}
 use borrow.Author.Needs.{needs, sfits-of}
 use lib.ListN.{length}
 use mir.Facts.{toZ-ofZ}
-use Rattle.site.proofs.Machine.{at₁}
+use Rattle.site.proofs.Signed.{at₁}
 use Rattle.pairs.specs.Internal.{offset, offsetAt}
 use Rattle.pairs.proofs.Offset.{between-none, between-more}
 use Rattle.pairs.proofs.window.skip_below.Statement.{statement}

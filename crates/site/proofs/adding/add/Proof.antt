@@ -12,8 +12,8 @@ use mir.Facts.{toZ-ofZ}
 use Rattle.site.specs.SiteList.{Columns, columns, site, sites, inUse}
 use Rattle.site.specs.Terms.{Level}
 use Rattle.site.specs.Addition.{placeOf, addRefusal}
-use Rattle.site.proofs.Machine.{at₂}
-use Rattle.site.proofs.Columns.{sites-length}
+use Rattle.site.proofs.Signed.{at₂}
+use Rattle.site.proofs.SiteList.{sites-length}
 use Rattle.site.proofs.PlaceOf.{place-le}
 use Rattle.site.proofs.Addition.{in-use-level, added-level, added-room, added-few, added-answer, added-after, refused-answer, refused-after}
 use Rattle.site.proofs.adding.add.Statement.{statement}

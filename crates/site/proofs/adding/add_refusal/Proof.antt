@@ -14,8 +14,8 @@ use Rattle.site.specs.SiteList.{Columns, columns, site, sites, inUse}
 use Rattle.site.specs.Terms.{Level}
 use Rattle.site.specs.Refusal.{listRefusal}
 use Rattle.site.specs.Addition.{present}
-use Rattle.site.proofs.Machine.{at₁, at₂}
-use Rattle.site.proofs.Lawful.{level-by}
+use Rattle.site.proofs.Signed.{at₁, at₂}
+use Rattle.site.proofs.Refusal.{level-by}
 use Rattle.site.proofs.Addition.{add-unequal-y, add-unequal-number, add-many, add-beyond, in-use-level, add-content, add-outside-x, add-outside-y, add-full, add-most, add-present, add-ok}
 use Rattle.site.proofs.adding.add_refusal.Statement.{statement}
 use Rattle.site.proofs.adding.add_refusal.Tie as tie

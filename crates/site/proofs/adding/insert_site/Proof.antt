@@ -7,7 +7,7 @@ use mir.Facts.{toZ-ofZ}
 use Rattle.site.specs.SiteList.{columns}
 use Rattle.column.specs.Column.{inserted}
 use Rattle.site.specs.Addition.{insertSite}
-use Rattle.site.proofs.Machine.{at₁}
+use Rattle.site.proofs.Signed.{at₁}
 use Rattle.site.proofs.adding.insert_site.Statement.{statement}
 use Rattle.site.proofs.adding.insert_site.Tie as tie
 

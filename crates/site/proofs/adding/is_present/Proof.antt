@@ -13,8 +13,8 @@ use mir.Facts.{toZ-ofZ}
 use Rattle.site.specs.declared.Site.{Site}
 use Rattle.site.specs.SiteList.{Columns, columns, site, sites, siteAt}
 use Rattle.site.specs.Addition.{present}
-use Rattle.site.proofs.Machine.{at₂}
-use Rattle.site.proofs.Columns.{sites-length}
+use Rattle.site.proofs.Signed.{at₂}
+use Rattle.site.proofs.SiteList.{sites-length}
 use Rattle.site.proofs.Counting.{failing, no-le, failing-step, failing-end}
 use Rattle.site.proofs.PlaceOf.{apart, present-failing}
 use Rattle.site.proofs.adding.is_present.Statement.{statement}

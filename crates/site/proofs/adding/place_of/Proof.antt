@@ -12,8 +12,8 @@ use Rattle.site.specs.declared.Site.{Site}
 use Rattle.site.specs.Site.{siteBefore}
 use Rattle.site.specs.SiteList.{Columns, columns, site, sites, siteAt}
 use Rattle.site.specs.Addition.{placeOf}
-use Rattle.site.proofs.Machine.{at₂}
-use Rattle.site.proofs.Columns.{sites-length}
+use Rattle.site.proofs.Signed.{at₂}
+use Rattle.site.proofs.SiteList.{sites-length}
 use Rattle.site.proofs.Counting.{yes-le}
 use Rattle.site.proofs.PlaceOf.{place-step, place-end}
 use Rattle.site.proofs.adding.place_of.Statement.{statement}

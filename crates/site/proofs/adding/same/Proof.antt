@@ -8,7 +8,7 @@ use mir.Facts.{toZ-ofZ}
 use Rattle.site.specs.declared.Site.{Site}
 use Rattle.site.specs.Site.{siteBefore}
 use Rattle.site.specs.SiteList.{site}
-use Rattle.site.proofs.Machine.{at₄}
+use Rattle.site.proofs.Signed.{at₄}
 use Rattle.site.proofs.adding.same.Statement.{statement}
 use Rattle.site.proofs.adding.same.Tie as tie
 

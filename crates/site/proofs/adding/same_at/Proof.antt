@@ -7,8 +7,8 @@ use lib.ListN.{getD}
 use mir.Facts.{toZ-ofZ}
 use Rattle.site.specs.Site.{siteBefore}
 use Rattle.site.specs.SiteList.{columns, site}
-use Rattle.site.proofs.Machine.{at₄}
-use Rattle.site.proofs.Columns.{site-at}
+use Rattle.site.proofs.Signed.{at₄}
+use Rattle.site.proofs.SiteList.{site-at}
 use Rattle.site.proofs.adding.same_at.Statement.{statement}
 use Rattle.site.proofs.adding.same_at.Tie as tie
 

@@ -9,7 +9,7 @@ use lib.IntN.{ℤ, pos}
 use lib.ListN.{length, drop, getD}
 use mir.Facts.{toZ-ofZ}
 use Rattle.site.specs.Site.{within}
-use Rattle.site.proofs.Machine.{at₁}
+use Rattle.site.proofs.Signed.{at₁}
 use Rattle.site.proofs.Counting.{failing, failing-step, failing-end, all-failing, no-le}
 use Rattle.site.proofs.lists.all_within.Statement.{statement}
 use Rattle.site.proofs.lists.all_within.Tie as tie

@@ -8,7 +8,7 @@ use lib.IntN.{pos}
 use lib.ListN.{length, drop}
 use Rattle.site.specs.Site.{siteBefore}
 use Rattle.site.specs.SiteList.{Columns, columns, site, sites, siteAt}
-use Rattle.site.proofs.Columns.{sites-length}
+use Rattle.site.proofs.SiteList.{sites-length}
 use Rattle.site.proofs.Counting.{no-le, breaks, breaks-end, breaks-step, ascending-breaks}
 use Rattle.site.proofs.lists.ascends.Statement.{statement}
 use Rattle.site.proofs.lists.ascends.Tie as tie

@@ -2,7 +2,7 @@
 use Rattle.site.specs.declared.Site.{Site}
 use Rattle.site.specs.SiteList.{site}
 use Rattle.site.proofs.SiteBefore.{first-below, first-above, second-below, second-above, number-decides}
-use Rattle.site.proofs.Machine.{read-lt}
+use Rattle.site.proofs.Signed.{read-lt}
 use Rattle.site.proofs.lists.before.Statement.{statement}
 use Rattle.site.proofs.lists.before.Tie as tie
 

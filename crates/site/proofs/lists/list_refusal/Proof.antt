@@ -7,7 +7,7 @@ use Rattle.order.specs.Lists.{all}
 use Rattle.site.specs.Site.{within}
 use Rattle.site.specs.SiteList.{Columns, columns}
 use Rattle.site.specs.Terms.{Level}
-use Rattle.site.proofs.Lawful.{unequal-y, unequal-number, level-by, too-many, outside-x, outside-y, unordered, accepted}
+use Rattle.site.proofs.Refusal.{unequal-y, unequal-number, level-by, too-many, outside-x, outside-y, unordered, accepted}
 use Rattle.site.proofs.lists.list_refusal.Statement.{statement}
 use Rattle.site.proofs.lists.list_refusal.Tie as tie
 

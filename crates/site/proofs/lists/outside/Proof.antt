@@ -5,7 +5,7 @@ use Prim.Native.Nat.{ℕ}
 use borrow.Author.Needs.{needs}
 use mir.Facts.{toZ-ofZ}
 use Rattle.site.specs.Site.{within}
-use Rattle.site.proofs.Machine.{at₁}
+use Rattle.site.proofs.Signed.{at₁}
 use Rattle.site.proofs.lists.outside.Statement.{statement}
 use Rattle.site.proofs.lists.outside.Tie as tie
 

@@ -1,5 +1,5 @@
 -- `site::difference` meets its contract: an `i64` holds every difference of two `i32`.
-use Rattle.site.proofs.Machine.{cast-fits, cast-back, difference-fits, difference-back}
+use Rattle.site.proofs.Signed.{cast-fits, cast-back, difference-fits, difference-back}
 use Rattle.site.proofs.positions.difference.Statement.{statement}
 use Rattle.site.proofs.positions.difference.Tie as tie
 

@@ -3,7 +3,7 @@ use borrow.Author.Needs.{needs}
 use mathlib.Core.Path.{_≡_}
 use lib.IntN.{_-ℤ_}
 use mir.Facts.{toZ-ofZ}
-use Rattle.site.proofs.Machine.{at₂, below-fits, below-cast, below-gap, above-cast, above-gap}
+use Rattle.site.proofs.Signed.{at₂, below-fits, below-cast, below-gap, above-cast, above-gap}
 use Rattle.site.proofs.positions.gap.Statement.{statement}
 use Rattle.site.proofs.positions.gap.Tie as tie
 

@@ -7,7 +7,7 @@ use lib.IntN.{ℤ}
 use mir.Facts.{toZ-ofZ}
 use Rattle.site.specs.Site.{gap, square}
 use Rattle.site.specs.SiteList.{site}
-use Rattle.site.proofs.Machine.{at₂}
+use Rattle.site.proofs.Signed.{at₂}
 use Rattle.site.proofs.Distance.{squared-gap-within, squared-distance-is}
 use Rattle.site.proofs.positions.squared_distance.Statement.{statement}
 use Rattle.site.proofs.positions.squared_distance.Tie as tie

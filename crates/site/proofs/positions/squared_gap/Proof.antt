@@ -4,7 +4,7 @@ use mir.Facts.{toZ-ofZ}
 use Prim.Native.Nat.{_*_}
 use borrow.Author.Needs.{needs}
 use Rattle.site.specs.Site.{gap, square}
-use Rattle.site.proofs.Machine.{at₂, gap-squared-fits}
+use Rattle.site.proofs.Signed.{at₂, gap-squared-fits}
 use Rattle.site.proofs.positions.squared_gap.Statement.{statement}
 use Rattle.site.proofs.positions.squared_gap.Tie as tie
 

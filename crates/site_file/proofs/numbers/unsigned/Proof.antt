@@ -1,5 +1,5 @@
 -- `unsigned` meets its contract, for every `i32`.
-use Rattle.site.proofs.Machine.{cast-fits}
+use Rattle.site.proofs.Signed.{cast-fits}
 use Rattle.site_file.proofs.Bytes.{
   unsigned-sum-fits,
   unsigned-cast,

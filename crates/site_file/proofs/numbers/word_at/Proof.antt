@@ -1,5 +1,5 @@
 -- `word_at` meets its contract: other words are read in the rest of the file.
-use Rattle.site_file.proofs.Words.{word-made, word-none}
+use Rattle.site_file.proofs.Word.{word-made, word-none}
 use borrow.Author.Needs.{needs}
 use Rattle.site_file.proofs.numbers.word_at.Statement.{statement}
 use Rattle.site_file.proofs.numbers.word_at.Tie as tie

@@ -1,7 +1,7 @@
 -- `content_refusal` meets its contract: the limits, then the order.
 use borrow.Author.Needs.{needs}
 use borrow.Author.Tests.{not-true, not-false}
-use Rattle.site_file.proofs.Contents.{unlawful-site, unordered-sites, lawful-sites}
+use Rattle.site_file.proofs.ReadAnswer.{unlawful-site, unordered-sites, lawful-sites}
 use Rattle.site_file.proofs.reading.content_refusal.Statement.{statement}
 use Rattle.site_file.proofs.reading.content_refusal.Tie as tie
 

@@ -1,7 +1,7 @@
 -- `contents_refusal` meets its contract.
 use mathlib.Core.Path.{_∙_}
 use native.Mathlib.Omega.{arith}
-use Rattle.site_file.proofs.Contents.{
+use Rattle.site_file.proofs.ReadAnswer.{
   short-file,
   first-long,
   second-long,

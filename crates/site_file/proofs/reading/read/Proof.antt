@@ -1,7 +1,7 @@
 -- `read` meets its contract: the refusal, or both counts.
 use borrow.Author.Needs.{needs}
 use Rattle.site_file.specs.Calls.{fileReadAnswer}
-use Rattle.site_file.proofs.Contents.{read-refused, read-answered}
+use Rattle.site_file.proofs.ReadAnswer.{read-refused, read-answered}
 use Rattle.site_file.proofs.reading.read.Statement.{statement}
 use Rattle.site_file.proofs.reading.read.Tie as tie
 

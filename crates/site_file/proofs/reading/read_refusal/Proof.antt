@@ -2,7 +2,7 @@
 use mathlib.Core.Path.{sym, _∙_}
 use native.Mathlib.Omega.{arith}
 use borrow.Author.Needs.{needs}
-use Rattle.site_file.proofs.Contents.{Laid, laid, read-stops, read-first, read-second}
+use Rattle.site_file.proofs.ReadAnswer.{Laid, laid, read-stops, read-first, read-second}
 use Rattle.site_file.proofs.reading.read_refusal.Statement.{statement}
 use Rattle.site_file.proofs.reading.read_refusal.Tie as tie
 

@@ -5,7 +5,7 @@ use mir.Facts.{toZ-ofZ}
 use lib.IntN.{ℤ}
 use Rattle.site.specs.Site.{squaredDistance}
 use Rattle.site.specs.SiteList.{site}
-use Rattle.site.proofs.Machine.{at₄}
+use Rattle.site.proofs.Signed.{at₄}
 use Rattle.site.proofs.Accepted.{coordinate-x, coordinate-y}
 use borrow.Author.Needs.{needs, sfits-of}
 use Rattle.sweep.proofs.look.squared_distance_at.Statement.{statement}

@@ -4,7 +4,7 @@ use mir.Syntax.{w32}
 use mir.Val.{SFits}
 use mir.Facts.{toZ-ofZ}
 use Rattle.site.specs.Site.{gap, square}
-use Rattle.site.proofs.Machine.{at₂}
+use Rattle.site.proofs.Signed.{at₂}
 use borrow.Author.Needs.{needs, sfits-of}
 use Rattle.sweep.proofs.look.squared_gap_at.Statement.{statement}
 use Rattle.sweep.proofs.look.squared_gap_at.Tie as tie

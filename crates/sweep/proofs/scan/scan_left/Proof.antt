@@ -4,7 +4,7 @@ use native.Mathlib.Omega.{arith}
 use borrow.Author.Needs.{needs}
 use Rattle.entry.specs.Results.{results}
 use Rattle.sweep.specs.Internal.{leftward}
-use Rattle.sweep.proofs.RunLaws.{leftward-nil, leftward-cons, length-leftward, left-limit}
+use Rattle.sweep.proofs.SiteRuns.{leftward-nil, leftward-cons, length-leftward, left-limit}
 use Rattle.sweep.proofs.Updated.{SameLengths, updated-lengths}
 use Rattle.sweep.proofs.ScanInvariant.{ScanInvariant, tallied-at, invariant-starts, invariant-asks, invariant-ends, invariant-stops, invariant-goes}
 use Rattle.sweep.proofs.scan.scan_left.Statement.{statement}

@@ -4,7 +4,7 @@ use native.Mathlib.Omega.{arith}
 use borrow.Author.Needs.{needs}
 use Rattle.entry.specs.Results.{results}
 use Rattle.sweep.specs.Terms.{rightward}
-use Rattle.sweep.proofs.RunLaws.{rightward-nil, rightward-cons, length-rightward}
+use Rattle.sweep.proofs.SiteRuns.{rightward-nil, rightward-cons, length-rightward}
 use Rattle.sweep.proofs.Updated.{SameLengths, updated-lengths}
 use Rattle.sweep.proofs.ScanInvariant.{ScanInvariant, invariant-starts, invariant-asks, invariant-ends, invariant-stops, invariant-goes}
 use Rattle.sweep.proofs.scan.scan_right.Statement.{statement}

@@ -9,23 +9,21 @@ use lib.IntN.{pos}
 use lib.ListN.{length}
 use borrow.Author.Tests.{lt-ltb}
 use Rattle.order.specs.Order.{on, lex}
-use Rattle.order.specs.Terms.{StrictOrder, Ascends}
+use Rattle.order.proofs.Sorted.{Ascends, ascends-distinct, members-perm}
+use Rattle.order.proofs.Order.{StrictOrder, by-number, lex-order, strict, lex-less, lex-next, irrefl, ltb-order}
 use Rattle.order.specs.Lists.{keep, All, Distinct}
-use Rattle.order.proofs.Order.{by-number, lex-order, strict, lex-less, lex-next, irrefl, ltb-order}
-use Rattle.order.proofs.Lists.{all-mem, all-weaken, keep-mem, mem-keep, perm-distinct, distinct-left, distinct-keep}
-use Rattle.order.proofs.Sorted.{ascends-distinct}
+use Rattle.order.proofs.Lists.{all-mem, all-weaken, keep-mem, mem-keep, perm-distinct, distinct-left, distinct-keep, perm-eq, keep-split}
 use Rattle.site.specs.declared.Site.{Site}
 use Rattle.site.specs.Site.{squaredDistance}
 use Rattle.site.specs.SiteList.{site, siteAt}
 use Rattle.entry.specs.declared.Entry.{Entry}
 use Rattle.sweep.specs.Strip.{pair, product, pairs, allPairs}
-use Rattle.sweep.proofs.ProductLaws.{perm-eq, mem-product, product-mem, length-product, product-ascends}
-use Rattle.sweep.proofs.PlaceLaws.{mem-pairs, mem-strip-pairs, whole-pairs-distinct}
+use Rattle.sweep.proofs.ProductLaws.{mem-product, product-mem, length-product, product-ascends}
+use Rattle.sweep.proofs.Strip.{mem-pairs, mem-strip-pairs, whole-pairs-distinct}
 use Rattle.campaign.specs.Grid.{stripAt, stripHolding, Job, jobOf, countFrom, jobs, jobPairs, jobsPairs}
 use Rattle.campaign.specs.Internal.{stripFrom, stripTo}
 use Rattle.campaign.proofs.FlatMap.{flat-append, flat-perm, flat-mem, product-flat}
-use Rattle.campaign.proofs.Gathered.{keep-split, members-perm}
-use Rattle.campaign.proofs.CutLaws.{Cut, strips-whole, length-strip, strip-holds}
+use Rattle.campaign.proofs.LawfulEnds.{Cut, strips-whole, length-strip, strip-holds}
 
 -- ---- the numbers of a count
 

@@ -16,7 +16,7 @@ use Rattle.site.proofs.Distance.{numberless}
 use Rattle.entry.specs.Entry.{entry}
 use Rattle.site.specs.SiteList.{Columns, sites}
 use Rattle.site.specs.Terms.{Level}
-use Rattle.site.proofs.Columns.{columnsAt, sites-length, sites-at}
+use Rattle.site.proofs.SiteList.{columnsAt, sites-length, sites-at}
 use Rattle.entry.specs.declared.Entry.{Entry}
 use Rattle.sweep.specs.declared.Way.{Way}
 use Rattle.sweep.specs.declared.Way.the-variants.{Classic, ReverseRun}
@@ -24,7 +24,7 @@ use Rattle.sweep.specs.Strip.{Placed, placedFrom, strip, pair}
 use Rattle.sweep.specs.Scan.{Candidate, State, state, scan}
 use Rattle.sweep.specs.Sweep.{classicOver, reverseOver, leads, look, sweep}
 use Rattle.sweep.specs.Terms.{spotOf, spot, rightward}
-use Rattle.sweep.proofs.PlaceLaws.{strip-is}
+use Rattle.sweep.proofs.Strip.{strip-is}
 
 -- ---- things replaced by others that lead and look the same
 

@@ -11,10 +11,9 @@ use lib.Seq.{take-all, take-add, drop-drop, getD-take, getD-drop}
 use borrow.Author.Tests.{lt-ltb, le-ltb}
 use Rattle.order.specs.Order.{on, lex}
 use Rattle.order.specs.Lists.{All, Distinct}
-use Rattle.order.specs.Terms.{Ascends}
+use Rattle.order.proofs.Sorted.{Ascends, ascends-take, ascends-drop}
 use Rattle.order.proofs.Order.{never-both, lex-less, lex-next}
 use Rattle.order.proofs.Lists.{all-weaken, mem-take, mem-drop}
-use Rattle.order.proofs.Sorted.{ascends-take, ascends-drop}
 use Rattle.site.specs.declared.Site.{Site}
 use Rattle.site.specs.Site.{squaredDistance}
 use Rattle.entry.specs.declared.Entry.{Entry}

@@ -6,11 +6,11 @@ use Prim.Native.Nat.{ℕ, suc, _-_}
 use lib.Signed.{ltZ}
 use lib.ListN.{drop}
 use Rattle.order.specs.Order.{on, ascending}
-use Rattle.order.specs.Terms.{StrictOrder, Sorted, Ascends}
+use Rattle.order.specs.Terms.{Sorted}
+use Rattle.order.proofs.Sorted.{Ascends, ascending-ascends, sorted-take, sorted-drop}
+use Rattle.order.proofs.Order.{StrictOrder, byTest, never-both, ltZ-order, up-to-equality, on-order, by-number, lex-order, lex-more, strict}
 use Rattle.order.specs.Lists.{All}
-use Rattle.order.proofs.Order.{byTest, never-both, ltZ-order, up-to-equality, on-order, by-number, lex-order, lex-more, strict}
 use Rattle.order.proofs.Lists.{all-weaken}
-use Rattle.order.proofs.Sorted.{ascending-ascends, sorted-take, sorted-drop}
 use Rattle.site.specs.declared.Site.{Site}
 use Rattle.site.specs.Site.{siteBefore}
 use Rattle.sweep.specs.Strip.{Placed, placedFrom, whole, strip}

@@ -12,9 +12,9 @@ use Rattle.site.specs.declared.Site.{Site}
 use Rattle.site.specs.Site.{within, lawfulSite}
 use Rattle.site.specs.SiteList.{Columns, sites, columnsOf}
 use Rattle.site.specs.Refusal.{contentRefusal, listRefusal}
-use Rattle.site.proofs.Cases.{and-first, and-second}
-use Rattle.site.proofs.Lawful.{lawful-is, content-left}
-use Rattle.site.proofs.Columns.{sites-numbered, columns-sites, columns-length, columns-level}
+use Rattle.site.proofs.Tests.{and-first, and-second}
+use Rattle.site.proofs.Refusal.{lawful-is, content-left}
+use Rattle.site.proofs.SiteList.{sites-numbered, columns-sites, columns-length, columns-level}
 use Rattle.site.proofs.Accepted.{accepted-lawful}
 use Rattle.site_file.specs.declared.Which.{Which}
 use Rattle.site_file.specs.Bytes.{bytes4, word, unsigned}
@@ -22,8 +22,8 @@ use Rattle.site_file.specs.File.{siteBytes, siteIn, sitesFrom, sitesIn}
 use Rattle.site_file.specs.Calls.{readRefusal}
 use Rattle.site_file.specs.RoundTrip.{Numbers}
 use Rattle.site_file.proofs.File.{list-length}
-use Rattle.site_file.proofs.Contents.{inside, read-laid, read-content}
-use Rattle.site_file.proofs.Words.{
+use Rattle.site_file.proofs.ReadAnswer.{inside, read-laid, read-content}
+use Rattle.site_file.proofs.Word.{
   Bytes,
   digits,
   word-past,

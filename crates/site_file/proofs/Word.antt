@@ -25,7 +25,7 @@ use Rattle.order.specs.Lists.{All}
 use Rattle.site.specs.Site.{within}
 use Rattle.order.proofs.Order.{byTest}
 use Rattle.order.proofs.Lists.{all-drop}
-use Rattle.site.proofs.Cases.{and-first}
+use Rattle.site.proofs.Tests.{and-first}
 use Rattle.site_file.specs.Bytes.{bytes4, word, unsigned, signed}
 use Rattle.site_file.proofs.Bytes.{unsigned-fits}
 

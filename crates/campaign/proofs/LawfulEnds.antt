@@ -10,13 +10,12 @@ use lib.Seq.{take-add, drop-drop, take-all}
 use borrow.Author.Tests.{ltb-true, leb-true, eqb-true, le-leb, lt-leb}
 use Rattle.order.specs.Order.{ascending}
 use Rattle.order.specs.Lists.{keep, last, All}
-use Rattle.order.specs.Terms.{Ascends}
+use Rattle.order.proofs.Sorted.{Ascends, ascending-ascends}
 use Rattle.order.proofs.Order.{ltb-order}
 use Rattle.order.proofs.Lists.{all-at, all-weaken, keep-yes, keep-none}
-use Rattle.order.proofs.Sorted.{ascending-ascends}
 use Rattle.site.specs.declared.Site.{Site}
 use Rattle.sweep.specs.Strip.{whole, strip}
-use Rattle.sweep.proofs.PlaceLaws.{length-whole, length-strip-within}
+use Rattle.sweep.proofs.Strip.{length-whole, length-strip-within}
 use Rattle.campaign.specs.Grid.{lawfulEnds, stripAt, stripHolding, countFrom}
 use Rattle.campaign.specs.Internal.{lastEnd, stripFrom, stripTo}
 use Rattle.campaign.proofs.FlatMap.{flat-map}

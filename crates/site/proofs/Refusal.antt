@@ -16,7 +16,7 @@ use Rattle.site.specs.Site.{within, lawfulSite, siteBefore}
 use Rattle.site.specs.SiteList.{Columns, columns, sites}
 use Rattle.site.specs.Terms.{Level}
 use Rattle.site.specs.Refusal.{equalLengths, sizeFault, contentRefusal, listRefusal}
-use Rattle.site.proofs.Cases.{and-first, and-second}
+use Rattle.site.proofs.Tests.{and-first, and-second}
 
 -- A site is lawful where its two coordinates are inside the limits.
 pub lawful-is : (s : Site) → lawfulSite s ≡ (within (s .x) && within (s .y))

@@ -14,7 +14,7 @@ use Rattle.site.specs.Site.{lawfulSite, siteBefore}
 use Rattle.site.specs.Answer.{refused, answered, answerUnless, refuseIf, orElse}
 use Rattle.site.specs.SiteList.{siteAt}
 use Rattle.site.specs.Refusal.{contentRefusal}
-use Rattle.site.proofs.Cases.{byTest, and-first, and-second, or-first, or-second}
+use Rattle.site.proofs.Tests.{byTest, and-first, and-second, or-first, or-second}
 use Rattle.site.proofs.Answer.{
   answer-values,
   answer-refused,
