@@ -30,8 +30,7 @@ isDone j (i ∷ l) = (eqb (j .first) (i .first) && eqb (j .second) (i .second)) 
 -- "gets 8 if a strip number isn't below its list's strip count, else 9 if its job is settled in the book."
 unfoldable pub bookRefusal : Book → Job → ℕ
 bookRefusal book j =
-    orElse
-    (refuseIf (not (ltb (j .first) (length (book .ends)) && ltb (j .second) (length (book .ends')))) 8)
+    orElse (refuseIf (not (ltb (j .first) (length (book .ends)) && ltb (j .second) (length (book .ends')))) 8)
     (refuseIf (isDone j (book .done)) 9)
 
 -- "the first K by rank of the settled jobs' pairs, or all where there are fewer, in rank order."

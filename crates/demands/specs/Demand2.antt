@@ -24,8 +24,7 @@ use Rattle.pairs.specs.DistanceList.{DistanceValues, distanceAnswer}
 use Rattle.site_file.specs.RoundTrip.{EveryOutputAccepted, EveryAcceptedIsOutput}
 use Rattle.demands.specs.Demand3.{NoChoiceBetter}
 
--- Definition 1 of document 000 with 01's "or" and tie rule: K different pairs, or all where there are fewer, in rank
--- order, each of them before every pair left out.
+-- Definition 1 of document 000, with 01's "or" and its tie rule: each of the pairs before every pair left out.
 pub record KClosest (a b : List Site) (k : ℕ) (l : List Entry) : Type 0 where
   pub size : length l ≡ min k (length (allPairs a b))
   pub different : Distinct l
@@ -36,8 +35,7 @@ pub record KClosest (a b : List Site) (k : ℕ) (l : List Entry) : Type 0 where
       → (rankBefore h e ≡ true) × (h .distance ≤ e .distance)
   pub noneBetter : NoChoiceBetter a b l
 
--- Definition 2 of document 000 from 0 to e: "exactly the pairs within the limit", each once, by first place and then
--- second; first places stand in the one column and second places in the other, as many as are answered.
+-- Definition 2 of document 000 from 0 to e: "exactly the pairs within the limit", in the answer's two columns.
 pub record WithinLimit (a b : List Site) (e : ℕ) (l : List Entry) (v : DistanceValues) : Type 0 where
   pub exactly : (p : Entry) → List·Memᴰ p l ↔ (List·Memᴰ p (allPairs a b) × (p .distance ≤ square e))
   pub once : Distinct l

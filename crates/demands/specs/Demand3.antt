@@ -19,10 +19,10 @@ use Rattle.campaign.specs.declared.Campaign.{Campaign}
 use Rattle.campaign.specs.Soundness.{campaignRefusal}
 use Rattle.campaign.specs.Calls.{openRefusal, openAnswer, jobRefusal, jobAnswer, statusAnswer}
 use Rattle.demands.specs.Book.{Book, openBook, bookRefusal, bookEntries, bookStatus, noneOpen}
-use Rattle.demands.specs.History.{own, otherLists, otherColumns, Call, job, status, opening, Bench, benchOf, benchAfter, bookAfter}
+use Rattle.demands.specs.History.{own, otherLists, otherColumns, Call, job, status, opening}
+use Rattle.demands.specs.History.{Bench, benchOf, benchAfter, bookAfter}
 
--- "For every other choice of as many distinct pairs, its i-th smallest distance is no smaller than theirs, for each i":
--- "any set of that many among all pairs", "the squared distances in ascending order, repeats kept".
+-- "For every other choice of as many distinct pairs, its i-th smallest distance is no smaller than theirs, for each i."
 unfoldable pub NoChoiceBetter : List Site → List Site → List Entry → Type 0
 NoChoiceBetter a b l =
     (choice : List Entry) → Distinct choice → ((e : Entry) → List·Memᴰ e choice → List·Memᴰ e (allPairs a b))
@@ -33,8 +33,7 @@ NoChoiceBetter a b l =
 abbrev pub below : ℕ → Results → Results
 below count r = results (take count (r .distance)) (take count (r .first)) (take count (r .second))
 
--- Bench A: "an accepted K list by the classic sweep, with the opening's lists and K", in columns that held anything.
--- "Entries are the same when both counts are and all three columns below that count."
+-- Beside bench A, "an accepted K list by the classic sweep": both counts are the same, and all columns below them.
 unfoldable pub LikeBenchA : Columns → Columns → ℕ → Bench → Type 0
 LikeBenchA a b k bench =
     (r : Results) (v : KListValues) → kListAnswer Classic a b k r ≡ answered v

@@ -9,7 +9,8 @@ use Rattle.site.specs.Answer.{answered}
 use Rattle.site.specs.SiteList.{Columns, sites, siteAt}
 use Rattle.site_file.specs.declared.Which.the-variants.{First, Second}
 use Rattle.site_file.specs.File.{sitesIn}
-use Rattle.site_file.specs.Calls.{WriteValues, writeValues, writeAnswer, readRefusal, readValues, readAnswer, siteAnswer}
+use Rattle.site_file.specs.Calls.{WriteValues, writeValues, writeAnswer}
+use Rattle.site_file.specs.Calls.{readRefusal, readValues, readAnswer, siteAnswer}
 
 -- What a column of numbers can hold.
 abbrev pub Numbers : Columns → Type 0

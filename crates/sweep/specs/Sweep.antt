@@ -22,8 +22,7 @@ module _ {A B : Type 0} (leads : A → B → Bool) (look : A → B → Candidate
       let bySecond = classicOver (a ∷ p) q (scan k (map (λ c. look c b) (a ∷ p)) s .state) in
       cond (leads a b) byFirst bySecond
 
-  -- Each reference "is scanned against the other list's sites already taken, latest first", down to the left limit.
-  -- These sites are `u` and `v`: a scan leaves those that it passed, and the rest "are never looked at again".
+  -- A reference is scanned against the other list's sites `u` or `v`, "latest first"; those not passed are dropped.
   unfoldable pub reverseOver : List A → List B → List A → List B → State → State
   reverseOver [] [] u v s = s
   reverseOver [] (b ∷ q) u v s =
