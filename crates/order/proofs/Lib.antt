@@ -1,6 +1,7 @@
--- The laws of orders, lists, insertion and the best K.
+-- The laws of orders, lists, insertion, the best K and heaps.
 pub mod Order
 pub mod Lists
 pub mod Best
 pub mod Sorted
 pub mod Choice
+pub mod Heap
