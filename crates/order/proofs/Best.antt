@@ -6,7 +6,7 @@ use Prim.Native.Nat.{ℕ, zero, suc, _+_, min}
 use native.Mathlib.Omega.{arith}
 use lib.ListN.{length, take, length-take}
 use lib.Seq.{take-take}
-use Rattle.order.proofs.Order.{StrictOrder, byTest}
+use Rattle.order.proofs.Order.{StrictOrder, byTest, never-both, irrefl}
 use Rattle.order.specs.Sort.{insert, sort}
 
 -- The first `k` of a list by the order, or all where there are fewer.
@@ -117,6 +117,25 @@ module _ {A : Type 0} {before : A → A → Bool} (o : StrictOrder before) where
   insert-comm a b s =
       byTest (before b a) (λ p. comm-at a b p s)
       (λ p. byTest (before a b) (λ q. sym (comm-at b a q s)) (λ q. let e : a ≡ b = o .total a b q p in rw e))
+
+  -- What was there before an insertion follows from what is there after it.
+  pub insert-cancel : (a : A) {s t : List A} → insert before a s ≡ insert before a t → s ≡ t
+  insert-cancel a {s = []} {t = []} e = refl
+  insert-cancel a {s = []} {t = g ∷ t} e = absurd (omega (arith, simp length-insert at (ap length e)))
+  insert-cancel a {s = h ∷ s} {t = []} e = absurd (omega (arith, simp length-insert at (ap length e)))
+  insert-cancel a {s = h ∷ s} {t = g ∷ t} e =
+      let never = irrefl o a in
+      byTest (before h a)
+      (λ p.
+      let l = insert-later before a h s p in
+      byTest (before g a)
+      (λ q. let r = insert-later before a g t q in let i : s ≡ t = insert-cancel a (cc) in cc)
+      (λ q. let r = insert-here before a g t q in never-both p (cc)))
+      (λ p.
+      let l = insert-here before a h s p in
+      byTest (before g a)
+      (λ q. let r = insert-later before a g t q in never-both q (cc))
+      (λ q. let r = insert-here before a g t q in cc))
 
   pub insert-inserts : (e : A) (l s : List A) → inserts before l (insert before e s) ≡ insert before e (inserts before l s)
   unfolding inserts
