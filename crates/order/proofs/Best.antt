@@ -66,6 +66,9 @@ module _ {A : Type 0} (before : A → A → Bool) where
   inserts-append [] m s = refl
   inserts-append (e ∷ l) m s = inserts-append l m (insert before e s)
 
+  pub sort-snoc : (l : List A) (e : A) → sort before (l ++ (e ∷ [])) ≡ insert before e (sort before l)
+  sort-snoc l e = rw (sort-inserts l, sort-inserts (l ++ (e ∷ [])), inserts-append, inserts-cons, inserts-nil)
+
   take-cons-take : (k : ℕ) (h : A) (t : List A) → take k (h ∷ take k t) ≡ take k (h ∷ t)
   take-cons-take zero h t = refl
   take-cons-take (suc k) h t = ap (λ (r : List A). h ∷ r) (take-take k (suc k) t (omega arith))

@@ -67,6 +67,11 @@ module _ {A : Type 0} (P : A → Type 0) where
   all-at (a ∷ l) zero d lt h = h .0
   all-at (a ∷ l) (suc i) d lt h = all-at l i d (omega arith) (h .1)
 
+  pub at-all : (l : List A) (d : A) → ((i : ℕ) → i < length l → P (getD l i d)) → All P l
+  unfolding All
+  at-all [] d h = tt
+  at-all (a ∷ l) d h = (h 0 (omega arith), at-all l d (λ i lt. h (suc i) (omega arith)))
+
 pub all-weaken : {A : Type 0} (P Q : A → Type 0) → ((a : A) → P a → Q a) → (l : List A) → All P l → All Q l
 unfolding All
 all-weaken P Q f [] h = tt
