@@ -4,8 +4,9 @@ use mathlib.Core.Logic.{_⊎_, ⊎-elim, _↔_}
 use mathlib.Core.Bool.{Bool, true, false, not}
 use mathlib.Core.List.{List, [], _∷_, _++_, map, zipWith, List·Memᴰ, List·Memᴰ·head, List·Memᴰ·tail, List·Memᴰ·not-nil, List·Memᴰ·cases-cons, List·Memᴰ·append-cases, Memᴰ·append-left, Memᴰ·append-right, Memᴰ·cast, List·Permᴰ, List·Permᴰ·nil, List·Permᴰ·cons, List·Permᴰ·swap, List·Permᴰ·trans, Permᴰ·refl, Permᴰ·symm, Permᴰ·middle}
 use Prim.Native.Nat.{ℕ, zero, suc, _+_, _-_, _≤_, _<_, min}
+use native.Mathlib.Nat.{sub-zero, zero-sub, suc-sub-suc}
 use native.Mathlib.Omega.{arith}
-use lib.ListN.{length, take, drop, getD, take-append-drop}
+use lib.ListN.{length, take, drop, getD, set, take-append-drop}
 use Rattle.order.specs.Lists.{all, keep, All, Distinct, last, sum}
 use Rattle.order.proofs.Order.{byTest, never-both}
 
@@ -299,6 +300,16 @@ map-drop f zero l = refl
 map-drop f (suc n) [] = refl
 map-drop f (suc n) (a ∷ l) = map-drop f n l
 
+take-nil : {A : Type 0} (n : ℕ) → _≡_ {A = List A} (take n []) []
+take-nil zero = refl
+take-nil (suc n) = refl
+
+pub drop-take : {A : Type 0} (n m : ℕ) (l : List A) → drop n (take m l) ≡ take (m - n) (drop n l)
+drop-take zero m l = rw (sub-zero m)
+drop-take (suc n) zero l = rw (zero-sub (suc n))
+drop-take (suc n) (suc m) [] = sym (take-nil (suc m - suc n))
+drop-take (suc n) (suc m) (a ∷ l) = rw (suc-sub-suc m n) (drop-take n m l)
+
 pub last-map : {A B : Type 0} (f : A → B) (d : A) (l : List A) → last (f d) (map f l) ≡ f (last d l)
 unfolding last
 last-map f d [] = refl
@@ -336,6 +347,11 @@ module _ {A B C : Type 0} (f : A → B → C) where
   length-zip (a ∷ l) [] = omega arith
   length-zip (a ∷ l) (b ∷ m) = omega (arith, length-zip l m)
 
+  zip-nil : (l : List A) → zipWith f l [] ≡ []
+  unfolding zipWith
+  zip-nil [] = refl
+  zip-nil (a ∷ l) = refl
+
   pub zip-at : (l : List A) (m : List B) (i : ℕ) (a : A) (b : B) (c : C) → i < length l → i < length m
       → getD (zipWith f l m) i c ≡ f (getD l i a) (getD m i b)
   unfolding zipWith
@@ -350,6 +366,22 @@ module _ {A B C : Type 0} (f : A → B → C) where
   zip-take (suc n) [] m = refl
   zip-take (suc n) (a ∷ l) [] = refl
   zip-take (suc n) (a ∷ l) (b ∷ m) = ap (λ (r : List C). f a b ∷ r) (zip-take n l m)
+
+  pub zip-drop : (n : ℕ) (l : List A) (m : List B) → zipWith f (drop n l) (drop n m) ≡ drop n (zipWith f l m)
+  unfolding zipWith
+  zip-drop zero l m = refl
+  zip-drop (suc n) [] m = refl
+  zip-drop (suc n) (a ∷ l) [] = zip-nil (drop n l)
+  zip-drop (suc n) (a ∷ l) (b ∷ m) = zip-drop n l m
+
+  pub zip-set : (l : List A) (m : List B) (i : ℕ) (a : A) (b : B)
+      → zipWith f (set l i a) (set m i b) ≡ set (zipWith f l m) i (f a b)
+  unfolding zipWith
+  zip-set [] m i a b = refl
+  zip-set (x ∷ l) [] zero a b = refl
+  zip-set (x ∷ l) [] (suc i) a b = refl
+  zip-set (x ∷ l) (y ∷ m) zero a b = refl
+  zip-set (x ∷ l) (y ∷ m) (suc i) a b = ap (λ (r : List C). f x y ∷ r) (zip-set l m i a b)
 
 -- ---- permutations of what a test keeps
 
