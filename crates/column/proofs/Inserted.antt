@@ -1,13 +1,12 @@
 -- Laws of a column into which one value is put, for any element.
 use mathlib.Core.Path.{_≡_, refl, sym, ap, _∙_}
-use mathlib.Core.List.{List, [], _∷_, _++_, map, append-assoc, append-nil, map-append}
+use mathlib.Core.List.{List, [], _∷_, _++_, append-assoc, append-nil}
 use Prim.Native.Nat.{ℕ, zero, suc, _+_, _-_, _≤_, _<_}
 use native.Mathlib.Omega.{arith}
 use native.Mathlib.Numerals.{add-one}
-use lib.ListN.{length, take, drop, getD, set, length-append, length-take, length-drop, length-set, length-map, take-append-drop, drop-of-length-le, List·getD-append}
-use lib.Seq.{take-suc, drop-cons, append-snoc, length-take-le, set-at, getD-take, take-take, take-all, drop-drop}
-use Rattle.order.proofs.Lists.{map-take, map-drop}
-use Rattle.column.specs.Column.{overwritten, inserted}
+use lib.ListN.{length, take, drop, getD, set, length-append, length-take, length-drop, length-set, take-append-drop, drop-of-length-le, List·getD-append}
+use lib.Seq.{take-suc, drop-cons, append-snoc, length-take-le, set-at, getD-take, take-all, drop-drop}
+use Rattle.column.specs.Column.{inserted}
 
 module _ {A : Type 0} where
   -- The same with the parts grouped to the right.
@@ -94,23 +93,3 @@ inserted-part {A} p n {u} {v} c part pn nc read is =
     drop-drop (suc (n - p)) p c ∙ (let sums : p + suc (n - p) ≡ suc n = omega arith in ap (λ (m : ℕ). drop m c) sums) in
     let same : (n - p) - 0 ≡ n - p = omega arith in
     rw (is, read, whole, none, append-nil, inserted-is 0 (n - p) v (drop p c), same, rest, inserted-is p n v c)
-
-take-part : {A : Type 0} (count p n : ℕ) (c : List A) → p ≤ n → n ≤ count → take (n - p) (drop p (take count c)) ≡ take (n - p) (drop p c)
-take-part count zero n c pn nc = take-take (n - 0) count c (omega arith)
-take-part zero (suc p) n c pn nc = absurd (omega arith)
-take-part (suc count) (suc p) n [] pn nc = refl
-take-part (suc count) (suc p) n (a ∷ c) pn nc =
-    let one : n - suc p ≡ (n - 1) - p = omega arith in
-    rw one (take-part count p (n - 1) c (omega arith) (omega arith))
-
--- One key of the elements of a list stands in a column: putting an element into the list is putting its key into the column.
-pub inserted-key : {A B : Type 0} (f : A → B) (v : A) (l : List A) (column : List B) (p n : ℕ) → map f l ≡ take (length l) column
-    → p ≤ n → n ≤ length l
-    → inserted p n (f v) column ≡ overwritten (map f (take p l ++ v ∷ take (n - p) (drop p l))) column
-unfolding overwritten
-inserted-key f v l column p n is pn nl =
-    let lp : length (take p l) ≡ p = length-take-le p l (omega arith) in
-    let whole : length (map f (take p l ++ v ∷ take (n - p) (drop p l))) ≡ suc n =
-    rw (length-map, length-append, lp, length-take, length-drop) (omega arith) in
-    rw (whole, map-append, map-take, map-take, map-drop, is, inserted-is p n (f v) column, take-part (length l) p n column pn nl, take-take p (length l) column (omega arith))
-    (sym (append-assoc (take p column) (f v ∷ take (n - p) (drop p column)) (drop (suc n) column)))

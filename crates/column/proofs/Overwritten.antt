@@ -3,8 +3,8 @@ use mathlib.Core.Path.{_≡_, sym, ap, _∙_}
 use mathlib.Core.List.{List, _++_}
 use Prim.Native.Nat.{ℕ, _+_, _-_, _≤_, _<_}
 use native.Mathlib.Omega.{arith}
-use lib.ListN.{length, take, drop, getD, length-append, length-drop, take-append-drop, List·getD-append}
-use lib.Seq.{take-append-seam, drop-append-seam, drop-append-add, drop-drop, length-take-le, getD-append-add, getD-drop}
+use lib.ListN.{length, take, drop, getD, set, length-append, length-set, length-drop, take-append-drop, List·getD-append}
+use lib.Seq.{take-append-seam, drop-append-seam, drop-append-add, drop-drop, drop-set-lt, length-take-le, getD-append-add, getD-drop}
 use Rattle.column.specs.Column.{overwritten}
 
 module _ {A : Type 0} where
@@ -47,3 +47,10 @@ module _ {A : Type 0} where
   pub overwritten-self : (n : ℕ) (c : List A) → n ≤ length c → overwritten (take n c) c ≡ c
   unfolding overwritten
   overwritten-self n c h = rw (length-take-le n c h) (take-append-drop n c)
+
+  -- A place of the first `n` set: those first elements written.
+  pub overwritten-set : (n : ℕ) (c : List A) (i : ℕ) (a : A) → i < n → n ≤ length c → overwritten (take n (set c i a)) c ≡ set c i a
+  unfolding overwritten
+  overwritten-set n c i a h g =
+      let m : n ≤ length (set c i a) = rw length-set g in
+      rw (length-take-le n (set c i a) m, ← drop-set-lt n c i a h) (take-append-drop n (set c i a))

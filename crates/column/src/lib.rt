@@ -19,27 +19,6 @@ pub fn get_u32(column: &[u32], i: usize) -> u32
 }
 
 // Puts a value at the start, moving up by one what stands there and on to place `n`.
-fn push_u64(column: &mut [u64], n: usize, v: u64)
-    requires { ⌜ n < length (now column) ⌝ }
-    ensures { λ _. ⌜ now (column .exit) ≡ inserted 0 n v (now (column .entry)) ⌝ }
-{
-    let mut i = n;
-    while 0 < i {
-        column[i] = column[i - 1];
-        i -= 1;
-    }
-    column[0] = v;
-}
-
-// Puts a value at place `p`, moving up by one what stands there and on to place `n`.
-pub fn insert_u64(column: &mut [u64], p: usize, n: usize, v: u64)
-    requires { ⌜ (p ≤ n) × (n < length (now column)) ⌝ }
-    ensures { λ _. ⌜ now (column .exit) ≡ inserted p n v (now (column .entry)) ⌝ }
-{
-    push_u64(&mut column[p..], n - p, v);
-}
-
-// Puts a value at the start, moving up by one what stands there and on to place `n`.
 fn push_u32(column: &mut [u32], n: usize, v: u32)
     requires { ⌜ n < length (now column) ⌝ }
     ensures { λ _. ⌜ now (column .exit) ≡ inserted 0 n v (now (column .entry)) ⌝ }

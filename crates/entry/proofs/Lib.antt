@@ -2,5 +2,11 @@
 pub mod Examples
 pub mod Rank
 pub mod Results
-pub mod PlaceOf
-pub mod Holds
+pub mod PutAt
+pub mod Within
+pub mod Queueing
+pub mod LaterChild
+pub mod Sifted
+pub mod HeapedFrom
+pub mod Drawn
+pub mod QueueOf

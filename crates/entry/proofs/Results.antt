@@ -1,14 +1,14 @@
 -- Laws of the three result columns and the entries that they hold.
-use mathlib.Core.Path.{_≡_, refl, ap, _∙_}
+use mathlib.Core.Path.{_≡_, refl, sym, ap, _∙_}
 use mathlib.Core.Bool.{true, false, _&&_, and-eq-true-iff}
 use mathlib.Core.List.{List, [], _∷_, _++_, map, zipWith}
 use Prim.Native.Nat.{ℕ, zero, suc, _+_, _-_, _≤_, _<_}
 use native.Mathlib.Omega.{arith}
 use lib.Dec.{leb}
 use lib.ListN.{length, take, drop, getD, length-take, length-map}
-use lib.Seq.{take-append-seam, take-take, length-take-le, getD-take}
+use lib.Seq.{take-append-seam, drop-append-seam, take-take, length-take-le, getD-take}
 use borrow.Author.Tests.{leb-true, le-leb, lt-leb}
-use Rattle.order.proofs.Lists.{length-zip, zip-at, zip-take}
+use Rattle.order.proofs.Lists.{drop-take, length-zip, zip-at, zip-take, zip-drop}
 use Rattle.column.specs.Column.{overwritten}
 use Rattle.column.proofs.Overwritten.{length-overwritten, overwritten-again, overwritten-self}
 use Rattle.entry.specs.declared.Entry.{Entry}
@@ -20,12 +20,22 @@ use Rattle.entry.proofs.Rank.{last-distance}
 -- ---- room
 
 module _ (k : ℕ) (r : Results) where
-  pub room-lengths : roomFor k r ≡ true → (k ≤ length (r .distance)) × (k ≤ length (r .first)) × (k ≤ length (r .second))
+  pub room-lengths : roomFor k r ≡ true
+      → (k ≤ length (r .distance)) × (k ≤ length (r .first)) × (k ≤ length (r .second))
   unfolding roomFor
   room-lengths h =
-      let p = and-eq-true-iff (leb k (length (r .distance))) (leb k (length (r .first)) && leb k (length (r .second))) .0 h in
-      let q = and-eq-true-iff (leb k (length (r .first))) (leb k (length (r .second))) .0 (p .1) in
-      (leb-true k (length (r .distance)) (p .0), leb-true k (length (r .first)) (q .0), leb-true k (length (r .second)) (q .1))
+      let p = and-eq-true-iff (leb k (length (r .distance)))
+      (leb k (length (r .first)) && leb k (length (r .second))) .0 h in
+      let q = and-eq-true-iff (leb k (length (r .first))) (leb k (length (r .second))) .0 (p .1) in (
+        leb-true k (length (r .distance)) (p .0),
+        leb-true k (length (r .first)) (q .0),
+        leb-true k (length (r .second)) (q .1),
+      )
+
+  -- A place below `k` is one of each column.
+  pub room-inside : roomFor k r ≡ true → {i : ℕ} → i < k
+      → (i < length (r .distance)) × (i < length (r .first)) × (i < length (r .second))
+  room-inside h i = let n = room-lengths h in omega arith
 
   -- One column after the other.
   pub no-room-distance : length (r .distance) < k → false ≡ roomFor k r
@@ -48,11 +58,12 @@ module _ (k : ℕ) (r : Results) where
 -- ---- entries of columns
 
 -- The entries of three columns, as many as the shortest has.
-abbrev zipEntries : List ℕ → List ℕ → List ℕ → List Entry
+abbrev pub zipEntries : List ℕ → List ℕ → List ℕ → List Entry
 zipEntries ds is js = zipWith (λ make j. make j) (zipWith entry ds is) js
 
 zip-append : (l : List Entry) (ds is js : List ℕ)
-    → zipEntries (map (λ e. e .distance) l ++ ds) (map (λ e. e .first) l ++ is) (map (λ e. e .second) l ++ js) ≡ l ++ zipEntries ds is js
+    → zipEntries (map (λ e. e .distance) l ++ ds) (map (λ e. e .first) l ++ is) (map (λ e. e .second) l ++ js) ≡
+    l ++ zipEntries ds is js
 unfolding zipWith
 zip-append [] ds is js = refl
 zip-append (e ∷ l) ds is js = ap (λ (r : List Entry). e ∷ r) (zip-append l ds is js)
@@ -62,8 +73,41 @@ pub entries-holding : (l : List Entry) (r : Results) → entriesOf (length l) (h
 unfolding entriesOf holding overwritten
 entries-holding l r =
     let past : (Entry → ℕ) → List ℕ → List ℕ = λ key column. drop (length (map key l)) column in
-    rw (zip-append l (past (λ e. e .distance) (r .distance)) (past (λ e. e .first) (r .first)) (past (λ e. e .second) (r .second)))
+    rw (zip-append l (past (λ e. e .distance) (r .distance)) (past (λ e. e .first) (r .first))
+    (past (λ e. e .second) (r .second)))
     (take-append-seam l _)
+
+-- Fewer entries are the first of more.
+pub take-entries : (n count : ℕ) (r : Results) → n ≤ count → take n (entriesOf count r) ≡ entriesOf n r
+unfolding entriesOf
+take-entries n count r h = take-take n count (zipEntries (r .distance) (r .first) (r .second)) h
+
+-- Entries past what was written are as before.
+pub past-holding : (l : List Entry) (r : Results) (count : ℕ)
+    → drop (length l) (entriesOf count (holding l r)) ≡ drop (length l) (entriesOf count r)
+unfolding entriesOf holding overwritten
+past-holding l r count =
+    let n = length l in
+    let z = zipEntries (r .distance) (r .first) (r .second) in
+    let past : (Entry → ℕ) → List ℕ → List ℕ = λ key column. drop (length (map key l)) column in
+    let same : zipEntries (past (λ e. e .distance) (r .distance)) (past (λ e. e .first) (r .first))
+    (past (λ e. e .second) (r .second)) ≡ drop n z =
+    rw (
+      length-map l (λ e. e .distance),
+      length-map l (λ e. e .first),
+      length-map l (λ e. e .second),
+      zip-drop entry
+          n (r .distance) (r .first),
+    )
+    (zip-drop (λ make j. make j) n (zipWith entry (r .distance) (r .first)) (r .second)) in
+    rw (
+      zip-append l (past (λ e. e .distance) (r .distance)) (past (λ e. e .first) (r .first))
+          (past (λ e. e .second) (r .second)),
+      same,
+      drop-take n count (l ++ drop n z),
+      drop-take n count z,
+      drop-append-seam l (drop n z),
+    )
 
 -- The entries' numbers stand in the columns.
 zip-columns : (n : ℕ) (ds is js : List ℕ) → n ≤ length ds → n ≤ length is → n ≤ length js
@@ -86,7 +130,8 @@ pub entries-first : (n : ℕ) (r : Results) → entriesOf n (firstOf n r) ≡ en
 unfolding entriesOf
 entries-first n r =
     let pairs = zipWith entry (r .distance) (r .first) in
-    ap (λ (l : List (ℕ → Entry)). take n (zipWith (λ make j. make j) l (take n (r .second)))) (zip-take entry n (r .distance) (r .first))
+    ap (λ (l : List (ℕ → Entry)). take n (zipWith (λ make j. make j) l (take n (r .second))))
+    (zip-take entry n (r .distance) (r .first))
     ∙ ap (take n) (zip-take (λ make j. make j) n pairs (r .second))
     ∙ take-take n n (zipEntries (r .distance) (r .first) (r .second)) (omega arith)
 
@@ -139,13 +184,27 @@ module _ (k count : ℕ) (r : Results) (room : roomFor k r ≡ true) (most : cou
       let c = entries-columns in
       let own : (column : List ℕ) → count ≤ length column → overwritten (take count column) column ≡ column =
       overwritten-self count in
-      rw (c .0, c .1, c .2, own (r .distance) (omega arith), own (r .first) (omega arith), own (r .second) (omega arith))
+      rw (
+        c .0,
+        c .1,
+        c .2,
+        own (r .distance) (omega arith),
+        own (r .first) (omega arith),
+        own (r .second)
+            (omega arith),
+      )
+
+-- The entry that is read at a place of the columns.
+pub read-entry : (n : ℕ) (r : Results) → roomFor n r ≡ true → {i : ℕ} {x : Entry} → i < n → x ≡ entryAt r i
+    → getD (entriesOf n r) i (entry 0 0 0) ≡ x
+read-entry n r room {i} h is = entry-at n n r room (omega arith) i (entry 0 0 0) h ∙ sym is
 
 -- Written again, at least as far.
 pub holding-again : (l m : List Entry) (r : Results) → length l ≤ length m → holding m (holding l r) ≡ holding m r
 unfolding holding
 holding-again l m r h = λ i. record {
-  distance = overwritten-again (map (λ e. e .distance) l) (map (λ e. e .distance) m) (r .distance) (lengths (λ e. e .distance)) i;
+  distance = overwritten-again (map (λ e. e .distance) l) (map (λ e. e .distance) m) (r .distance)
+      (lengths (λ e. e .distance)) i;
   first = overwritten-again (map (λ e. e .first) l) (map (λ e. e .first) m) (r .first) (lengths (λ e. e .first)) i;
   second = overwritten-again (map (λ e. e .second) l) (map (λ e. e .second) m) (r .second) (lengths (λ e. e .second)) i;
 }
@@ -167,7 +226,8 @@ holding-lengths l r room =
     )
 
 -- Room stays.
-pub room-holding : (k : ℕ) (l : List Entry) (r : Results) → roomFor k r ≡ true → length l ≤ k → roomFor k (holding l r) ≡ true
+pub room-holding : (k : ℕ) (l : List Entry) (r : Results) → roomFor k r ≡ true → length l ≤ k
+    → roomFor k (holding l r) ≡ true
 room-holding k l r room h =
     let n = room-lengths k r room in
     let m = holding-lengths l r (lengths-room (length l) r (omega arith) (omega arith) (omega arith)) in

@@ -1,13 +1,16 @@
-// An entry of a result list, its rank, the three result columns, and one candidate taking its place.
+// An entry of a result list, its rank, the three result columns, and a list under way in them.
+mod heap;
+mod queues;
+
+pub use queues::finish;
+pub use queues::offer;
+pub use queues::start;
 ghost use mathlib.Core.Path.{_≡_};
-ghost use mathlib.Core.Bool.{cond};
-ghost use lib.Dec.{eqb};
-ghost use Prim.Native.Nat.{suc, min, _≤_, _<_, _-_, _^_};
-ghost use lib.ListN.{length, getD};
-ghost use Rattle.entry.specs.Entry.{rankBefore, lawfulK, offer};
-ghost use Rattle.entry.specs.Results.{results, lentResults, entriesOf, roomFor};
-ghost use Rattle.entry.specs.Internal.{PlaceOf};
-ghost use Rattle.entry.specs.Terms.{Ready, Holds, entryAt};
+ghost use Prim.Native.Nat.{_<_};
+ghost use lib.ListN.{length};
+ghost use Rattle.entry.specs.Entry.{rankBefore, lawfulK};
+ghost use Rattle.entry.specs.Results.{lentResults, roomFor};
+ghost use Rattle.entry.specs.Terms.{entryAt};
 
 // A pair with its squared distance.
 pub struct Entry {
@@ -16,21 +19,23 @@ pub struct Entry {
     pub second: u32,
 }
 
+// A list under way in the result columns: how many entries it has, where its last by rank stands once it is full (at
+// the end while none has come in, else at place 0), and the greatest squared distance at which a pair can still enter.
+pub struct Queue {
+    pub count: usize,
+    pub last: usize,
+    pub reach: u64,
+}
+
 // Whether one entry comes before another by rank.
 pub fn before(a: Entry, b: Entry) -> bool
     ensures { λ r. ⌜ r ≡ rankBefore a b ⌝ }
 {
-    if a.distance < b.distance {
-        return true;
+    if a.distance != b.distance {
+        return a.distance < b.distance;
     }
-    if b.distance < a.distance {
-        return false;
-    }
-    if a.first < b.first {
-        return true;
-    }
-    if b.first < a.first {
-        return false;
+    if a.first != b.first {
+        return a.first < b.first;
     }
     a.second < b.second
 }
@@ -76,68 +81,4 @@ fn entry_inside(distance: &[u64], first: &[u32], second: &[u32], i: usize) -> En
         first: first[i],
         second: second[i],
     }
-}
-
-// The place that an entry takes among the first `count`.
-fn place(distance: &[u64], first: &[u32], second: &[u32], count: usize, e: Entry) -> usize
-    requires { ⌜ Ready count count (results (now distance) (now first) (now second)) ⌝ }
-    ensures { λ r. ⌜ PlaceOf e (entriesOf count (lentResults distance first second .entry)) r ⌝ }
-{
-    let mut low = 0;
-    let mut high = count;
-    while low < high {
-        let middle = low + (high - low) / 2;
-        if before(entry_inside(distance, first, second, middle), e) {
-            low = middle + 1;
-        } else {
-            high = middle;
-        }
-    }
-    low
-}
-
-// A pair takes its place by rank, the entry past `k` dropping out: the new count.
-pub fn offer(
-    distance: &mut [u64],
-    first: &mut [u32],
-    second: &mut [u32],
-    count: usize,
-    k: usize,
-    e: Entry,
-) -> usize
-    requires { ⌜ Ready k count (results (now distance) (now first) (now second)) ⌝ }
-    ensures { λ r.
-        let l = lentResults distance first second in
-        ⌜ Holds (offer k e (entriesOf count (l .entry))) (l .entry) (l .exit) r ⌝ }
-{
-    let p = place(distance, first, second, count, e);
-    if p == k {
-        return count;
-    }
-    let n = stay(count, k);
-    column::insert_u64(distance, p, n, e.distance);
-    column::insert_u32(first, p, n, e.first);
-    column::insert_u32(second, p, n, e.second);
-    n + 1
-}
-
-// How many of `count` entries stay when one enters a list of at most `k`.
-fn stay(count: usize, k: usize) -> usize
-    requires { ⌜ (0 < k) × (count ≤ k) ⌝ }
-    ensures { λ r. ⌜ suc r ≡ min k (suc count) ⌝ }
-{
-    if count < k { count } else { k - 1 }
-}
-
-// The greatest squared distance at which a pair can still enter a list of at most `k`.
-pub fn reach(distance: &[u64], count: usize, k: usize) -> u64
-    ensures { λ r. ⌜ r ≡ cond (eqb count k) (getD (now (distance .entry)) (count - 1) 0) (2 ^ 64 - 1) ⌝ }
-{
-    if count != k {
-        return 0xffff_ffff_ffff_ffff;
-    }
-    if count == 0 {
-        return column::get_u64(distance, 0);
-    }
-    column::get_u64(distance, count - 1)
 }

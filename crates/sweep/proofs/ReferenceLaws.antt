@@ -8,11 +8,12 @@ use lib.ListN.{length}
 use Rattle.site.specs.Terms.{Coordinates}
 use Rattle.site.proofs.Accepted.{coordinate-x, coordinate-y}
 use Rattle.entry.specs.Results.{Results}
+use Rattle.entry.specs.Terms.{Queueing}
 use Rattle.sweep.specs.declared.Reference.{Reference}
 use Rattle.sweep.specs.declared.Tally.{Tally}
 use Rattle.sweep.specs.Sweep.{look}
 use Rattle.sweep.specs.Terms.{spot}
-use Rattle.sweep.specs.Internal.{referenceAt, lookFrom, TallyReady, ScanAsked}
+use Rattle.sweep.specs.Internal.{referenceAt, lookFrom, ScanAsked}
 
 -- What a look from it tests and offers.
 pub looks-first : {o : Reference} (xs ys : List ℤ) (i : ℕ) → o ≡ referenceAt xs ys i false → lookFrom o ≡ look (spot xs ys i)
@@ -26,13 +27,13 @@ looks-second xs ys i is = rw is
 -- What its scan asks.
 pub reference-asks : {rx ry xs ys : List ℤ} {i from to k : ℕ} (swapped : Bool) {o : Reference} {t : Tally} {r : Results}
     → Coordinates rx ry → i < length rx → o ≡ referenceAt rx ry i swapped → Coordinates xs ys → from ≤ to → to ≤ length xs
-    → TallyReady k t r → (t .looks ≤ 2 ^ 62) × (t .distances ≤ 2 ^ 62) → ScanAsked o xs ys from to k t r
+    → Queueing k (t .queue) r → (t .looks ≤ 2 ^ 62) × (t .distances ≤ 2 ^ 62) → ScanAsked o xs ys from to k t r
 unfolding referenceAt
-reference-asks {i = i} swapped own at is others range inside tally fits = record {
+reference-asks {i = i} swapped own at is others range inside queue fits = record {
   lawful = record { x = rw is (coordinate-x own i at); y = rw is (coordinate-y own i at); others = others };
   range = range;
   to-inside = inside;
-  tally = tally;
+  queue = queue;
   looks-fit = fits .0;
   distances-fit = fits .1;
 }

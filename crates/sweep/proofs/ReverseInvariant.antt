@@ -9,8 +9,9 @@ use lib.IntN.{ℤ}
 use lib.ListN.{take, length-map}
 use borrow.Author.Tests.{ltb-true, ltb-false}
 use Rattle.order.proofs.Order.{byTest, never-both}
+use Rattle.entry.specs.declared.Queue.{Queue}
 use Rattle.entry.specs.Results.{Results, entriesOf}
-use Rattle.entry.specs.Terms.{reachOf}
+use Rattle.entry.specs.Terms.{started}
 use Rattle.sweep.specs.declared.Reference.{Reference}
 use Rattle.sweep.specs.declared.Tally.{Tally}
 use Rattle.sweep.specs.declared.Way.the-variants.{ReverseRun}
@@ -18,11 +19,11 @@ use Rattle.sweep.specs.Strip.{Placed}
 use Rattle.sweep.specs.Scan.{Candidate, State, scan}
 use Rattle.sweep.specs.Sweep.{reverseOver, leads, look, sweep}
 use Rattle.sweep.specs.Terms.{spot, rightward, SweepAsked}
-use Rattle.sweep.specs.Internal.{leftward, referenceAt, lookFrom, firstNext, stateOf, TallyReady, ScanAsked, Updated, Tallied}
+use Rattle.sweep.specs.Internal.{leftward, referenceAt, lookFrom, firstNext, stateOf, ScanAsked, Updated, Tallied}
 use Rattle.sweep.proofs.ReverseLaws.{reverse-nil, reverse-first, reverse-first-last, reverse-second, reverse-second-last}
 use Rattle.sweep.proofs.Counted.{scan-passed, reverse-counted}
 use Rattle.sweep.proofs.SiteRuns.{rightward-nil, rightward-cons, leftward-nil, leftward-more, take-leftward, length-leftward}
-use Rattle.sweep.proofs.Updated.{updated-none, updated-twice}
+use Rattle.sweep.proofs.Updated.{updated-start, updated-twice}
 use Rattle.sweep.proofs.FirstNext.{next-none, next-alone, next-leads}
 use Rattle.sweep.proofs.ReferenceLaws.{looks-first, looks-second, reference-asks}
 use Rattle.sweep.proofs.SweptStrips.{swept-fits}
@@ -33,8 +34,7 @@ pub record ReverseInvariant (ax ay bx by : List ℤ) (aFrom aTo bFrom bTo k old 
   pub a-most : i ≤ aTo
   pub b-limit : bLimit ≤ j
   pub b-most : j ≤ bTo
-  pub updated : Updated k before old r (t .count)
-  pub reach : t .reach ≡ reachOf k (entriesOf (t .count) r)
+  pub updated : Updated k before old r (t .queue)
   pub whole : reverseOver leads look k (rightward ax ay i (aTo - i)) (rightward bx by j (bTo - j)) (leftward ax ay aLimit (i - aLimit))
       (leftward bx by bLimit (j - bLimit)) (stateOf t r)
       ≡ sweep ReverseRun k (rightward ax ay aFrom (aTo - aFrom)) (rightward bx by bFrom (bTo - bFrom)) (entriesOf old before)
@@ -104,18 +104,19 @@ passed-run xs ys {limit} {stop} {at} k f s h is =
     (omega arith, take-leftward xs ys limit stop at (scan k (map f v) s .passed) (omega arith) is)
 
 module _ {ax ay bx by : List ℤ} {aFrom aTo bFrom bTo k old : ℕ} {before : Results} (asked : SweepAsked ax ay bx by aFrom aTo bFrom bTo k old before) where
-  pub invariant-start : {reach : ℕ} → reach ≡ reachOf k (entriesOf old before)
-      → ReverseInvariant ax ay bx by aFrom aTo bFrom bTo k old before before aFrom bFrom aFrom bFrom (record { at = 0; count = old; looks = 0; distances = 0; reach = reach })
+  pub invariant-start : {q : Queue} → q ≡ started (before .distance) old k
+      → ReverseInvariant ax ay bx by aFrom aTo bFrom bTo k old before before aFrom bFrom aFrom bFrom (record { at = 0; looks = 0; distances = 0; queue = q })
   unfolding sweep stateOf
-  invariant-start is = record {
-    a-limit = omega arith;
-    a-most = asked .a-range;
-    b-limit = omega arith;
-    b-most = asked .b-range;
-    updated = updated-none k old before (asked .ready);
-    reach = is;
-    whole = rw (leftward-nil ax ay aFrom aFrom (omega arith), leftward-nil bx by bFrom bFrom (omega arith));
-  }
+  invariant-start is =
+      let s = updated-start (asked .ready) (asked .some) is in
+      record {
+        a-limit = omega arith;
+        a-most = asked .a-range;
+        b-limit = omega arith;
+        b-most = asked .b-range;
+        updated = s .0;
+        whole = rw (s .1, leftward-nil ax ay aFrom aFrom (omega arith), leftward-nil bx by bFrom bFrom (omega arith));
+      }
 
   module _ {r : Results} {i j aLimit bLimit : ℕ} {t : Tally} (f : ReverseInvariant ax ay bx by aFrom aTo bFrom bTo k old before r i j aLimit bLimit t)
       {b : Bool} (test : b ≡ firstNext ax i aTo bx j bTo) where
@@ -130,14 +131,11 @@ module _ {ax ay bx by : List ℤ} {aFrom aTo bFrom bTo k old : ℕ} {before : Re
         swept-fits ReverseRun ax ay bx by aFrom aTo bFrom bTo k old before asked t r
         (rw (f .whole) at (reverse-counted leads look k (rightward ax ay i (aTo - i)) (rightward bx by j (bTo - j)) u v (stateOf t r)))
 
-    ready : TallyReady k t r
-    ready = record { some = asked .some; ready = f .updated .ready; reach = f .reach }
-
     -- Every site has been taken.
     pub invariant-end : b ≡ false → bTo ≤ j
         → Tallied k before old (sweep ReverseRun k (rightward ax ay aFrom (aTo - aFrom)) (rightward bx by bFrom (bTo - bFrom)) (entriesOf old before)) r t
     invariant-end h out =
-        record { updated = f .updated; reach = f .reach; state = sym (step-none ax ay bx by aTo bTo k i j u v (stateOf t r) (sym test ∙ h) out) ∙ f .whole }
+        record { updated = f .updated; state = sym (step-none ax ay bx by aTo bTo k i j u v (stateOf t r) (sym test ∙ h) out) ∙ f .whole }
 
     pub invariant-in : b ≡ true → i < aTo
     invariant-in h = step-first ax ay bx by aTo bTo k i j [] [] (stateOf t r) (sym test ∙ h) .0
@@ -145,16 +143,16 @@ module _ {ax ay bx by : List ℤ} {aFrom aTo bFrom bTo k old : ℕ} {before : Re
     module _ {o : Reference} where
       pub invariant-ask-first : b ≡ true → o ≡ referenceAt ax ay i false → ScanAsked o bx by bLimit j k t r
       invariant-ask-first h is =
-          reference-asks false (asked .a) (omega (arith, invariant-in h, asked .a-inside)) is (asked .b) (f .b-limit) (omega (arith, f .b-most, asked .b-inside)) ready fits
+          reference-asks false (asked .a) (omega (arith, invariant-in h, asked .a-inside)) is (asked .b) (f .b-limit) (omega (arith, f .b-most, asked .b-inside)) (f .updated .queue) fits
 
       pub invariant-ask-second : j < bTo → o ≡ referenceAt bx by j true → ScanAsked o ax ay aLimit i k t r
       invariant-ask-second inB is =
-          reference-asks true (asked .b) (omega (arith, asked .b-inside)) is (asked .a) (f .a-limit) (omega (arith, f .a-most, asked .a-inside)) ready fits
+          reference-asks true (asked .b) (omega (arith, asked .b-inside)) is (asked .a) (f .a-limit) (omega (arith, f .a-most, asked .a-inside)) (f .updated .queue) fits
 
       module _ {after : Results} {n : Tally} where
         -- The first list's site is taken; the second list's limit is where the scan ended.
         pub invariant-first : b ≡ true → o ≡ referenceAt ax ay i false
-            → Tallied k r (t .count) (scan k (map (lookFrom o) v) (stateOf t r) .state) after n
+            → Tallied k r (t .queue .count) (scan k (map (lookFrom o) v) (stateOf t r) .state) after n
             × (n .at + scan k (map (lookFrom o) v) (stateOf t r) .passed ≡ j)
             → ReverseInvariant ax ay bx by aFrom aTo bFrom bTo k old before after (i + 1) j aLimit (n .at) n
         invariant-first h is done =
@@ -166,14 +164,13 @@ module _ {ax ay bx by : List ℤ} {aFrom aTo bFrom bTo k old : ℕ} {before : Re
               a-most = omega (arith, step .0);
               b-limit = passed .0;
               b-most = f .b-most;
-              updated = updated-twice k before old r (t .count) (f .updated) after (n .count) (done .0 .updated);
-              reach = done .0 .reach;
+              updated = updated-twice (f .updated) (done .0 .updated);
               whole = rw (← leftward-more ax ay aLimit i (f .a-limit), ← passed .1, rw seen at (done .0 .state)) (sym (step .1) ∙ f .whole);
             }
 
         -- The second list's site is taken; the first list's limit is where the scan ended.
         pub invariant-second : b ≡ false → j < bTo → o ≡ referenceAt bx by j true
-            → Tallied k r (t .count) (scan k (map (lookFrom o) u) (stateOf t r) .state) after n
+            → Tallied k r (t .queue .count) (scan k (map (lookFrom o) u) (stateOf t r) .state) after n
             × (n .at + scan k (map (lookFrom o) u) (stateOf t r) .passed ≡ i)
             → ReverseInvariant ax ay bx by aFrom aTo bFrom bTo k old before after i (j + 1) (n .at) bLimit n
         invariant-second h inB is done =
@@ -185,7 +182,6 @@ module _ {ax ay bx by : List ℤ} {aFrom aTo bFrom bTo k old : ℕ} {before : Re
               a-most = f .a-most;
               b-limit = omega (arith, f .b-limit);
               b-most = omega arith;
-              updated = updated-twice k before old r (t .count) (f .updated) after (n .count) (done .0 .updated);
-              reach = done .0 .reach;
+              updated = updated-twice (f .updated) (done .0 .updated);
               whole = rw (← leftward-more bx by bLimit j (f .b-limit), ← passed .1, rw seen at (done .0 .state)) (sym step ∙ f .whole);
             }

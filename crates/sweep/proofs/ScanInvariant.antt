@@ -7,8 +7,8 @@ use native.Mathlib.Omega.{arith}
 use lib.IntN.{ℤ}
 use lib.ListN.{length}
 use Rattle.entry.specs.Entry.{offer}
-use Rattle.entry.specs.Results.{Results, entriesOf}
-use Rattle.entry.specs.Terms.{reachOf}
+use Rattle.entry.specs.Results.{Results}
+use Rattle.entry.specs.Terms.{queued}
 use Rattle.sweep.specs.declared.Looked.{Looked}
 use Rattle.sweep.specs.declared.Reference.{Reference}
 use Rattle.sweep.specs.declared.Tally.{Tally}
@@ -25,8 +25,7 @@ scanned k o run r t = scan k (map (lookFrom o) run) (stateOf t r)
 
 -- The sites left, from the state held now, lead where all of them led from the first state.
 pub record ScanInvariant (k : ℕ) (before : Results) (old : Tally) (o : Reference) (all left : List Placed) (r : Results) (t : Tally) : Type 0 where
-  pub updated : Updated k before (old .count) r (t .count)
-  pub reach : t .reach ≡ reachOf k (entriesOf (t .count) r)
+  pub updated : Updated k before (old .queue .count) r (t .queue)
   pub state : scanned k o left r t .state ≡ scanned k o all before old .state
   pub passed : length left + scanned k o all before old .passed ≡ length all + scanned k o left r t .passed
   pub looks-fit : t .looks + length left ≤ 2 ^ 63
@@ -34,14 +33,14 @@ pub record ScanInvariant (k : ℕ) (before : Results) (old : Tally) (o : Referen
 
 -- A scan that ended with `n` sites not passed.
 pub record Ended (k : ℕ) (before : Results) (old : Tally) (o : Reference) (all : List Placed) (n : ℕ) (r : Results) (t : Tally) : Type 0 where
-  pub tallied : Tallied k before (old .count) (scanned k o all before old .state) r t
+  pub tallied : Tallied k before (old .queue .count) (scanned k o all before old .state) r t
   pub passed : n + scanned k o all before old .passed ≡ length all
 
 -- Where a scan ended is no part of the state.
 pub tallied-at : {k old n : ℕ} {before r : Results} {s : State} {t : Tally} → Tallied k before old s r t
-    → Tallied k before old s r (record { at = n; count = t .count; looks = t .looks; distances = t .distances; reach = t .reach })
+    → Tallied k before old s r (record { at = n; looks = t .looks; distances = t .distances; queue = t .queue })
 unfolding stateOf
-tallied-at h = record { updated = h .updated; reach = h .reach; state = h .state }
+tallied-at h = record { updated = h .updated; state = h .state }
 
 module _ {o : Reference} {xs ys : List ℤ} {from to k : ℕ} {before : Results} {old : Tally} (asked : ScanAsked o xs ys from to k old before) where
   pub invariant-starts : (all : List Placed) → length all ≤ to → ScanInvariant k before old o all all before old
@@ -49,8 +48,7 @@ module _ {o : Reference} {xs ys : List ℤ} {from to k : ℕ} {before : Results}
       let few = asked .lawful .others .few in
       let inside = asked .to-inside in
       record {
-        updated = updated-none k (old .count) before (asked .tally .ready);
-        reach = asked .tally .reach;
+        updated = updated-none (asked .queue);
         state = refl;
         passed = refl;
         looks-fit = omega (arith, asked .looks-fit);
@@ -63,7 +61,7 @@ module _ {o : Reference} {xs ys : List ℤ} {from to k : ℕ} {before : Results}
     invariant-ends none =
         let nil : scanned k o left r t ≡ record { state = stateOf t r; passed = 0 } = rw none (scan-nil k (stateOf t r)) in
         record {
-          tallied = record { updated = p .updated; reach = p .reach; state = ap (λ (s : Scanned). s .state) (sym nil) ∙ p .state };
+          tallied = record { updated = p .updated; state = ap (λ (s : Scanned). s .state) (sym nil) ∙ p .state };
           passed = omega (arith, p .passed, ap length none, ap (λ (s : Scanned). s .passed) nil);
         }
 
@@ -74,15 +72,15 @@ module _ {o : Reference} {xs ys : List ℤ} {from to k : ℕ} {before : Results}
         record {
           lawful = asked .lawful;
           inside = omega (arith, asked .to-inside);
-          tally = record { some = asked .tally .some; ready = p .updated .ready; reach = p .reach };
+          queue = p .updated .queue;
           looks-fit = omega (arith, p .looks-fit);
           distances-fit = omega (arith, p .distances-fit);
         }
 
     module _ {x : Placed} {rest : List Placed} (is : left ≡ x ∷ rest) {after : Results} {l : Looked}
         (done : LookDone k (lookFrom o x) t r after l) where
-      joined : Updated k before (old .count) after (l .tally .count)
-      joined = updated-twice k before (old .count) r (t .count) (p .updated) after (l .tally .count) (done .tally .updated)
+      joined : Updated k before (old .queue .count) after (l .tally .queue)
+      joined = updated-twice (p .updated) (done .tally .updated)
 
       -- The look stopped the scan.
       pub invariant-stops : l .stopped ≡ true → Ended k before old o all (length left) after (l .tally)
@@ -91,7 +89,7 @@ module _ {o : Reference} {xs ys : List ℤ} {from to k : ℕ} {before : Results}
           let whole : scanned k o left r t ≡ record { state = lookAt k (lookFrom o x) (stateOf t r); passed = 0 }
           = rw is (scan-stop k (lookFrom o x) (map (lookFrom o) rest) (stateOf t r) (sym (done .stopped) ∙ h)) in
           record {
-            tallied = record { updated = joined; reach = done .tally .reach; state = done .tally .state ∙ ap (λ (s : Scanned). s .state) (sym whole) ∙ p .state };
+            tallied = record { updated = joined; state = done .tally .state ∙ ap (λ (s : Scanned). s .state) (sym whole) ∙ p .state };
             passed = omega (arith, p .passed, ap (λ (s : Scanned). s .passed) whole);
           }
 
@@ -99,8 +97,8 @@ module _ {o : Reference} {xs ys : List ℤ} {from to k : ℕ} {before : Results}
       pub invariant-goes : l .stopped ≡ false → ScanInvariant k before old o all rest after (l .tally)
       unfolding stateOf
       invariant-goes h =
-          let on : beyond k (entriesOf (t .count) r) (lookFrom o x .gap) ≡ false = sym (done .stopped) ∙ h in
-          let now : stateOf (l .tally) after ≡ state (offer k (lookFrom o x .entry) (entriesOf (t .count) r)) (suc (t .looks)) (suc (t .distances))
+          let on : beyond k (queued (t .queue) r) (lookFrom o x .gap) ≡ false = sym (done .stopped) ∙ h in
+          let now : stateOf (l .tally) after ≡ state (offer k (lookFrom o x .entry) (queued (t .queue) r)) (suc (t .looks)) (suc (t .distances))
           = rw on at (done .tally .state) in
           let then = scan-on k (lookFrom o x) (map (lookFrom o) rest) (stateOf t r) on in
           let whole : scanned k o left r t ≡ record { state = scanned k o rest after (l .tally) .state; passed = suc (scanned k o rest after (l .tally) .passed) }
@@ -108,7 +106,6 @@ module _ {o : Reference} {xs ys : List ℤ} {from to k : ℕ} {before : Results}
           let n = ap length is in
           record {
             updated = joined;
-            reach = done .tally .reach;
             state = ap (λ (s : Scanned). s .state) (sym whole) ∙ p .state;
             passed = omega (arith, p .passed, ap (λ (s : Scanned). s .passed) whole);
             looks-fit = omega (arith, p .looks-fit, ap (λ (s : State). s .looks) now);

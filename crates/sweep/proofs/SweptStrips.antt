@@ -1,19 +1,20 @@
 -- What a sweep leaves, from its tally and the result columns.
-use mathlib.Core.Path.{_≡_, sym, ap, _∙_}
+use mathlib.Core.Path.{sym, _∙_}
 use mathlib.Core.List.{List}
 use Prim.Native.Nat.{ℕ, _-_, _≤_, _^_}
 use native.Mathlib.Omega.{arith}
 use lib.IntN.{ℤ}
-use lib.ListN.{length}
 use Rattle.site.specs.SiteList.{columns}
-use Rattle.entry.specs.Results.{Results, entriesOf, holding}
-use Rattle.entry.proofs.Results.{length-entries}
+use Rattle.entry.specs.Results.{Results, entriesOf}
+use Rattle.entry.specs.Terms.{queued, FinishAsked}
+use Rattle.entry.proofs.Within.{within-written}
+use Rattle.entry.proofs.Queueing.{length-queued, queue-finishes}
 use Rattle.sweep.specs.declared.Swept.{Swept}
 use Rattle.sweep.specs.declared.Tally.{Tally}
 use Rattle.sweep.specs.declared.Way.{Way}
 use Rattle.sweep.specs.Scan.{State}
 use Rattle.sweep.specs.Sweep.{sweep}
-use Rattle.sweep.specs.Terms.{rightward, SweepAsked, SweptStrips}
+use Rattle.sweep.specs.Terms.{rightward, SweepAsked, SweptTo, SweptStrips}
 use Rattle.sweep.specs.Internal.{stateOf, Tallied}
 use Rattle.sweep.proofs.Counted.{Counted, sweep-looks-fit, sweep-distances-bound}
 use Rattle.sweep.proofs.SiteRuns.{length-rightward}
@@ -36,19 +37,26 @@ module _ (way : Way) (ax ay bx by : List ℤ) (aFrom aTo bFrom bTo k old : ℕ) 
       let g = sweep-distances-bound way k p q (entriesOf old before) in
       omega (arith, c .looks-from, c .distances-from)
 
+  -- What the answer asks.
+  pub swept-asks : {r : Results} {t : Tally} → Tallied k before old swept r t → (t .queue .count ≤ 4_096) × FinishAsked (t .queue) r
+  swept-asks h =
+      let q = h .updated .queue in
+      (omega (arith, asked .few), queue-finishes q)
+
   -- The answer from the state that the tally and the columns hold.
-  pub swept-strips : {r : Results} {t : Tally} {answer : Swept} → Tallied k before old swept r t
-      → (answer .entries ≡ t .count) × (answer .looks .0 ≡ t .looks) × (answer .distances .0 ≡ t .distances)
-      → SweptStrips way ax ay bx by aFrom aTo bFrom bTo k old before r answer
+  pub swept-strips : {r after : Results} {t : Tally} {answer : Swept} → Tallied k before old swept r t → SweptTo (stateOf t r) r after answer
+      → SweptStrips way ax ay bx by aFrom aTo bFrom bTo k old before after answer
   unfolding stateOf
-  swept-strips {r} {t} h answers = record {
+  swept-strips {r} {after} {t} {answer} h a = record {
     numbered = λ an bn la lb.
         let same = sweep-strips way k (columns ax ay an) (columns bx by bn) aFrom aTo bFrom bTo (entriesOf old before) la lb (asked .a-inside) (asked .b-inside) in
-        let whole : stateOf t r ≡ _ = h .state ∙ sym same in
-        record {
-          entries = answers .0 ∙ sym (length-entries k (t .count) r (h .updated .ready .room) (h .updated .ready .most)) ∙ ap (λ (s : State). length (s .entries)) whole;
-          looks = answers .1 ∙ ap (λ (s : State). s .looks) whole;
-          distances = answers .2 ∙ ap (λ (s : State). s .distances) whole;
-          columns = h .updated .rest ∙ ap (λ (s : State). holding (s .entries) before) whole;
-        };
+        let u = h .updated in
+        let n = length-queued (queue-finishes (u .queue)) in
+        let whole : SweptTo (stateOf t r) before after answer = record {
+          entries = a .entries;
+          looks = a .looks;
+          distances = a .distances;
+          columns = a .columns ∙ within-written (queued (t .queue) r) (omega arith) (u .rest);
+        } in
+        rw (h .state ∙ sym same) at whole;
   }

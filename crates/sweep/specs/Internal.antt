@@ -1,5 +1,5 @@
 -- Terms that only this crate's functions cite: references, tallies, and what a look and a scan ask and promise.
-use mathlib.Core.Bool.{Bool, cond, _&&_, _||_, true}
+use mathlib.Core.Bool.{Bool, cond, _&&_, _||_, false, true}
 use mathlib.Core.List.{List, [], _∷_}
 use mathlib.Core.Path.{_≡_}
 use Prim.Native.Nat.{ℕ, zero, suc, _+_, _≤_, _<_, _^_}
@@ -10,8 +10,9 @@ use lib.Signed.{leZ}
 use Rattle.site.specs.SiteList.{site}
 use Rattle.site.specs.Site.{within}
 use Rattle.site.specs.Terms.{Coordinates}
-use Rattle.entry.specs.Results.{Results, entriesOf, holding, roomFor}
-use Rattle.entry.specs.Terms.{Ready, reachOf}
+use Rattle.entry.specs.declared.Queue.{Queue}
+use Rattle.entry.specs.Results.{Results}
+use Rattle.entry.specs.Terms.{Within, queued, Queueing}
 use Rattle.sweep.specs.declared.Reference.{Reference}
 use Rattle.sweep.specs.declared.Tally.{Tally}
 use Rattle.sweep.specs.declared.Looked.{Looked}
@@ -42,13 +43,12 @@ firstNext ax i aTo bx j bTo = ltb i aTo && (leb bTo j || leZ (getD ax i (pos 0))
 
 -- The state that a tally and the columns hold.
 unfoldable pub stateOf : Tally → Results → State
-stateOf t r = state (entriesOf (t .count) r) (t .looks) (t .distances)
+stateOf t r = state (queued (t .queue) r) (t .looks) (t .distances)
 
--- The tally is that of the columns, which are ready for up to `k` entries: they hold its entries, its reach is theirs.
-pub record TallyReady (k : ℕ) (t : Tally) (r : Results) : Type 0 where
-  pub some : 0 < k
-  pub ready : Ready k (t .count) r
-  pub reach : t .reach ≡ reachOf k (entriesOf (t .count) r)
+-- A look that goes on, with the list under way as an offer left it.
+abbrev pub goneOn : Tally → Queue → Looked
+goneOn t q =
+    record { stopped = false; tally = record { at = t .at; looks = t .looks; distances = t .distances; queue = q } }
 
 -- The reference is within the limits, and the others are coordinate columns of a lawful list.
 pub record LawfulLook (o : Reference) (xs ys : List ℤ) : Type 0 where
@@ -60,7 +60,7 @@ pub record LawfulLook (o : Reference) (xs ys : List ℤ) : Type 0 where
 pub record LookAsked (o : Reference) (xs ys : List ℤ) (i k : ℕ) (old : Tally) (r : Results) : Type 0 where
   pub lawful : LawfulLook o xs ys
   pub inside : i < length xs
-  pub tally : TallyReady k old r
+  pub queue : Queueing k (old .queue) r
   pub looks-fit : old .looks < 2 ^ 63
   pub distances-fit : old .distances < 2 ^ 63
 
@@ -69,24 +69,22 @@ pub record ScanAsked (o : Reference) (xs ys : List ℤ) (from to k : ℕ) (old :
   pub lawful : LawfulLook o xs ys
   pub range : from ≤ to
   pub to-inside : to ≤ length xs
-  pub tally : TallyReady k old r
+  pub queue : Queueing k (old .queue) r
   pub looks-fit : old .looks ≤ 2 ^ 62
   pub distances-fit : old .distances ≤ 2 ^ 62
 
--- The columns went from `before` with `old` entries to `r` with `count`, and hold nothing else that is new.
-pub record Updated (k : ℕ) (before : Results) (old : ℕ) (r : Results) (count : ℕ) : Type 0 where
-  pub room : roomFor k before ≡ true
-  pub ready : Ready k count r
-  pub least : old ≤ count
-  pub rest : r ≡ holding (entriesOf count r) before
+-- The columns went from `before` with `old` entries to `r` with the queue `q`, and hold nothing else that is new.
+pub record Updated (k : ℕ) (before : Results) (old : ℕ) (r : Results) (q : Queue) : Type 0 where
+  pub queue : Queueing k q r
+  pub least : old ≤ q .count
+  pub rest : Within (q .count) before r
 
 -- The columns went from `before` with `old` entries to `r`, and with the tally they hold the state `s`.
 pub record Tallied (k : ℕ) (before : Results) (old : ℕ) (s : State) (r : Results) (t : Tally) : Type 0 where
-  pub updated : Updated k before old r (t .count)
-  pub reach : t .reach ≡ reachOf k (entriesOf (t .count) r)
+  pub updated : Updated k before old r (t .queue)
   pub state : stateOf t r ≡ s
 
 -- A look promises whether it stopped the scan, and the state that it leaves.
 pub record LookDone (k : ℕ) (c : Candidate) (old : Tally) (before after : Results) (l : Looked) : Type 0 where
-  pub stopped : l .stopped ≡ beyond k (entriesOf (old .count) before) (c .gap)
-  pub tally : Tallied k before (old .count) (lookAt k c (stateOf old before)) after (l .tally)
+  pub stopped : l .stopped ≡ beyond k (queued (old .queue) before) (c .gap)
+  pub tally : Tallied k before (old .queue .count) (lookAt k c (stateOf old before)) after (l .tally)

@@ -3,10 +3,12 @@ mod look;
 mod scan;
 mod sweeps;
 
-ghost use mathlib.Core.Path.{_≡_};
+use entry::Queue;
 ghost use Prim.Native.Nat.{_≤_};
 ghost use Rattle.entry.specs.Results.{results, lentResults};
-ghost use Rattle.sweep.specs.Terms.{SweepAsked, SweptStrips};
+ghost use Rattle.entry.specs.Terms.{FinishAsked};
+ghost use Rattle.sweep.specs.Terms.{SweepAsked, SweptTo, SweptStrips};
+ghost use Rattle.sweep.specs.Internal.{stateOf};
 
 // How many looks a sweep made.
 pub struct Looks(pub u64);
@@ -35,14 +37,12 @@ struct Reference {
     swapped: bool,
 }
 
-// What a sweep carries: where the last scan to the left ended, the entry count, both counters, and the greatest squared
-// distance at which a pair can still enter.
+// What a sweep carries: where the last scan to the left ended, both counters, and the list under way.
 struct Tally {
     at: usize,
-    count: usize,
     looks: u64,
     distances: u64,
-    reach: u64,
+    queue: Queue,
 }
 
 // What a look leaves: whether it stopped the scan, and the tally.
@@ -51,15 +51,20 @@ struct Looked {
     tally: Tally,
 }
 
-// What a sweep answers after its last scan.
-fn answer(tally: Tally) -> Swept
-    requires { ⌜ tally .count ≤ 4_096 ⌝ }
-    ensures { λ r. ⌜
-        (r .entries ≡ tally .count) × (r .looks .0 ≡ tally .looks) × (r .distances .0 ≡ tally .distances)
+// What a sweep answers after its last scan, with the list under way put in rank order.
+fn answer(tally: Tally, distance: &mut [u64], first: &mut [u32], second: &mut [u32]) -> Swept
+    requires { ⌜
+        (tally .queue .count ≤ 4_096)
+        × FinishAsked (tally .queue) (results (now distance) (now first) (now second))
         ⌝ }
+    ensures { λ r.
+        let l = lentResults distance first second in
+        ⌜ SweptTo (stateOf tally (l .entry)) (l .entry) (l .exit) r ⌝ }
 {
+    let queue = tally.queue;
+    entry::finish(distance, first, second, queue);
     Swept {
-        entries: tally.count as u32,
+        entries: queue.count as u32,
         looks: Looks(tally.looks),
         distances: Distances(tally.distances),
     }
@@ -92,23 +97,8 @@ pub fn run(
         ⌜ swept «a_from» «a_to» «b_from» «b_to» k count (l .entry) (l .exit) r ⌝ }
 {
     match way {
-        Way::Classic => answer(sweeps::classic(
-            ax,
-            ay,
-            bx,
-            by,
-            a_from,
-            a_to,
-            b_from,
-            b_to,
-            k,
-            count,
-            distance,
-            first,
-            second,
-        )),
-        Way::ReverseRun => {
-            answer(sweeps::reverse_run(
+        Way::Classic => {
+            let tally = sweeps::classic(
                 ax,
                 ay,
                 bx,
@@ -122,7 +112,26 @@ pub fn run(
                 distance,
                 first,
                 second,
-            ))
+            );
+            answer(tally, distance, first, second)
+        }
+        Way::ReverseRun => {
+            let tally = sweeps::reverse_run(
+                ax,
+                ay,
+                bx,
+                by,
+                a_from,
+                a_to,
+                b_from,
+                b_to,
+                k,
+                count,
+                distance,
+                first,
+                second,
+            );
+            answer(tally, distance, first, second)
         }
     }
 }

@@ -3,8 +3,8 @@ use super::Looked;
 use super::Reference;
 use super::Tally;
 use entry::Entry;
+use entry::Queue;
 ghost use mathlib.Core.Path.{_≡_};
-ghost use mathlib.Core.Bool.{cond};
 ghost use Prim.Native.Nat.{_<_};
 ghost use lib.IntN.{pos};
 ghost use lib.ListN.{length, getD};
@@ -13,7 +13,7 @@ ghost use Rattle.site.specs.SiteList.{site};
 ghost use Rattle.entry.specs.Entry.{entry};
 ghost use Rattle.entry.specs.Results.{results, lentResults};
 ghost use Rattle.sweep.specs.Terms.{spot};
-ghost use Rattle.sweep.specs.Internal.{lookFrom, LawfulLook, LookAsked, LookDone};
+ghost use Rattle.sweep.specs.Internal.{lookFrom, goneOn, LawfulLook, LookAsked, LookDone};
 
 // The squared x-difference of a reference and the site at a place of the other list.
 fn squared_gap_at(reference: Reference, xs: &[i32], i: usize) -> u64
@@ -33,23 +33,31 @@ fn squared_distance_at(reference: Reference, xs: &[i32], ys: &[i32], i: usize) -
     site::squared_distance(reference.x, reference.y, xs[i], ys[i])
 }
 
-// The pair of a reference and another site as an entry.
-fn pair_of(reference: Reference, distance: u64, other: u32) -> Entry
-    ensures { λ r.
-        let place = reference .place in
-        ⌜ r ≡ cond (reference .swapped) (entry distance other place) (entry distance place other) ⌝ }
+// A pair as an entry.
+fn pair(distance: u64, first: u32, second: u32) -> Entry
+    ensures { λ r. ⌜ r ≡ entry distance first second ⌝ }
 {
-    if reference.swapped {
-        return Entry {
-            distance,
-            first: other,
-            second: reference.place,
-        };
-    }
     Entry {
         distance,
-        first: reference.place,
-        second: other,
+        first,
+        second,
+    }
+}
+
+// A look that goes on, with the list under way as an offer left it.
+fn gone_on(old: Tally, queue: Queue) -> Looked
+    ensures { λ r. ⌜ r ≡ goneOn old queue ⌝ }
+{
+    let next = Queue {
+        count: queue.count,
+        last: queue.last,
+        reach: queue.reach,
+    };
+    let mut tally = old;
+    tally.queue = next;
+    Looked {
+        stopped: false,
+        tally,
     }
 }
 
@@ -74,7 +82,7 @@ pub(super) fn look(
 {
     let mut tally = old;
     tally.looks += 1;
-    if tally.reach < squared_gap_at(reference, xs, i) {
+    if tally.queue.reach < squared_gap_at(reference, xs, i) {
         return Looked {
             stopped: true,
             tally,
@@ -82,17 +90,21 @@ pub(super) fn look(
     }
     tally.distances += 1;
     let squared = squared_distance_at(reference, xs, ys, i);
-    if tally.reach < squared {
+    if tally.queue.reach < squared {
         return Looked {
             stopped: false,
             tally,
         };
     }
-    let e = pair_of(reference, squared, i as u32);
-    tally.count = entry::offer(distance, first, second, tally.count, k, e);
-    tally.reach = entry::reach(distance, tally.count, k);
-    Looked {
-        stopped: false,
-        tally,
+    let other = i as u32;
+    if reference.swapped {
+        let queue = tally.queue;
+        let e = pair(squared, other, reference.place);
+        let next = entry::offer(distance, first, second, k, queue, e);
+        return gone_on(tally, next);
     }
+    let queue = tally.queue;
+    let e = pair(squared, reference.place, other);
+    let next = entry::offer(distance, first, second, k, queue, e);
+    gone_on(tally, next)
 }

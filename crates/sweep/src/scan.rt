@@ -30,7 +30,7 @@ pub(super) fn scan_right(
         let l = lentResults distance first second in
         let run = rightward (now (xs .entry)) (now (ys .entry)) from (to - from) in
         let scanned = scan k (map (lookFrom reference) run) (stateOf old (l .entry)) in
-        ⌜ Tallied k (l .entry) (old .count) (scanned .state) (l .exit) r ⌝ }
+        ⌜ Tallied k (l .entry) (old .queue .count) (scanned .state) (l .exit) r ⌝ }
 {
     let mut at = from;
     let mut tally = old;
@@ -66,7 +66,7 @@ pub(super) fn scan_left(
         let l = lentResults distance first second in
         let run = leftward (now (xs .entry)) (now (ys .entry)) limit (taken - limit) in
         let scanned = scan k (map (lookFrom reference) run) (stateOf old (l .entry)) in
-        ⌜ Tallied k (l .entry) (old .count) (scanned .state) (l .exit) r × (r .at + scanned .passed ≡ taken) ⌝ }
+        ⌜ Tallied k (l .entry) (old .queue .count) (scanned .state) (l .exit) r × (r .at + scanned .passed ≡ taken) ⌝ }
 {
     let mut at = taken;
     let mut tally = old;

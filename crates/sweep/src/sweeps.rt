@@ -69,10 +69,9 @@ pub(super) fn classic(
     let mut j = b_from;
     let mut tally = Tally {
         at: 0,
-        count,
         looks: 0,
         distances: 0,
-        reach: entry::reach(distance, count, k),
+        queue: entry::start(distance, count, k),
     };
     while i < a_to && j < b_to {
         if first_next(ax, i, a_to, bx, j, b_to) {
@@ -120,10 +119,9 @@ pub(super) fn reverse_run(
     let mut b_limit = b_from;
     let mut tally = Tally {
         at: 0,
-        count,
         looks: 0,
         distances: 0,
-        reach: entry::reach(distance, count, k),
+        queue: entry::start(distance, count, k),
     };
     'references: loop {
         if first_next(ax, i, a_to, bx, j, b_to) {

@@ -4,27 +4,45 @@ use Rattle.sweep.proofs.LookLaws.{look-stops, look-passes, look-offers}
 use Rattle.sweep.proofs.look.look.Statement.{statement}
 use Rattle.sweep.proofs.look.look.Tie as tie
 
+-- Before the first call.
+abbrev start : tie.After-squared-gap-at → tie.Start
+start g = g .before .before .before .before .before
+
 returns : tie.Need-returns
 returns c =
     let g = c .before .before in
-    look-stops _ _ _ _ _ _ _ (g .before .before .before .before .before .pre) _ (g .squared-gap-at .ensures) (c .if1 .taken)
+    look-stops (start g .pre) (g .squared-gap-at .ensures) (c .if1 .taken)
 
 returns-2 : tie.Need-returns-2
 returns-2 c =
     let d = c .before .before in
     let e = d .before .before in
     let g = e .before .before in
-    look-passes _ _ _ _ _ _ _ (g .before .before .before .before .before .pre) _ (g .squared-gap-at .ensures) _ (d .squared-distance-at .ensures) (e .if1 .left) (c .if2 .taken)
+    look-passes (start g .pre) (g .squared-gap-at .ensures) (d .squared-distance-at .ensures) (e .if1 .left) (c .if2 .taken)
 
 returns-3 : tie.Need-returns-3
 returns-3 c =
-    let o = c .before .before .before .before .before .before .before .before in
+    let o = c .before .before .before .before .before .before .before in
     let p = o .before .before .before .before in
-    let d = p .before .before .before in
+    let t = p .before .before in
+    let d = t .before .before .before in
     let e = d .before .before in
     let g = e .before .before in
-    look-offers _ _ _ _ _ _ _ (g .before .before .before .before .before .pre) _ (g .squared-gap-at .ensures) _ (d .squared-distance-at .ensures) (e .if1 .left)
-    _ _ _ _ (p .pair-of .ensures) (o .offer .ensures) (c .reach .ensures)
+    rw (c .gone-on .ensures)
+    (look-offers (start g .pre) (g .squared-gap-at .ensures) (d .squared-distance-at .ensures) (e .if1 .left)
+    (rw (t .if3 .taken) (p .pair .ensures)) (o .offer .ensures))
+
+returns-4 : tie.Need-returns-4
+returns-4 c =
+    let o = c .before .before .before .before .before .before .before in
+    let p = o .before .before .before .before in
+    let t = p .before .before in
+    let d = t .before .before .before in
+    let e = d .before .before in
+    let g = e .before .before in
+    rw (c .gone-on2 .ensures)
+    (look-offers (start g .pre) (g .squared-gap-at .ensures) (d .squared-distance-at .ensures) (e .if1 .left)
+    (rw (t .if3 .left) (p .pair2 .ensures)) (o .offer2 .ensures))
 
 pub look-spec : {M : Type 1} → statement M
 look-spec =
@@ -43,4 +61,11 @@ look-spec =
     (λ c. search needs)
     (λ c. search needs)
     (λ c. search needs)
-    returns-3)
+    returns-3
+    (λ c κs. search needs)
+    (λ c κs. search needs)
+    (λ c κs. search needs)
+    (λ c. search needs)
+    (λ c. search needs)
+    (λ c. search needs)
+    returns-4)

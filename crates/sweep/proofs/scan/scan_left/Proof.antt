@@ -3,9 +3,9 @@ use Prim.Native.Nat.{_-_, _≤_, _<_}
 use native.Mathlib.Omega.{arith}
 use borrow.Author.Needs.{needs}
 use Rattle.entry.specs.Results.{results}
+use Rattle.entry.proofs.Within.{SameLengths, within-lengths}
 use Rattle.sweep.specs.Internal.{leftward}
 use Rattle.sweep.proofs.SiteRuns.{leftward-nil, leftward-cons, length-leftward, left-limit}
-use Rattle.sweep.proofs.Updated.{SameLengths, updated-lengths}
 use Rattle.sweep.proofs.ScanInvariant.{ScanInvariant, tallied-at, invariant-starts, invariant-asks, invariant-ends, invariant-stops, invariant-goes}
 use Rattle.sweep.proofs.scan.scan_left.Statement.{statement}
 use Rattle.sweep.proofs.scan.scan_left.Tie as tie
@@ -50,7 +50,7 @@ loop-again c =
     let t = d .before .before .before .before in
     let l = t .before in
     let p = invariant-goes (l .before .before .before .before .pre) (l .loop .inv .2) (leftward-cons _ _ _ _ (under t .0)) (d .look .ensures) (c .if2 .left) in
-    (updated-lengths _ _ _ _ _ (p .updated), omega (arith, under t), p)
+    (within-lengths (p .updated .rest), omega (arith, under t), p)
 
 returns : tie.Need-returns Inv-loop μ-loop
 returns c =

@@ -3,9 +3,9 @@ use Prim.Native.Nat.{_-_, _≤_}
 use native.Mathlib.Omega.{arith}
 use borrow.Author.Needs.{needs}
 use Rattle.entry.specs.Results.{results}
+use Rattle.entry.proofs.Within.{SameLengths, within-lengths}
 use Rattle.sweep.specs.Terms.{rightward}
 use Rattle.sweep.proofs.SiteRuns.{rightward-nil, rightward-cons, length-rightward}
-use Rattle.sweep.proofs.Updated.{SameLengths, updated-lengths}
 use Rattle.sweep.proofs.ScanInvariant.{ScanInvariant, invariant-starts, invariant-asks, invariant-ends, invariant-stops, invariant-goes}
 use Rattle.sweep.proofs.scan.scan_right.Statement.{statement}
 use Rattle.sweep.proofs.scan.scan_right.Tie as tie
@@ -43,7 +43,7 @@ loop-again c =
     let t = d .before .before .before .before in
     let l = t .before in
     let p = invariant-goes (l .before .before .before .before .pre) (l .loop .inv .2) (rightward-cons _ _ _ _ (t .loop-test .taken)) (d .look .ensures) (c .if1 .left) in
-    (updated-lengths _ _ _ _ _ (p .updated), search needs, p)
+    (within-lengths (p .updated .rest), search needs, p)
 
 returns-2 : tie.Need-returns-2 Inv-loop μ-loop
 returns-2 c =

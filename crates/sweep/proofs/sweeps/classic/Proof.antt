@@ -5,8 +5,7 @@ use native.Mathlib.Omega.{arith}
 use borrow.Author.Needs.{needs}
 use borrow.Author.Tests.{ltb-true, ltb-false}
 use Rattle.entry.specs.Results.{results}
-use Rattle.sweep.proofs.Updated.{SameLengths, updated-lengths}
-use Rattle.sweep.proofs.Reach.{reach-is}
+use Rattle.entry.proofs.Within.{SameLengths, within-lengths}
 use Rattle.sweep.proofs.ClassicInvariant.{ClassicInvariant, invariant-start, invariant-ask-first, invariant-ask-second, invariant-first, invariant-second, invariant-end}
 use Rattle.sweep.proofs.sweeps.classic.Statement.{statement}
 use Rattle.sweep.proofs.sweeps.classic.Tie as tie
@@ -22,8 +21,7 @@ abbrev μ-loop : tie.MeasureT-loop
 
 loop-holds : tie.Need-loop-holds Inv-loop μ-loop
 loop-holds c =
-    let s = c .before .before .before .before .before .pre in
-    (search needs, invariant-start s (reach-is _ _ _ _ (s .some) (s .ready) (c .reach .ensures)))
+    (search needs, invariant-start (c .before .before .before .before .before .pre) (c .start .ensures))
 
 -- The second list's finger is inside.
 below : (u : tie.Then1 Inv-loop μ-loop) → u .before .before .loop .j < u .before .before .before .before .before .before .before .before .args .b-to
@@ -63,7 +61,7 @@ loop-again c =
     let p =
     invariant-first (l .before .before .before .before .before .before .pre) (l .loop .inv .1) (u .before .loop-test .taken) (below u) (w .before .first-next .ensures)
     (w .if2 .taken) (a .reference-at .ensures) (d .scan-right .ensures) in
-    (updated-lengths _ _ _ _ _ (p .updated), p)
+    (within-lengths (p .updated .rest), p)
 
 reference-at-requires-2 : tie.Need-reference-at-requires-2 Inv-loop μ-loop
 reference-at-requires-2 c κs =
@@ -96,7 +94,7 @@ loop-again-2 c =
     let p =
     invariant-second (l .before .before .before .before .before .before .pre) (l .loop .inv .1) (u .before .loop-test .taken) (below u) (w .before .first-next .ensures)
     (w .if2 .left) (a .reference-at2 .ensures) (d .scan-right2 .ensures) in
-    (updated-lengths _ _ _ _ _ (p .updated), p)
+    (within-lengths (p .updated .rest), p)
 
 returns : tie.Need-returns Inv-loop μ-loop
 returns c = let l = c .before .before in invariant-end (l .before .before .before .before .before .before .pre) (l .loop .inv .1) (inr (ltb-false _ _ (c .if1 .left)))

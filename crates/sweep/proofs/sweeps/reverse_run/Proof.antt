@@ -3,8 +3,7 @@ use Prim.Native.Nat.{_+_, _-_, _<_}
 use native.Mathlib.Omega.{arith}
 use borrow.Author.Needs.{needs}
 use Rattle.entry.specs.Results.{results}
-use Rattle.sweep.proofs.Updated.{SameLengths, updated-lengths}
-use Rattle.sweep.proofs.Reach.{reach-is}
+use Rattle.entry.proofs.Within.{SameLengths, within-lengths}
 use Rattle.sweep.proofs.ReverseInvariant.{ReverseInvariant, invariant-start, invariant-in, invariant-ask-first, invariant-ask-second, invariant-first, invariant-second, invariant-end}
 use Rattle.sweep.proofs.sweeps.reverse_run.Statement.{statement}
 use Rattle.sweep.proofs.sweeps.reverse_run.Tie as tie
@@ -20,8 +19,7 @@ abbrev μ-references : tie.MeasureT-references
 
 references-holds : tie.Need-references-holds Inv-references μ-references
 references-holds c =
-    let s = c .before .before .before .before .before .pre in
-    (search needs, invariant-start s (reach-is _ _ _ _ (s .some) (s .ready) (c .reach .ensures)))
+    (search needs, invariant-start (c .before .before .before .before .before .pre) (c .start .ensures))
 
 first-next-requires : tie.Need-first-next-requires Inv-references μ-references
 first-next-requires c κs = let s = c .before .before .before .before .before .before .pre in (s .a-inside, s .b-inside)
@@ -55,7 +53,7 @@ references-again c =
     let l = w .before .before in
     let p =
     invariant-first (l .before .before .before .before .before .before .pre) (l .references .inv .1) (w .before .first-next .ensures) (w .if1 .taken) (a .reference-at .ensures) (d .scan-left .ensures) in
-    (updated-lengths _ _ _ _ _ (p .updated), p)
+    (within-lengths (p .updated .rest), p)
 
 reference-at-requires-2 : tie.Need-reference-at-requires-2 Inv-references μ-references
 reference-at-requires-2 c κs =
@@ -86,7 +84,7 @@ references-again-2 c =
     let p =
     invariant-second (l .before .before .before .before .before .before .pre) (l .references .inv .1) (e .before .before .first-next .ensures) (e .before .if1 .left) (e .if2 .left)
     (a .reference-at2 .ensures) (d .scan-left2 .ensures) in
-    (updated-lengths _ _ _ _ _ (p .updated), p)
+    (within-lengths (p .updated .rest), p)
 
 returns : tie.Need-returns Inv-references μ-references
 returns c =
