@@ -1,5 +1,6 @@
 //! The exported calls beside the same work in ordinary optimised Rust, in one run.
 
+mod keepers;
 mod ordinary;
 #[allow(dead_code)]
 #[path = "../tests/random.rs"]
@@ -8,7 +9,8 @@ mod random;
 #[path = "../tests/raw.rs"]
 mod raw;
 
-use ordinary::{Counters, Entry, Heap, KList, List, Sorted};
+use keepers::{Buffered, Entry, Heap, KList, Sorted};
+use ordinary::{Counters, List};
 use random::Random;
 use std::hint::black_box;
 use std::time::Instant;
@@ -128,9 +130,9 @@ fn plain_k_list(classic: bool, a: List, b: List, mut list: impl KList) -> (Vec<E
 fn k_list(name: &str, way: &str, call: Call, a: &Columns, b: &Columns, k: usize) {
     let mut r = Results::new(k);
     let mut told = (0, Counters::default());
-    let (mut sorted, mut heaped) = (None, None);
+    let (mut sorted, mut heaped, mut buffered) = (None, None, None);
     let classic = way == "classic";
-    let [proved, by_sorting, by_heap] = least([
+    let [proved, by_sorting, by_heap, by_buffer] = least([
         &mut || {
             let number = unsafe {
                 call(
@@ -143,16 +145,16 @@ fn k_list(name: &str, way: &str, call: Call, a: &Columns, b: &Columns, k: usize)
             };
             assert_eq!(number, 0);
         },
-        &mut || sorted = Some(plain_k_list(classic, a.lent(), b.lent(), Sorted::new(k))),
-        &mut || heaped = Some(plain_k_list(classic, a.lent(), b.lent(), Heap::new(k))),
+        &mut || sorted = Some(plain_k_list(classic, a.lent(), b.lent(), Sorted::new(k, Vec::new()))),
+        &mut || heaped = Some(plain_k_list(classic, a.lent(), b.lent(), Heap::new(k, Vec::new()))),
+        &mut || buffered = Some(plain_k_list(classic, a.lent(), b.lent(), Buffered::new(k, Vec::new()))),
     ]);
     let answer = Some((r.entries(), told.1));
-    assert!(told.0 as usize == k && answer == sorted && answer == heaped, "the answers differ");
-    let plain = by_sorting.min(by_heap);
+    assert!(told.0 as usize == k && [sorted, heaped, buffered].iter().all(|l| *l == answer), "the answers differ");
     println!(
         "K list, {way}, {name}, K {k}: {proved:.2} ms, Rust {by_sorting:.2} ms by insertion, {by_heap:.2} ms by heap, \
-         ratio {:.2}; {} looks, {:.0} million a second",
-        proved / plain,
+         {by_buffer:.2} ms by buffer, ratio {:.2}; {} looks, {:.0} million a second",
+        proved / by_sorting.min(by_heap).min(by_buffer),
         told.1.looks,
         told.1.looks as f64 / proved / 1_000.0,
     );
@@ -258,24 +260,47 @@ fn status(a: &Columns, b: &Columns, k: usize, c: &Campaign, r: &Results) {
     assert_eq!((number, settled, jobs, got), (0, 256, 256, k as u32));
 }
 
-/// A campaign beside one classic sweep in ordinary Rust, and where its time goes.
+/// All 256 jobs in ordinary Rust, on lists that `keep` makes: looks, jobs skipped, and the entries.
+fn plain_jobs<L: KList>(a: List, b: List, k: usize, keep: impl Fn(usize, Vec<Entry>) -> L) -> (u64, u32, Vec<Entry>) {
+    let ends = || (1..=16).map(|s| SITES * s / 16).collect();
+    let mut c = ordinary::Campaign::new(k, [ends(), ends()]);
+    let (mut looks, mut skips) = (0, 0);
+    for job in 0..256 {
+        match c.classic_job(&keep, a, b, job / 16, job % 16) {
+            Some(seen) => looks += seen,
+            None => skips += 1,
+        }
+    }
+    (looks, skips, c.entries)
+}
+
+/// A campaign beside the same in ordinary Rust and beside one classic sweep, and where its time goes.
 fn campaign(name: &str, a: &Columns, b: &Columns, k: usize) {
     let mut r = Results::new(k);
     let mut c = Campaign { numbers: [0; 4], first_ends: [0; 32], second_ends: [0; 32], marks: [0; 1024] };
     let (mut told, mut whole) = ((0, 0), None);
-    let [jobs, plain] = least([
+    let (mut sorted, mut heaped, mut buffered) = (None, None, None);
+    let (la, lb) = (a.lent(), b.lent());
+    let [jobs, by_sorting, by_heap, by_buffer, sweep] = least([
         &mut || told = all_jobs(a, b, k, &mut c, &mut r),
-        &mut || whole = Some(plain_k_list(true, a.lent(), b.lent(), Heap::new(k))),
+        &mut || sorted = Some(plain_jobs(la, lb, k, Sorted::new)),
+        &mut || heaped = Some(plain_jobs(la, lb, k, Heap::new)),
+        &mut || buffered = Some(plain_jobs(la, lb, k, Buffered::new)),
+        &mut || whole = Some(plain_k_list(true, la, lb, Heap::new(k, Vec::new()))),
     ]);
+    let answer = Some((told.0, told.1, r.entries()));
+    assert!([sorted, heaped, buffered].iter().all(|l| *l == answer), "the answers differ");
     assert!(Some(r.entries()) == whole.map(|w| w.0), "the answers differ");
     let [statuses, checks] = least([
         &mut || (0..256).for_each(|_| status(a, b, k, &c, &r)),
         &mut || (0..256).for_each(|_| [a, b].into_iter().for_each(checked)),
     ]);
     println!(
-        "campaign, {name}, 256 jobs, K {k}: {jobs:.1} ms, one classic sweep in Rust {plain:.1} ms, ratio {:.2}; \
+        "campaign, {name}, 256 jobs, K {k}: {jobs:.1} ms, Rust {by_sorting:.1} ms by insertion, {by_heap:.1} ms by heap, \
+         {by_buffer:.1} ms by buffer, ratio {:.2}; one classic sweep in Rust {sweep:.1} ms, ratio {:.2}; \
          {} skipped, {} looks; list tests {checks:.1} ms, refusal 7 {:.1} ms, the rest {:.1} ms",
-        jobs / plain,
+        jobs / by_sorting.min(by_heap).min(by_buffer),
+        jobs / sweep,
         told.1,
         told.0,
         statuses - checks,
@@ -319,6 +344,8 @@ fn distance_lists(kinds: &[(&str, Columns, Columns)]) {
 
 fn campaigns(kinds: &[(&str, Columns, Columns)]) {
     for (name, a, b) in kinds {
-        campaign(name, a, b, 1_000);
+        for k in [1_000, 4_096] {
+            campaign(name, a, b, k);
+        }
     }
 }

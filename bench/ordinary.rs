@@ -1,6 +1,6 @@
 //! The same work in ordinary optimised Rust: what the proved calls are measured against.
 
-use std::collections::BinaryHeap;
+use crate::keepers::{Entry, KList};
 
 /// A list as it is lent.
 #[derive(Clone, Copy)]
@@ -22,91 +22,6 @@ pub fn check(l: List) -> u32 {
     }
     let ascending = (1..n).all(|i| (l.x[i - 1], l.y[i - 1], l.number[i - 1]) < (l.x[i], l.y[i], l.number[i]));
     if ascending { 0 } else { 3 }
-}
-
-#[derive(Clone, Copy, PartialEq, Eq, PartialOrd, Ord, Debug)]
-pub struct Entry {
-    pub distance: u64,
-    pub first: u32,
-    pub second: u32,
-}
-
-/// A list of at most K entries.
-pub trait KList {
-    /// The last squared distance where there are K entries, else the greatest number.
-    fn bound(&self) -> u64;
-    fn offer(&mut self, e: Entry);
-    fn entries(self) -> Vec<Entry>;
-}
-
-/// Entries in rank order, each put in by binary search and a shift.
-pub struct Sorted {
-    k: usize,
-    entries: Vec<Entry>,
-}
-
-impl Sorted {
-    pub fn new(k: usize) -> Sorted {
-        Sorted { k, entries: Vec::with_capacity(k + 1) }
-    }
-}
-
-impl KList for Sorted {
-    #[inline]
-    fn bound(&self) -> u64 {
-        if self.entries.len() == self.k { self.entries[self.k - 1].distance } else { u64::MAX }
-    }
-
-    #[inline]
-    fn offer(&mut self, e: Entry) {
-        if self.entries.len() == self.k {
-            if e >= self.entries[self.k - 1] {
-                return;
-            }
-            self.entries.pop();
-        }
-        let at = self.entries.partition_point(|f| *f < e);
-        self.entries.insert(at, e);
-    }
-
-    fn entries(self) -> Vec<Entry> {
-        self.entries
-    }
-}
-
-/// Entries in a heap with the last on top, sorted at the end.
-pub struct Heap {
-    k: usize,
-    heap: BinaryHeap<Entry>,
-}
-
-impl Heap {
-    pub fn new(k: usize) -> Heap {
-        Heap { k, heap: BinaryHeap::with_capacity(k) }
-    }
-}
-
-impl KList for Heap {
-    #[inline]
-    fn bound(&self) -> u64 {
-        if self.heap.len() == self.k { self.heap.peek().unwrap().distance } else { u64::MAX }
-    }
-
-    #[inline]
-    fn offer(&mut self, e: Entry) {
-        if self.heap.len() < self.k {
-            self.heap.push(e);
-            return;
-        }
-        let mut last = self.heap.peek_mut().unwrap();
-        if e < *last {
-            *last = e;
-        }
-    }
-
-    fn entries(self) -> Vec<Entry> {
-        self.heap.into_sorted_vec()
-    }
 }
 
 #[derive(Clone, Copy, PartialEq, Eq, Debug, Default)]
@@ -217,4 +132,78 @@ pub fn distance_list(a: List, b: List, e: u32, first: &mut [u32], second: &mut [
         (*f, *s) = *pair;
     }
     Some(pairs.len())
+}
+
+/// A campaign: the ends of both lists' strips, which jobs are settled, and the entries.
+pub struct Campaign {
+    pub k: usize,
+    pub ends: [Vec<usize>; 2],
+    pub settled: Vec<bool>,
+    pub entries: Vec<Entry>,
+}
+
+/// The strip of a list that a place is in.
+fn strip_of(ends: &[usize], place: usize) -> usize {
+    ends.partition_point(|end| *end <= place)
+}
+
+fn range(ends: &[usize], s: usize) -> (usize, usize) {
+    (if s == 0 { 0 } else { ends[s - 1] }, ends[s])
+}
+
+impl Campaign {
+    /// Cut ends of each list, none of them empty.
+    pub fn new(k: usize, ends: [Vec<usize>; 2]) -> Campaign {
+        Campaign { k, settled: vec![false; ends[0].len() * ends[1].len()], ends, entries: Vec::with_capacity(k) }
+    }
+
+    fn job(&self, s: usize, t: usize) -> usize {
+        s * self.ends[1].len() + t
+    }
+
+    /// Whether the entries are in rank order, of these lists, with the right distances, of settled jobs and as many as
+    /// these jobs have, up to K.
+    fn sound(&self, a: List, b: List) -> bool {
+        let strips = |l: usize| (0..self.ends[l].len()).map(move |s| range(&self.ends[l], s));
+        let settled = strips(0).enumerate().flat_map(|(s, p)| strips(1).enumerate().map(move |(t, q)| (s, p, t, q)));
+        let pairs: usize = settled
+            .filter(|(s, _, t, _)| self.settled[self.job(*s, *t)])
+            .map(|(_, p, _, q)| (p.1 - p.0) * (q.1 - q.0))
+            .sum();
+        let fits = |e: &Entry| {
+            let (i, j) = (e.first as usize, e.second as usize);
+            i < a.x.len() && j < b.x.len() && {
+                let (dx, dy) = (a.x[i] as i64 - b.x[j] as i64, a.y[i] as i64 - b.y[j] as i64);
+                (dx * dx) as u64 + (dy * dy) as u64 == e.distance
+                    && self.settled[self.job(strip_of(&self.ends[0], i), strip_of(&self.ends[1], j))]
+            }
+        };
+        self.entries.len() == self.k.min(pairs)
+            && self.entries.windows(2).all(|e| e[0] < e[1])
+            && self.entries.iter().all(fits)
+    }
+
+    /// A job by the classic sweep, on a list that `keep` makes of K and the entries: both lists and the campaign are
+    /// tested first. Its looks, or none where it is skipped.
+    pub fn classic_job<L: KList>(
+        &mut self,
+        keep: impl Fn(usize, Vec<Entry>) -> L,
+        a: List,
+        b: List,
+        s: usize,
+        t: usize,
+    ) -> Option<u64> {
+        assert!(check(a) == 0 && check(b) == 0 && self.sound(a, b) && !self.settled[self.job(s, t)]);
+        let job = self.job(s, t);
+        self.settled[job] = true;
+        let (p, q) = (range(&self.ends[0], s), range(&self.ends[1], t));
+        let gap = (b.x[q.0] as i64 - a.x[p.1 - 1] as i64).max(a.x[p.0] as i64 - b.x[q.1 - 1] as i64).max(0);
+        if self.entries.len() == self.k && (gap * gap) as u64 > self.entries[self.k - 1].distance {
+            return None;
+        }
+        let mut list = keep(self.k, std::mem::take(&mut self.entries));
+        let counters = classic(a, b, p, q, &mut list);
+        self.entries = list.entries();
+        Some(counters.looks)
+    }
 }

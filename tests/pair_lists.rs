@@ -143,6 +143,27 @@ fn larger_k_lists(r: &mut Random) {
     }
 }
 
+/// Pairs that come in nearest first, farthest first, falling and then rising in ties, and all at one distance, for every K
+/// up to more than there are, in columns longer than K.
+fn every_sequence(r: &mut Random) {
+    for m in 1..=40 {
+        progress(m, 40);
+        let others: Vec<Site> = (0..m as i32).map(|y| site(0, 10 * y, 0)).collect();
+        let stacked: Vec<Site> = (0..m as u32).map(|n| site(0, 0, n)).collect();
+        for (reference, others) in [(-5, &others), (10 * m as i32, &others), (5 * (m as i32 - 1), &others), (7, &stacked)] {
+            let a = Columns::of(&[site(0, reference, 1), site(0, reference + 3, 2)]);
+            let b = Columns::of(others);
+            for k in 1..=2 * m + 2 {
+                let columns = results(r, [k, k + 1, k + 2]);
+                for way in WAYS {
+                    assert_eq!(same_k_list(way, &a, &b, k as u32, &columns), Ok(k.min(2 * m) as u32));
+                    assert_eq!(same_k_list(way, &b, &a, k as u32, &columns), Ok(k.min(2 * m) as u32));
+                }
+            }
+        }
+    }
+}
+
 fn k_list_refusals(r: &mut Random) {
     let (a, b) = f();
     let (a, b) = (Columns::of(&a), Columns::of(&b));
@@ -296,6 +317,7 @@ pub fn run_k_list(h: &mut Harness) {
     h.test("K list: fixed examples", fixed_examples);
     h.test("K list: refusals in their order", || k_list_refusals(&mut Random::new(41)));
     h.test("K list: random lists, lawful and damaged", || random_k_lists(&mut Random::new(42)));
+    h.test("K list: pairs in every sequence", || every_sequence(&mut Random::new(48)));
     h.test("K list: larger lists", || larger_k_lists(&mut Random::new(43)));
     h.test("K list: 65,535 sites", || long_lists(&mut Random::new(44)));
 }
