@@ -23,7 +23,7 @@ use Rattle.entry.specs.Results.{Results, entriesOf, roomFor}
 use Rattle.entry.specs.Terms.{Within, entryAt, reachOf, queued, Queueing, Offered}
 use Rattle.entry.specs.Internal.{putAt, HeapAt, SiftAsked, Sifted, HeapedFrom, PushAsked, QueueOf}
 use Rattle.entry.proofs.Rank.{rank-order, offer-weak}
-use Rattle.entry.proofs.Results.{room-lengths, lengths-room, room-inside, length-entries, take-entries, read-entry}
+use Rattle.entry.proofs.Results.{room-fewer, room-inside, length-entries, take-entries, read-entry}
 use Rattle.entry.proofs.PutAt.{put-entries, put-within}
 use Rattle.entry.proofs.Within.{within-none, within-room, within-twice}
 use Rattle.entry.proofs.Queueing.{sorted-queued, length-queued, queue-finishes}
@@ -92,10 +92,7 @@ module _ {k count : ℕ} {r : Results} (asked : PushAsked k count r) (e : Entry)
     (put : after ≡ putAt count e r) where
   -- Room for one more.
   more : roomFor (suc count) r ≡ true
-  more =
-      let n = room-lengths k r (asked .room) in
-      let under = asked .under in
-      lengths-room (suc count) r (omega arith) (omega arith) (omega arith)
+  more = room-fewer r (asked .under) (asked .room)
 
   push-within : Within (suc count) r after
   push-within = rw put (put-within count e r (suc count) (omega arith) more)

@@ -15,7 +15,7 @@ use Rattle.entry.specs.Entry.{entry, rankBefore}
 use Rattle.entry.specs.Results.{Results, entriesOf, holding}
 use Rattle.entry.specs.Terms.{Ready, reachOf, queued, Queueing, FinishAsked, started}
 use Rattle.entry.proofs.Rank.{rank-order}
-use Rattle.entry.proofs.Results.{room-lengths, lengths-room, length-entries, last-distance-column, holding-self}
+use Rattle.entry.proofs.Results.{room-fewer, length-entries, last-distance-column, holding-self}
 
 -- The list is in rank order.
 pub sorted-queued : (q : Queue) (r : Results) → Sorted rankBefore (queued q r)
@@ -30,13 +30,7 @@ length-queued {q} {r} h =
     length-sort rankBefore (entriesOf n r) ∙ length-entries n n r (h .room) (omega arith)
 
 pub queue-finishes : {k : ℕ} {q : Queue} {r : Results} → Queueing k q r → FinishAsked q r
-queue-finishes {k} {q} {r} h =
-    let n = room-lengths k r (h .room) in
-    let m = h .most in
-    record {
-      room = lengths-room (q .count) r (omega arith) (omega arith) (omega arith);
-      in-order = λ end. h .in-order end .0;
-    }
+queue-finishes {r = r} h = record { room = room-fewer r (h .most) (h .room); in-order = λ end. h .in-order end .0 }
 
 -- While the last entry stands at the end there is nothing to finish.
 pub finish-none : {q : Queue} {r : Results} → FinishAsked q r → (q .last ≡ 0 → ⊥) → r ≡ holding (queued q r) r

@@ -55,6 +55,12 @@ module _ (k : ℕ) (r : Results) where
   lengths-room d f s =
       simp (le-leb k (length (r .distance)) d, le-leb k (length (r .first)) f, le-leb k (length (r .second)) s)
 
+-- Room for more is room for fewer.
+pub room-fewer : {n k : ℕ} (r : Results) → n ≤ k → roomFor k r ≡ true → roomFor n r ≡ true
+room-fewer {n} {k} r h room =
+    let m = room-lengths k r room in
+    lengths-room n r (omega arith) (omega arith) (omega arith)
+
 -- ---- entries of columns
 
 -- The entries of three columns, as many as the shortest has.

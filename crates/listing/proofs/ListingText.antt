@@ -20,7 +20,7 @@ use Rattle.entry.specs.declared.Entry.{Entry}
 use Rattle.entry.specs.Entry.{rankBefore, bestK}
 use Rattle.entry.specs.Results.{Results, results, entriesOf, holding, roomFor}
 use Rattle.entry.proofs.Rank.{k-limits}
-use Rattle.entry.proofs.Results.{room-lengths, lengths-room, entries-holding, room-holding}
+use Rattle.entry.proofs.Results.{room-fewer, entries-holding, room-holding}
 use Rattle.sweep.specs.declared.Way.{Way}
 use Rattle.sweep.specs.declared.Looks.{Looks}
 use Rattle.sweep.specs.declared.Distances.{Distances}
@@ -72,7 +72,7 @@ module _ (way : Way) (a b : Columns) (k : ℕ) (r : Results) {buffer : List ℕ}
   k-most = k-limits k (lawful .some) .1
 
   enough : (n : ℕ) → n ≤ 4_096 → roomFor n r ≡ true
-  enough n h = let l = room-lengths 4_096 r long in lengths-room n r (omega arith) (omega arith) (omega arith)
+  enough n h = room-fewer r h long
 
   none : kListRefusal a b k r ≡ 0
   unfolding kListRefusal orElse

@@ -4,9 +4,10 @@ use mathlib.Core.Logic.{_⊎_, ⊎-elim, _↔_}
 use mathlib.Core.Bool.{Bool, true, false, not}
 use mathlib.Core.List.{List, [], _∷_, _++_, map, zipWith, List·Memᴰ, List·Memᴰ·head, List·Memᴰ·tail, List·Memᴰ·not-nil, List·Memᴰ·cases-cons, List·Memᴰ·append-cases, Memᴰ·append-left, Memᴰ·append-right, Memᴰ·cast, List·Permᴰ, List·Permᴰ·nil, List·Permᴰ·cons, List·Permᴰ·swap, List·Permᴰ·trans, Permᴰ·refl, Permᴰ·symm, Permᴰ·middle}
 use Prim.Native.Nat.{ℕ, zero, suc, _+_, _-_, _≤_, _<_, min}
-use native.Mathlib.Nat.{sub-zero, zero-sub, suc-sub-suc}
+use native.Mathlib.Nat.{add-zero, sub-zero, zero-sub, suc-sub-suc}
 use native.Mathlib.Omega.{arith}
 use lib.ListN.{length, take, drop, getD, set, take-append-drop}
+use lib.Seq.{getD-drop}
 use Rattle.order.specs.Lists.{all, keep, All, Distinct, last, sum}
 use Rattle.order.proofs.Order.{byTest, never-both}
 
@@ -309,6 +310,12 @@ drop-take zero m l = rw (sub-zero m)
 drop-take (suc n) zero l = rw (zero-sub (suc n))
 drop-take (suc n) (suc m) [] = sym (take-nil (suc m - suc n))
 drop-take (suc n) (suc m) (a ∷ l) = rw (suc-sub-suc m n) (drop-take n m l)
+
+-- Lists that are the same from a place on are the same there.
+pub at-drop : {A : Type 0} (n : ℕ) (d : A) (l m : List A) → drop n l ≡ drop n m → getD l n d ≡ getD m n d
+at-drop {A} n d l m h =
+    let first : (k : List A) → getD (drop n k) 0 d ≡ getD k n d = λ k. rw add-zero at (getD-drop n k 0 d) in
+    sym (first l) ∙ ap (λ (k : List A). getD k 0 d) h ∙ first m
 
 pub last-map : {A B : Type 0} (f : A → B) (d : A) (l : List A) → last (f d) (map f l) ≡ f (last d l)
 unfolding last
