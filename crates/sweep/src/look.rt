@@ -44,7 +44,8 @@ fn pair(distance: u64, first: u32, second: u32) -> Entry
     }
 }
 
-// A look that goes on, with the list under way as an offer left it.
+// A look that goes on, with the list under way as an offer left it, taken number by number: as one block it would stay
+// in memory through the scan's loop.
 fn gone_on(old: Tally, queue: Queue) -> Looked
     ensures { λ r. ⌜ r ≡ goneOn old queue ⌝ }
 {
@@ -62,7 +63,8 @@ fn gone_on(old: Tally, queue: Queue) -> Looked
 }
 
 // A look from a reference at the site of a place of the other list. It stops the scan where the x-difference squared is
-// past the reach; otherwise the distance is worked out, and the pair takes its place by rank.
+// past the reach; otherwise the distance is worked out, and the pair takes its place by rank. `offer` is called for each
+// side of the pair, so that it is compiled apart from the scan's loop.
 pub(super) fn look(
     reference: Reference,
     xs: &[i32],
