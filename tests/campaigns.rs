@@ -2,7 +2,7 @@
 
 use crate::calls;
 use crate::harness::{Harness, progress};
-use crate::lists::{MAX, damaged, even, f, lawful};
+use crate::lists::{MAX, damaged, even, f, lawful, stacked};
 use crate::model::{self, Book, Campaign, Columns, Counters, Results, Status, WAYS, Way, site};
 use crate::random::Random;
 use std::collections::BTreeMap;
@@ -340,7 +340,7 @@ fn histories(r: &mut Random) {
     }
     let faults = [
         "K", "strip count", "ends", "mark above 1", "mark outside the jobs", "column", "entry count", "place",
-        "squared distance", "unsettled job", "rank order",
+        "squared distance", "co-sited", "unsettled job", "rank order",
     ];
     for fault in faults {
         assert!(seen.faults.get(fault).is_some_and(|n| *n > 5), "{fault}: {:?}", seen.faults);
@@ -387,6 +387,46 @@ fn long_list(r: &mut Random) {
     assert_eq!(whole.entries(300), bench.r.entries(300));
 }
 
+/// All 65,535 sites of each list at one position, in one strip and in 32: status and opening need no look at each pair.
+fn one_position(r: &mut Random) {
+    let (mut a, b) = (stacked(-3, 8, 65_535), stacked(-3, 8, 65_535));
+    let cut = |n: u32, strips: u32| (1..=strips).map(|s| n * s / strips).collect::<Vec<_>>();
+    for strips in [1, 32] {
+        let ends = cut(65_535, strips);
+        let mut bench = Bench { a: Columns::of(&a), b: Columns::of(&b), r: results(r, [40; 3]), c: anything(r) };
+        same_open(&mut bench, 40, &ends, &ends).unwrap();
+        assert_eq!(same_status(&bench), Ok(Status { settled: 0, jobs: strips * strips, entries: 0, k: 40 }));
+        for s in 0..strips as usize {
+            for t in 0..strips as usize {
+                bench.c.marks[32 * s + t] = 1;
+            }
+        }
+        let all = Status { settled: strips * strips, jobs: strips * strips, entries: 0, k: 40 };
+        assert_eq!(same_status(&bench), Ok(all));
+        assert_eq!(same_job(Way::Classic, &mut bench, 0, 0), Err(9));
+        // co-sited cells as an entry, whatever the count says
+        for entries in 0..3 {
+            bench.c.entries = entries;
+            bench.r = bench.r.holding(&[model::Entry { distance: 0, first: 5, second: 5 }]);
+            assert_eq!(same_status(&bench).is_ok(), entries == 0);
+        }
+    }
+    // one site beside the others makes as many pairs as the other list has sites
+    a[65_534].y = 9;
+    let a = Columns::of(&a);
+    for count in [0, 39, 40, 41] {
+        let mut bench = Bench { a: a.clone(), b: Columns::of(&b), r: results(r, [4_096; 3]), c: anything(r) };
+        same_open(&mut bench, 40, &[65_000, 65_535], &[30, 65_535]).unwrap();
+        bench.c.marks[32] = 1;
+        bench.c.entries = count;
+        let beside = |second| model::Entry { distance: 1, first: 65_534, second };
+        bench.r = bench.r.holding(&(0..30).map(beside).collect::<Vec<_>>());
+        assert_eq!(same_status(&bench), Err(7));
+        bench.c.entries = 30;
+        assert_eq!(same_status(&bench), Ok(Status { settled: 1, jobs: 4, entries: 30, k: 40 }));
+    }
+}
+
 /// A skip needs a gap squared above the last squared distance: equal is swept. The gap is that of the sites, not of the cuts.
 fn skips_at_the_limit() {
     let r = &mut Random::new(56);
@@ -406,5 +446,6 @@ pub fn run(h: &mut Harness) {
     h.test("campaign: a skip at the limit", skips_at_the_limit);
     h.test("campaign: random histories beside the book, with tampering", || histories(&mut Random::new(52)));
     h.test("campaign: all 1,024 jobs", || full_grid(&mut Random::new(53)));
+    h.test("campaign: 65,535 sites of each list at one position", || one_position(&mut Random::new(55)));
     h.test("campaign: 65,535 sites", || long_list(&mut Random::new(54)));
 }

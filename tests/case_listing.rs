@@ -1,7 +1,7 @@
 //! The program `caselist`, run as a process, beside the brute force.
 
 use crate::harness::{Harness, progress};
-use crate::lists::{f, lawful};
+use crate::lists::{f, lawful, stacked};
 use crate::model::{self, Site, site};
 use crate::random::Random;
 use std::io::Write;
@@ -61,6 +61,22 @@ fn sample() {
     assert_eq!(same(&input(0, &b[1..], &[a[1], a[0]])), "refused 3\n");
     assert_eq!(same(&input(5, &[], &b)), "pairs 0 of 0\n");
     assert_eq!(same(&input(5, &a, &[])), "pairs 0 of 0\n");
+}
+
+/// Files of 2,000 and 2,000 sites with one position, with two, and with many: the second figure counts no co-sited cells.
+fn co_sited_inputs(r: &mut Random) {
+    assert_eq!(same(&input(1, &[site(0, 0, 5)], &[site(0, 0, 6), site(3, 4, 7)])), "pairs 1 of 1\n1 25 5 7\n");
+    let one = stacked(4, 4, 2_000);
+    assert_eq!(same(&input(4_096, &one, &one)), "pairs 0 of 0\n");
+    let mut two = stacked(4, 4, 1_990);
+    two.extend(stacked(4, 5, 10));
+    assert!(same(&input(4_096, &one, &two)).starts_with("pairs 4096 of 20000\n"));
+    assert!(same(&input(4_096, &two, &two)).starts_with("pairs 4096 of 39800\n"));
+    let mut many: Vec<Site> = (0..2_000).map(|n| site(r.below(6) as i32, r.below(6) as i32, n)).collect();
+    many.sort();
+    same(&input(100, &many, &two));
+    same(&input(100, &one, &many));
+    same(&input(100, &many, &many));
 }
 
 fn short_inputs() {
@@ -132,6 +148,7 @@ fn slow_pipes(r: &mut Random) {
 
 pub fn run(h: &mut Harness) {
     h.test("caselist: document 01's sample, K and empty lists", sample);
+    h.test("caselist: co-sited cells", || co_sited_inputs(&mut Random::new(75)));
     h.test("caselist: every prefix", short_inputs);
     h.test("caselist: damaged inputs", || damaged_inputs(&mut Random::new(71)));
     h.test("caselist: at and above 48,020 bytes", || longest_input(&mut Random::new(72)));

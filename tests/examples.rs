@@ -83,6 +83,14 @@ fn own_examples() {
     // a limit place that is looked at again makes 3 and 1
     let b = sites(&[(3, 2), (4, 1), (6, 1)]);
     assert_eq!(listed(Way::ReverseRun, &sites(&[(1, 0)]), &b, 1), (vec![(0, 0)], 2, 1));
+    // co-sited cells: both distances are counted, one pair is there
+    let (a, b) = (sites(&[(0, 0)]), sites(&[(0, 0), (3, 4)]));
+    for way in WAYS {
+        assert_eq!(listed(way, &a, &b, 1), (vec![(0, 1)], 2, 2));
+        sweeps_agree(&a, &b, 1);
+    }
+    assert_eq!(distance_list(&Columns::of(&a), &Columns::of(&b), 5, 9), Ok(vec![(0, 1)]));
+    assert_eq!((pair_count(Strip::whole(&a), Strip::whole(&b)), pair_count(Strip::whole(&a), Strip::whole(&a))), (1, 0));
 }
 
 fn case_listing() {

@@ -6,18 +6,19 @@ use crate::random::Random;
 pub const MIN: i32 = -1_000_000_000;
 pub const MAX: i32 = 1_000_000_000;
 
-/// A coordinate: the kinds give many ties, few ties, the corners, or a few columns far apart.
+/// A coordinate: the kinds give many ties, few ties, the corners, a few columns far apart, or four positions in all.
 fn coordinate(r: &mut Random, kind: usize) -> i32 {
     match kind {
         0 => r.from_to(-3, 3) as i32,
         1 => r.from_to(0, 30) as i32,
         2 => r.from_to(MIN as i64, MAX as i64) as i32,
         3 => [MIN, MIN + 1, -1, 0, 1, MAX - 1, MAX][r.below(7)],
+        4 => [-7, 5][r.below(2)],
         _ => (r.from_to(-4, 4) * 200_000_000 + r.from_to(-2, 2)).clamp(MIN as i64, MAX as i64) as i32,
     }
 }
 
-pub const KINDS: usize = 5;
+pub const KINDS: usize = 6;
 
 /// A lawful list of at most `most` sites of a kind.
 pub fn lawful(r: &mut Random, kind: usize, most: usize) -> Vec<Site> {
@@ -44,6 +45,11 @@ pub fn even(r: &mut Random, n: usize) -> Vec<Site> {
             return sites;
         }
     }
+}
+
+/// `n` sites at one position.
+pub fn stacked(x: i32, y: i32, n: u32) -> Vec<Site> {
+    (0..n).map(|number| site(x, y, number)).collect()
 }
 
 /// Columns with one fault, or with several, or with none.

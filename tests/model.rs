@@ -1,4 +1,6 @@
-//! Document 01 in plain Rust, by brute force: what each call must answer and leave behind.
+//! Documents 01 and 02 d in plain Rust, by brute force: what each call must answer and leave behind.
+
+use std::collections::HashMap;
 
 pub const LIMIT: i64 = 1_000_000_000;
 pub const MOST_SITES: usize = 65_535;
@@ -144,7 +146,7 @@ fn entry(a: &[Site], i: usize, b: &[Site], j: usize) -> Entry {
     Entry { distance: squared_distance(a[i], b[j]), first: i as u32, second: j as u32 }
 }
 
-/// All pairs of two strips, by first place and then second.
+/// All pairs of two strips, by first place and then second: co-sited cells are none.
 pub fn pairs(a: Strip, b: Strip) -> Vec<Entry> {
     let mut all = Vec::new();
     for i in a.from..a.to {
@@ -152,7 +154,18 @@ pub fn pairs(a: Strip, b: Strip) -> Vec<Entry> {
             all.push(entry(a.sites, i, b.sites, j));
         }
     }
+    all.retain(|e| e.distance > 0);
     all
+}
+
+/// How many pairs two strips have, for strips too long to go pair by pair: by how often each position stands in them.
+pub fn pair_count(a: Strip, b: Strip) -> u64 {
+    let mut standing: HashMap<(i32, i32), u64> = HashMap::new();
+    for s in &a.sites[a.from..a.to] {
+        *standing.entry((s.x, s.y)).or_default() += 1;
+    }
+    let co_sited: u64 = b.sites[b.from..b.to].iter().map(|t| standing.get(&(t.x, t.y)).copied().unwrap_or(0)).sum();
+    (a.to - a.from) as u64 * (b.to - b.from) as u64 - co_sited
 }
 
 /// The first `k` by rank.
@@ -201,6 +214,9 @@ impl Sweep<'_> {
         }
         self.counters.distances += 1;
         let e = entry(self.a, i, self.b, j);
+        if e.distance == 0 {
+            return true;
+        }
         let at = self.entries.partition_point(|f| *f < e);
         if at < self.k {
             self.entries.insert(at, e);
@@ -317,7 +333,8 @@ pub fn distance_list(a: &Columns, b: &Columns, e: u32, shorter: usize) -> Result
     let mut found = Vec::new();
     for (i, s) in a.iter().enumerate() {
         for (j, t) in b.iter().enumerate() {
-            if squared_distance(*s, *t) as u128 <= limit {
+            let squared = squared_distance(*s, *t) as u128;
+            if squared >= 1 && squared <= limit {
                 found.push((i as u32, j as u32));
             }
         }
@@ -447,7 +464,9 @@ impl Campaign {
             for t in 0..cols {
                 if self.settled(s, t) {
                     let (p, q) = (strip_range(self.first_cut(), s), strip_range(self.second_cut(), t));
-                    total += (p.1 - p.0) as u128 * (q.1 - q.0) as u128;
+                    let p = Strip { sites: a, from: p.0, to: p.1 };
+                    let q = Strip { sites: b, from: q.0, to: q.1 };
+                    total += pair_count(p, q) as u128;
                 }
             }
         }
@@ -461,6 +480,9 @@ impl Campaign {
             }
             if e.distance != squared_distance(a[e.first as usize], b[e.second as usize]) {
                 return Some("squared distance");
+            }
+            if e.distance == 0 {
+                return Some("co-sited");
             }
             let s = strip_of(self.first_cut(), e.first as usize);
             let t = strip_of(self.second_cut(), e.second as usize);
@@ -690,8 +712,10 @@ pub fn listing(input: &[u8]) -> String {
         Ok(accepted) => accepted,
         Err(refusal) => return format!("refused {refusal}\n"),
     };
-    let entries = best(k, pairs(Strip::whole(&a), Strip::whole(&b)));
-    let mut text = format!("pairs {} of {}\n", entries.len(), a.len() * b.len());
+    let all = pairs(Strip::whole(&a), Strip::whole(&b));
+    let total = all.len();
+    let entries = best(k, all);
+    let mut text = format!("pairs {} of {total}\n", entries.len());
     for (i, e) in entries.iter().enumerate() {
         let (s, t) = (a[e.first as usize], b[e.second as usize]);
         text += &format!("{} {} {} {}\n", i + 1, e.distance, s.number, t.number);

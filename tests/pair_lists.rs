@@ -2,7 +2,7 @@
 
 use crate::calls;
 use crate::harness::{Harness, progress};
-use crate::lists::{KINDS, MAX, MIN, damaged, even, f, lawful};
+use crate::lists::{KINDS, MAX, MIN, damaged, even, f, lawful, stacked};
 use crate::model::{self, Columns, Counters, Entry, Results, Site, Strip, WAYS, Way, site};
 use crate::random::Random;
 
@@ -143,21 +143,24 @@ fn larger_k_lists(r: &mut Random) {
     }
 }
 
-/// Pairs that come in nearest first, farthest first, falling and then rising in ties, and all at one distance, for every K
-/// up to more than there are, in columns longer than K.
+/// Pairs that come in nearest first, farthest first, falling and then rising in ties, all at one distance, and none (every
+/// second site is co-sited with the reference), for every K up to more than there are, in columns longer than K.
 fn every_sequence(r: &mut Random) {
     for m in 1..=40 {
         progress(m, 40);
         let others: Vec<Site> = (0..m as i32).map(|y| site(0, 10 * y, 0)).collect();
-        let stacked: Vec<Site> = (0..m as u32).map(|n| site(0, 0, n)).collect();
-        for (reference, others) in [(-5, &others), (10 * m as i32, &others), (5 * (m as i32 - 1), &others), (7, &stacked)] {
-            let a = Columns::of(&[site(0, reference, 1), site(0, reference + 3, 2)]);
-            let b = Columns::of(others);
+        let stacked = stacked(0, 0, m as u32);
+        let middle = 5 * (m as i32 - 1);
+        let sequences = [(-5, &others), (10 * m as i32, &others), (middle, &others), (7, &stacked), (0, &stacked)];
+        for (reference, others) in sequences {
+            let a = [site(0, reference, 1), site(0, reference + 3, 2)];
+            let all = model::pairs(Strip::whole(&a), Strip::whole(others)).len();
+            let (a, b) = (Columns::of(&a), Columns::of(others));
             for k in 1..=2 * m + 2 {
                 let columns = results(r, [k, k + 1, k + 2]);
                 for way in WAYS {
-                    assert_eq!(same_k_list(way, &a, &b, k as u32, &columns), Ok(k.min(2 * m) as u32));
-                    assert_eq!(same_k_list(way, &b, &a, k as u32, &columns), Ok(k.min(2 * m) as u32));
+                    assert_eq!(same_k_list(way, &a, &b, k as u32, &columns), Ok(k.min(all) as u32));
+                    assert_eq!(same_k_list(way, &b, &a, k as u32, &columns), Ok(k.min(all) as u32));
                 }
             }
         }
@@ -217,13 +220,17 @@ fn long_lists(r: &mut Random) {
             assert_eq!(same_k_list(way, &b, &over, k as u32, &columns), Err(1));
         }
     }
-    // every site at one place: no look ever stops
-    let stacked: Vec<Site> = (0..65_535).map(|n| site(5, 5, n)).collect();
-    let stacked = Columns::of(&stacked);
-    let few = Columns::of(&(0..20).map(|n| site(5, 5, n)).collect::<Vec<_>>());
-    for way in WAYS {
-        let columns = results(r, [4_096, 4_096, 4_096]);
-        assert_eq!(same_k_list(way, &stacked, &few, 4_096, &columns), Ok(4_096));
+    // every site at one place: no look ever stops, and there is no pair but those with a site beside it
+    let many = Columns::of(&stacked(5, 5, 65_535));
+    let mut few = stacked(5, 5, 20);
+    for (beside, entries) in [(0, 0), (1, 4_096)] {
+        few.extend(stacked(5, 6, beside));
+        let few = Columns::of(&few);
+        for way in WAYS {
+            let columns = results(r, [4_096, 4_096, 4_096]);
+            assert_eq!(same_k_list(way, &many, &few, 4_096, &columns), Ok(entries));
+            assert_eq!(same_k_list(way, &few, &many, 4_096, &columns), Ok(entries));
+        }
     }
 }
 
@@ -270,7 +277,7 @@ fn distance_list_bounds(r: &mut Random) {
     assert_eq!((first, second), (vec![0, 0, 1, 1, 2, 77], vec![0, 1, 0, 1, 2]));
     // exactly at the limit, and one unit of either side beyond it
     let a = Columns::of(&[site(0, 0, 0)]);
-    for (x, y, e, count) in [(3, 4, 5, 1), (3, 4, 4, 0), (5, 0, 5, 1), (0, -5, 5, 1), (6, 0, 5, 0), (0, 0, 0, 1)] {
+    for (x, y, e, count) in [(3, 4, 5, 1), (3, 4, 4, 0), (5, 0, 5, 1), (0, -5, 5, 1), (6, 0, 5, 0), (0, 0, 0, 0), (0, 0, 5, 0), (0, 1, 1, 1)] {
         let b = Columns::of(&[site(x, y, 0)]);
         assert_eq!(same_distance_list(&a, &b, e, &[1], &[2]), Ok(count));
         assert_eq!(same_distance_list(&b, &a, e, &[1], &[2]), Ok(count));
@@ -313,11 +320,37 @@ fn every_limit(r: &mut Random) {
     }
 }
 
+/// A site beside co-sited ones: both lists leave those out, and both sweeps count their distance.
+fn co_sited_cells(r: &mut Random) {
+    let (a, b) = (Columns::of(&[site(0, 0, 1)]), Columns::of(&[site(0, 0, 1), site(3, 4, 2)]));
+    for way in WAYS {
+        for k in [1, 2, 4_096] {
+            let mut columns = results(r, [k, k, k]);
+            let told = Ok((1, Counters { looks: 2, distances: 2 }));
+            assert_eq!(calls::k_list(way, &a, &b, k as u32, &mut columns), told);
+            assert_eq!((columns.distance[0], columns.first[0], columns.second[0]), (25, 0, 1));
+            assert_eq!(same_k_list(way, &b, &a, k as u32, &columns), Ok(1));
+        }
+    }
+    for (e, count) in [(0, 0), (4, 0), (5, 1), (u32::MAX, 1)] {
+        assert_eq!(same_distance_list(&a, &b, e, &[9, 9], &[8]), Ok(count));
+        assert_eq!(same_distance_list(&b, &a, e, &[9, 9], &[8]), Ok(count));
+    }
+    // one position, whatever the numbers
+    let (p, q) = (Columns::of(&stacked(MAX, MIN, 300)), Columns::of(&stacked(MAX, MIN, 200)));
+    for way in WAYS {
+        let columns = results(r, [7, 7, 7]);
+        assert_eq!(same_k_list(way, &p, &q, 7, &columns), Ok(0));
+    }
+    assert_eq!(same_distance_list(&p, &q, u32::MAX, &[], &[]), Ok(0));
+}
+
 pub fn run_k_list(h: &mut Harness) {
     h.test("K list: fixed examples", fixed_examples);
     h.test("K list: refusals in their order", || k_list_refusals(&mut Random::new(41)));
     h.test("K list: random lists, lawful and damaged", || random_k_lists(&mut Random::new(42)));
     h.test("K list: pairs in every sequence", || every_sequence(&mut Random::new(48)));
+    h.test("K list and distance list: co-sited cells", || co_sited_cells(&mut Random::new(49)));
     h.test("K list: larger lists", || larger_k_lists(&mut Random::new(43)));
     h.test("K list: 65,535 sites", || long_lists(&mut Random::new(44)));
 }

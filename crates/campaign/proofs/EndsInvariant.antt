@@ -14,14 +14,14 @@ use Rattle.order.specs.Lists.{keep, last as ending}
 use Rattle.order.proofs.Lists.{keep-yes, keep-no, keep-nil}
 use Rattle.campaign.specs.Grid.{lawfulEnds, stripHolding}
 use Rattle.campaign.specs.Calls.{slots}
-use Rattle.campaign.specs.Internal.{lastEnd, lawfulSlots}
+use Rattle.campaign.specs.Internal.{lawfulSlots}
 
 -- ---- lawful ends
 
 -- `last` is the end before place `i`: what the rest of the ends tells is what all tell.
 pub record Tested (ends : List ℕ) (last i : ℕ) : Type 0 where
   pub order : ascending ltb (0 ∷ ends) ≡ ascending ltb (last ∷ drop i ends)
-  pub end : lastEnd ends ≡ ending last (drop i ends)
+  pub end : ending 0 ends ≡ ending last (drop i ends)
 
 pub tested-none : (ends : List ℕ) → Tested ends 0 0
 tested-none ends = record { order = refl; end = refl }
@@ -60,7 +60,7 @@ unfolding lawfulEnds ending
 tested-all n ends last i h s w =
     let none : drop i ends ≡ [] = drop-of-length-le ends h in
     let order : ascending ltb (0 ∷ ends) ≡ true = w .order ∙ rw none (one last) in
-    let end : lastEnd ends ≡ last = w .end ∙ rw none in
+    let end : ending 0 ends ≡ last = w .end ∙ rw none in
     simp (le-leb (length ends) 32 s, order, end)
 
 pub too-many : (n : ℕ) (ends : List ℕ) → 32 < length ends → false ≡ lawfulEnds n ends

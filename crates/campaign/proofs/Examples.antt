@@ -1,4 +1,4 @@
--- Examples of skips and of a job's refusals: what M1 to M10 do not tell apart.
+-- Examples of skips, of a job's refusals and of co-sited cells: what M1 to M10 do not tell apart.
 use mathlib.Core.Path.{_≡_, refl}
 use mathlib.Core.List.{List, [], _∷_, flatMap, zipWith}
 use Prim.Native.Nat.{ℕ, _*_, _-_}
@@ -11,11 +11,11 @@ use Rattle.site.specs.Answer.{Answer, refused, answered, answerUnless, afterwar
 use Rattle.site.specs.Site.{within, lawfulSite, gap, square, squaredDistance, siteBefore}
 use Rattle.site.specs.SiteList.{Columns, columns, sites, siteAt}
 use Rattle.site.specs.Refusal.{equalLengths, sizeFault, contentRefusal, listRefusal, listsRefusal}
-use Rattle.entry.specs.Entry.{rankBefore, lawfulK, bestK, offer, lastDistance}
+use Rattle.entry.specs.Entry.{rankBefore, apart, lawfulK, bestK, offer, lastDistance}
 use Rattle.entry.specs.Results.{Results, results, entriesOf, holding, roomFor}
 use Rattle.sweep.specs.declared.Way.the-variants.{Classic}
 use Rattle.sweep.specs.Strip.{whole, placedFrom, strip, pair, product, pairs}
-use Rattle.sweep.specs.Scan.{beyond, scan}
+use Rattle.sweep.specs.Scan.{beyond, taken, scan}
 use Rattle.sweep.specs.Sweep.{classicOver, leads, look, sweep}
 use Rattle.campaign.specs.declared.Campaign.{Campaign}
 use Rattle.campaign.specs.Grid.{
@@ -77,15 +77,38 @@ soundnessFirst =
     (afterJob (newCampaign 1 (1 ∷ []) (1 ∷ [])) 0 (jobOf 0 1)) one
     (jobOf 0 0 ∷ jobOf 1 1 ∷ [])
 
+-- A site at the origin, and the same with another at (3, 4).
+origin : Columns
+origin = columns (pos 0 ∷ []) (pos 0 ∷ []) (1 ∷ [])
+
+twoSites : Columns
+twoSites = columns (pos 0 ∷ pos 3 ∷ []) (pos 0 ∷ pos 4 ∷ []) (2 ∷ 3 ∷ [])
+
+-- Co-sited cells are no pair: one is left for K = 2, and it is the settled job's pair total.
+coSited : List ℕ
+coSited =
+    answersOf origin twoSites (newCampaign 2 (1 ∷ []) (2 ∷ [])) (results (0 ∷ 0 ∷ []) (0 ∷ 0 ∷ []) (0 ∷ 0 ∷ []))
+    (jobOf 0 0 ∷ jobOf 0 0 ∷ [])
+
+-- The same lists with the job settled and K = 1: one entry, at 0, gets 7, and so does none in the place of the pair at 25.
+settledWith : ℕ → List ℕ
+settledWith entries =
+    answersOf origin twoSites (afterJob (newCampaign 1 (1 ∷ []) (2 ∷ [])) entries (jobOf 0 0)) one (jobOf 0 0 ∷ [])
+
+-- Where all sites stand at one position there is no pair: the settled job gets 9, with no entry held.
+onePosition : List ℕ
+onePosition = answersOf origin origin (afterJob (newCampaign 1 (1 ∷ []) (1 ∷ [])) 0 (jobOf 0 0)) one (jobOf 0 0 ∷ [])
+
 answers :
-    equalGap ∷ ownRanges ∷ soundnessFirst ∷ []
-    ≡ (100 ∷ 100 ∷ 9 ∷ 8 ∷ 8 ∷ []) ∷ (100 ∷ 200 ∷ 200 ∷ 200 ∷ []) ∷ (7 ∷ 7 ∷ []) ∷ []
+    equalGap ∷ ownRanges ∷ soundnessFirst ∷ coSited ∷ settledWith 1 ∷ settledWith 0 ∷ onePosition ∷ []
+    ≡ (100 ∷ 100 ∷ 9 ∷ 8 ∷ 8 ∷ []) ∷ (100 ∷ 200 ∷ 200 ∷ 200 ∷ []) ∷ (7 ∷ 7 ∷ []) ∷ (100 ∷ 9 ∷ [])
+    ∷ (7 ∷ []) ∷ (7 ∷ []) ∷ (9 ∷ []) ∷ []
 unfolding
-    afterJob afterwards all answerUnless ascending bestK beyond campaignRefusal classicOver contentRefusal countFrom
-    entriesOf equalGap equalLengths firstEnds flatMap gap holding insert jobAnswer jobEntries jobPairs jobRefusal jobs
-    jobsPairs keep soundnessFirst last lastDistance lawfulEnds lawfulK lawfulMarks lawfulSite leads lex listRefusal
-    listsRefusal look markOf newCampaign offer one orElse overwritten ownRanges pair pairs placedFrom product rangeGap
-    rankBefore roomFor scan secondEnds settled settledJobs siteAt siteBefore sites sizeFault skips slots sort sound
-    soundEntry square squaredDistance squaredStripGap strip stripAt stripHolding sum sweep answerAs answersOf whole within
-    zipWith
+    afterJob afterwards all answerAs answersOf answerUnless apart ascending bestK beyond campaignRefusal classicOver
+    contentRefusal coSited countFrom entriesOf equalGap equalLengths firstEnds flatMap gap holding insert jobAnswer
+    jobEntries jobPairs jobRefusal jobs jobsPairs keep last lastDistance lawfulEnds lawfulK lawfulMarks lawfulSite leads
+    lex listRefusal listsRefusal look markOf newCampaign offer one onePosition orElse origin overwritten ownRanges pair
+    pairs placedFrom product rangeGap rankBefore roomFor scan secondEnds settled settledJobs settledWith siteAt siteBefore sites
+    sizeFault skips slots sort sound soundEntry soundnessFirst square squaredDistance squaredStripGap strip stripAt
+    stripHolding sum sweep taken twoSites whole within zipWith
 answers = refl

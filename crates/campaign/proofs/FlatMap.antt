@@ -1,7 +1,10 @@
 -- Laws of `flatMap`: lists made of parts, one part for each thing of a list, and their products.
-use mathlib.Core.Path.{_≡_, refl, sym, ap}
+use mathlib.Core.Path.{_≡_, refl, sym, ap, _∙_}
 use mathlib.Core.Logic.{⊎-elim}
-use mathlib.Core.List.{List, [], _∷_, _++_, map, append-assoc, List·Memᴰ, List·Memᴰ·head, List·Memᴰ·tail, List·Memᴰ·not-nil, flatMap, List·Memᴰ·append-cases, List·Permᴰ, List·Permᴰ·nil, List·Permᴰ·cons, List·Permᴰ·swap, List·Permᴰ·trans, Permᴰ·append-left}
+use mathlib.Core.Bool.{Bool}
+use mathlib.Core.List.{List, [], _∷_, _++_, map, append-assoc, List·Memᴰ, List·Memᴰ·head, List·Memᴰ·tail, List·Memᴰ·not-nil, List·Memᴰ·cases-cons, flatMap, List·Memᴰ·append-cases, Memᴰ·append-left, Memᴰ·append-right, List·Permᴰ, List·Permᴰ·nil, List·Permᴰ·cons, List·Permᴰ·swap, List·Permᴰ·trans, Permᴰ·append-left}
+use Rattle.order.specs.Lists.{keep}
+use Rattle.order.proofs.Lists.{keep-nil, keep-append}
 use Rattle.sweep.specs.Strip.{product}
 use Rattle.sweep.proofs.ProductLaws.{perm-append, perm-exchange, product-append-left, product-append-right, product-nil-right}
 
@@ -32,6 +35,21 @@ module _ {I A : Type 0} (part : I → List A) where
       ⊎-elim (λ (h : List·Memᴰ x (part i)). (i, List·Memᴰ·head refl, h))
       (λ (h : List·Memᴰ x (flatMap part l)). let w = flat-mem l h in (w .0, List·Memᴰ·tail (w .1), w .2))
       (List·Memᴰ·append-cases (part i) m)
+
+  pub mem-flat : {x : A} {i : I} (l : List I) → List·Memᴰ i l → List·Memᴰ x (part i) → List·Memᴰ x (flatMap part l)
+  unfolding flatMap
+  mem-flat [] m h = absurd (List·Memᴰ·not-nil m)
+  mem-flat {x} {i} (j ∷ l) m h =
+      ⊎-elim (λ (e : i ≡ j). Memᴰ·append-left (flatMap part l) (rw e at h))
+      (λ (n : List·Memᴰ i l). Memᴰ·append-right (part j) (mem-flat l n h))
+      (List·Memᴰ·cases-cons m)
+
+  -- What a test keeps of the whole is what it keeps of each part.
+  pub keep-flat : (test : A → Bool) (l : List I) → keep test (flatMap part l) ≡ flatMap (λ i. keep test (part i)) l
+  unfolding flatMap
+  keep-flat test [] = keep-nil test
+  keep-flat test (i ∷ l) =
+      keep-append test (part i) (flatMap part l) ∙ ap (λ (r : List A). keep test (part i) ++ r) (keep-flat test l)
 
 -- Parts that are the same give the same.
 pub flat-same : {I A : Type 0} (part part' : I → List A) (l : List I) → ((i : I) → List·Memᴰ i l → part i ≡ part' i)

@@ -2,7 +2,7 @@
 use mathlib.Core.Path.{_≡_, refl, sym, ap, ap₂, _∙_}
 use mathlib.Core.Bool.{Bool, true, not}
 use mathlib.Core.List.{List, [], _∷_, _++_, flatMap, append-nil, List·Memᴰ, List·Memᴰ·head, List·Memᴰ·tail, List·Permᴰ, List·Permᴰ·trans, Permᴰ·symm}
-use Prim.Native.Nat.{ℕ, zero, suc, _+_, _-_, _*_, _≤_, _<_}
+use Prim.Native.Nat.{ℕ, zero, suc, _+_, _≤_, _<_}
 use native.Mathlib.Omega.{arith}
 use lib.Dec.{ltb}
 use lib.IntN.{pos}
@@ -12,18 +12,19 @@ use Rattle.order.specs.Order.{on, lex}
 use Rattle.order.proofs.Sorted.{Ascends, ascends-distinct, members-perm}
 use Rattle.order.proofs.Order.{StrictOrder, by-number, lex-order, strict, lex-less, lex-next, irrefl, ltb-order}
 use Rattle.order.specs.Lists.{keep, All, Distinct}
-use Rattle.order.proofs.Lists.{all-mem, all-weaken, keep-mem, mem-keep, perm-distinct, distinct-left, distinct-keep, perm-eq, keep-split}
+use Rattle.order.proofs.Lists.{all-mem, all-weaken, keep-mem, mem-keep, perm-distinct, distinct-left, distinct-keep, perm-eq, perm-keep, keep-split}
 use Rattle.site.specs.declared.Site.{Site}
 use Rattle.site.specs.Site.{squaredDistance}
 use Rattle.site.specs.SiteList.{site, siteAt}
 use Rattle.entry.specs.declared.Entry.{Entry}
+use Rattle.entry.specs.Entry.{apart}
 use Rattle.sweep.specs.Strip.{pair, product, pairs, allPairs}
-use Rattle.sweep.proofs.ProductLaws.{mem-product, product-mem, length-product, product-ascends}
-use Rattle.sweep.proofs.Strip.{mem-pairs, mem-strip-pairs, whole-pairs-distinct}
+use Rattle.sweep.proofs.ProductLaws.{mem-product, product-mem, product-ascends}
+use Rattle.sweep.proofs.Strip.{mem-pairs, pairs-mem, mem-strip-pairs, strip-pairs-mem, whole-pairs-distinct}
 use Rattle.campaign.specs.Grid.{stripAt, stripHolding, Job, jobOf, countFrom, jobs, jobPairs, jobsPairs}
 use Rattle.campaign.specs.Internal.{stripFrom, stripTo}
-use Rattle.campaign.proofs.FlatMap.{flat-append, flat-perm, flat-mem, product-flat}
-use Rattle.campaign.proofs.LawfulEnds.{Cut, strips-whole, length-strip, strip-holds}
+use Rattle.campaign.proofs.FlatMap.{flat-append, flat-perm, flat-mem, mem-flat, keep-flat, product-flat}
+use Rattle.campaign.proofs.LawfulEnds.{Cut, strips-whole, strip-holds, holding-inside}
 
 -- ---- the numbers of a count
 
@@ -103,11 +104,13 @@ kept-jobs rows cols test l d inside f g =
 
 -- ---- pairs of jobs
 
--- An entry of a job's pairs: its places are inside, its squared distance is theirs, and their strips are the job's.
+-- An entry of a job's pairs: its places are inside, its squared distance is theirs, 1 or more, and their strips are the
+-- job's.
 pub record OfJob (ends ends' : List ℕ) (a b : List Site) (j : Job) (e : Entry) : Type 0 where
   pub first : e .first < length a
   pub second : e .second < length b
   pub distance : e .distance ≡ squaredDistance (siteAt a (e .first)) (siteAt b (e .second))
+  pub counts : apart e ≡ true
   pub holding : stripHolding ends (e .first) ≡ j .first
   pub holding' : stripHolding ends' (e .second) ≡ j .second
 
@@ -134,11 +137,13 @@ module _ (ends ends' : List ℕ) (a b : List Site) where
     pub grid-pairs : List·Permᴰ (allPairs a b) (jobsPairs ends ends' a b (jobs (length ends) (length ends')))
     unfolding jobs pairs jobPairs jobsPairs
     grid-pairs =
-        let p = product-flat pair jobOf (jobPairs ends ends' a b) (stripAt ends a) (stripAt ends' b) (λ i j. refl)
-        (countFrom 0 (length ends)) (countFrom 0 (length ends')) in
-        List·Permᴰ·trans
-        (perm-eq (ap₂ (product pair) (sym (strips-whole a ends cut)) (sym (strips-whole b ends' cut'))))
-        p
+        let rows = countFrom 0 (length ends) in
+        let cols = countFrom 0 (length ends') in
+        let of : Job → List Entry = λ j. product pair (stripAt ends a (j .first)) (stripAt ends' b (j .second)) in
+        let p = product-flat pair jobOf of (stripAt ends a) (stripAt ends' b) (λ i j. refl) rows cols in
+        let parts = ap₂ (product pair) (sym (strips-whole a ends cut)) (sym (strips-whole b ends' cut')) in
+        List·Permᴰ·trans (perm-keep apart (List·Permᴰ·trans (perm-eq parts) p))
+        (perm-eq (keep-flat of apart (product jobOf rows cols)))
 
     -- No pair stands twice among the pairs of distinct jobs.
     pub jobs-pairs-distinct : (test : Job → Bool) (l : List Job) → List·Permᴰ l (keep test (jobs (length ends) (length ends')))
@@ -149,20 +154,10 @@ module _ (ends ends' : List ℕ) (a b : List Site) where
         let others = keep (λ j. not (test j)) grid in
         let all : Distinct (jobsPairs ends ends' a b (kept ++ others)) =
         perm-distinct (jobs-pairs-perm (keep-split test grid)) (perm-distinct grid-pairs (whole-pairs-distinct a b)) in
-        let apart : Distinct (jobsPairs ends ends' a b kept ++ jobsPairs ends ends' a b others) = rw jobs-pairs-append at all in
-        perm-distinct (jobs-pairs-perm (Permᴰ·symm p)) (distinct-left (jobsPairs ends ends' a b kept) (jobsPairs ends ends' a b others) apart)
+        let parts : Distinct (jobsPairs ends ends' a b kept ++ jobsPairs ends ends' a b others) = rw jobs-pairs-append at all in
+        perm-distinct (jobs-pairs-perm (Permᴰ·symm p)) (distinct-left (jobsPairs ends ends' a b kept) (jobsPairs ends ends' a b others) parts)
 
-    -- How many pairs a job has.
-    pub length-job : (j : Job) → InGrid (length ends) (length ends') j → length (jobPairs ends ends' a b j)
-        ≡ (stripTo ends (j .first) - stripFrom ends (j .first)) * (stripTo ends' (j .second) - stripFrom ends' (j .second))
-    unfolding jobPairs pairs
-    length-job j h =
-        rw (
-          length-product pair (stripAt ends a (j .first)) (stripAt ends' b (j .second)),
-          length-strip a cut (j .first) (h .row),
-          length-strip b cut' (j .second) (h .column),
-        )
-
+    -- What an entry of a job's pairs is, and that each such is there.
     pub job-entry : (j : Job) → InGrid (length ends) (length ends') j → (e : Entry) → List·Memᴰ e (jobPairs ends ends' a b j)
         → OfJob ends ends' a b j e
     unfolding jobPairs stripAt stripFrom stripTo siteAt
@@ -173,9 +168,27 @@ module _ (ends ends' : List ℕ) (a b : List Site) where
           first = p .first-below;
           second = p .second-below;
           distance = p .right;
+          counts = p .counts;
           holding = strip-holds cut (j .first) (g .row) (e .first) (w .0) (w .1);
           holding' = strip-holds cut' (j .second) (g .column) (e .second) (w .2) (w .3);
         }
+
+    entry-job : (j : Job) (e : Entry) → OfJob ends ends' a b j e → List·Memᴰ e (jobPairs ends ends' a b j)
+    unfolding jobPairs stripAt stripFrom stripTo siteAt
+    entry-job j e h =
+        let u = holding-inside cut (e .first) (h .first) in
+        let v = holding-inside cut' (e .second) (h .second) in
+        let p =
+        pairs-mem e a b (site (pos 0) (pos 0) 0)
+        (record { first-below = h .first; second-below = h .second; right = h .distance; counts = h .counts }) in
+        rw (← h .holding, ← h .holding') (strip-pairs-mem _ _ _ _ a b (u .1) (u .2) (v .1) (v .2) p)
+
+    -- Its job is one of the grid.
+    entry-in-grid : (j : Job) (e : Entry) → OfJob ends ends' a b j e → InGrid (length ends) (length ends') j
+    entry-in-grid j e h =
+        let u = holding-inside cut (e .first) (h .first) in
+        let v = holding-inside cut' (e .second) (h .second) in
+        record { row = rw (h .holding) at (u .0); column = rw (h .holding') at (v .0) }
 
     -- An entry of some jobs' pairs is of one of them.
     pub jobs-entry : (l : List Job) → All (InGrid (length ends) (length ends')) l → (e : Entry) → List·Memᴰ e (jobsPairs ends ends' a b l)
@@ -184,3 +197,12 @@ module _ (ends ends' : List ℕ) (a b : List Site) where
     jobs-entry l h e m =
         let w = flat-mem (jobPairs ends ends' a b) l m in
         (w .0, w .1, job-entry (w .0) (all-mem (InGrid (length ends) (length ends')) h (w .1)) e (w .2))
+
+    -- An entry of a job of the grid that a test keeps is one of the kept jobs' pairs.
+    pub kept-entry : (test : Job → Bool) (j : Job) (e : Entry) → OfJob ends ends' a b j e → test j ≡ true
+        → List·Memᴰ e (jobsPairs ends ends' a b (keep test (jobs (length ends) (length ends'))))
+    unfolding jobsPairs
+    kept-entry test j e h t =
+        let grid = jobs (length ends) (length ends') in
+        mem-flat (jobPairs ends ends' a b) (keep test grid)
+        (mem-keep test grid (in-grid-jobs (length ends) (length ends') j (entry-in-grid j e h)) t) (entry-job j e h)

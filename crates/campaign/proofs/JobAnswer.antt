@@ -35,9 +35,9 @@ use Rattle.campaign.specs.declared.Strip.{Strip}
 use Rattle.campaign.specs.Grid.{stripAt, jobOf, jobPairs, squaredStripGap}
 use Rattle.campaign.specs.Soundness.{firstEnds, secondEnds}
 use Rattle.campaign.specs.Calls.{jobRefusal, skips, jobEntries, afterJob, JobValues, jobValues, jobAnswer, jobDoneAnswer}
-use Rattle.campaign.specs.Internal.{stripFrom, stripTo, StripOf, JobAsked}
+use Rattle.campaign.specs.Internal.{StripOf}
 use Rattle.site.proofs.Accepted.{accepted-order}
-use Rattle.campaign.proofs.SoundPlan.{first-strip, second-strip}
+use Rattle.campaign.proofs.SoundPlan.{strips-are}
 use Rattle.campaign.proofs.SoundCampaign.{campaign-sorted, campaign-length}
 use Rattle.campaign.proofs.SquaredStripGap.{pairs-far}
 use Rattle.campaign.proofs.JobRefusal.{job-sound}
@@ -46,30 +46,11 @@ use Rattle.campaign.proofs.JobRefusal.{job-sound}
 
 module _ (c : Campaign) {s t : ℕ} {p q : Strip} (is : StripOf (take (c .«first_strips») (c .«first_ends»)) s p)
     (js : StripOf (take (c .«second_strips») (c .«second_ends»)) t q) where
-  -- The strips of a job by their places.
-  pub places : {n m : ℕ} → JobAsked c n m (jobOf s t) → length (c .«first_ends») ≡ 32 → length (c .«second_ends») ≡ 32
-      → (p .from < p .to) × (p .to ≤ n) × (q .from < q .to) × (q .to ≤ m)
-  unfolding firstEnds secondEnds
-  places w long long' =
-      let f = first-strip w long in
-      let g = second-strip w long' in (
-        omega (arith, f, is .from, is .to),
-        omega (arith, f, is .to),
-        omega (arith, g, js .from, js .to),
-        omega
-            (arith, g, js .to),
-      )
-
-  strips-are : (a b : List Site) → (strip (p .from) (p .to) a ≡ stripAt (firstEnds c) a s) ×
-      (strip (q .from) (q .to) b ≡ stripAt (secondEnds c) b t)
-  unfolding stripAt stripFrom stripTo firstEnds secondEnds
-  strips-are a b = (rw (is .from, is .to), rw (js .from, js .to))
-
   -- What a sweep of the strips' places promises, of the strips by number.
   pub by-number : (way : Way) (k : ℕ) (a b : List Site) (l : List Entry) {r r' : Results} {d : Swept}
       → SweptTo (sweep way k (strip (p .from) (p .to) a) (strip (q .from) (q .to) b) l) r r' d
       → SweptTo (sweep way k (stripAt (firstEnds c) a s) (stripAt (secondEnds c) b t) l) r r' d
-  by-number way k a b l w = rw (strips-are a b .0, strips-are a b .1) at w
+  by-number way k a b l w = let e = strips-are c is js a b in rw (e .0, e .1) at w
 
   -- ---- the test of a skip
 
@@ -80,7 +61,7 @@ module _ (c : Campaign) {s t : ℕ} {p q : Strip} (is : StripOf (take (c .«firs
   gap-decides a b r room some h e =
       let full = length-entries (c .k) (c .entries) r room (omega arith) in
       let last = last-distance-column (c .k) (c .entries) r room (omega arith) (omega arith) in
-      rw (full, eq-eqb (c .entries) (c .k) h, last, e, strips-are a b .0, strips-are a b .1)
+      rw (full, eq-eqb (c .entries) (c .k) h, last, e, strips-are c is js a b .0, strips-are c is js a b .1)
 
 pub not-full : (c : Campaign) (a b : List Site) (r : Results) (s t : ℕ) → roomFor (c .k) r ≡ true → c .entries ≤ c .k →
     (c .entries ≡ c .k → ⊥)

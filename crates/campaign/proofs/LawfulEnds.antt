@@ -7,34 +7,34 @@ use native.Mathlib.Omega.{arith}
 use lib.Dec.{leb, ltb, eqb}
 use lib.ListN.{length, take, drop, getD}
 use lib.Seq.{take-add, drop-drop, take-all}
-use borrow.Author.Tests.{ltb-true, leb-true, eqb-true, le-leb, lt-leb}
+use borrow.Author.Tests.{ltb-true, leb-true, leb-false, eqb-true, le-leb, lt-leb}
 use Rattle.order.specs.Order.{ascending}
 use Rattle.order.specs.Lists.{keep, last, All}
 use Rattle.order.proofs.Sorted.{Ascends, ascending-ascends}
-use Rattle.order.proofs.Order.{ltb-order}
+use Rattle.order.proofs.Order.{byTest, ltb-order}
 use Rattle.order.proofs.Lists.{all-at, all-weaken, keep-yes, keep-none}
 use Rattle.site.specs.declared.Site.{Site}
 use Rattle.sweep.specs.Strip.{whole, strip}
-use Rattle.sweep.proofs.Strip.{length-whole, length-strip-within}
+use Rattle.sweep.proofs.Strip.{length-whole}
 use Rattle.campaign.specs.Grid.{lawfulEnds, stripAt, stripHolding, countFrom}
-use Rattle.campaign.specs.Internal.{lastEnd, stripFrom, stripTo}
+use Rattle.campaign.specs.Internal.{stripFrom, stripTo}
 use Rattle.campaign.proofs.FlatMap.{flat-map}
 
 -- What lawful ends of a list of `n` are.
 pub record Cut (n : ℕ) (ends : List ℕ) : Type 0 where
   pub few : length ends ≤ 32
   pub up : Ascends ltb (0 ∷ ends)
-  pub last : lastEnd ends ≡ n
+  pub last : last 0 ends ≡ n
 
 pub lawful-cut : (n : ℕ) (ends : List ℕ) → lawfulEnds n ends ≡ true → Cut n ends
 unfolding lawfulEnds
 lawful-cut n ends h =
-    let p = and-eq-true-iff (leb (length ends) 32) (ascending ltb (0 ∷ ends) && eqb (lastEnd ends) n) .0 h in
-    let q = and-eq-true-iff (ascending ltb (0 ∷ ends)) (eqb (lastEnd ends) n) .0 (p .1) in
+    let p = and-eq-true-iff (leb (length ends) 32) (ascending ltb (0 ∷ ends) && eqb (last 0 ends) n) .0 h in
+    let q = and-eq-true-iff (ascending ltb (0 ∷ ends)) (eqb (last 0 ends) n) .0 (p .1) in
     record {
       few = leb-true (length ends) 32 (p .0);
       up = ascending-ascends ltb-order (0 ∷ ends) (q .0);
-      last = eqb-true (lastEnd ends) n (q .1);
+      last = eqb-true (last 0 ends) n (q .1);
     }
 
 -- ---- ends that ascend from `from` on
@@ -85,6 +85,22 @@ holding-from from (e ∷ l) (suc s) place u h low high =
     let least = first-least e l s (up-rest from (e ∷ l) u) (omega arith) in
     rw (keep-yes (λ (x : ℕ). leb x place) e l (le-leb e place (omega arith)))
     (ap suc (holding-from e l s place (up-rest from (e ∷ l) u) (omega arith) low high))
+
+-- The strip that holds a place below the last end: its number, and the ends around the place.
+holding-around : (from : ℕ) (ends : List ℕ) (place : ℕ) → Ascends ltb (from ∷ ends) → from ≤ place → place < last from ends
+    → let s = length (keep (λ e. leb e place) ends) in
+    (s < length ends) × (getD (from ∷ ends) s 0 ≤ place) × (place < getD ends s 0)
+unfolding last
+holding-around from [] place u low high = absurd (omega arith)
+holding-around from (e ∷ l) place u low high =
+    byTest (leb e place)
+    (λ h.
+    let w = holding-around e l place (up-rest from (e ∷ l) u) (leb-true e place h) high in
+    rw (keep-yes (λ (x : ℕ). leb x place) e l h) (omega (arith, w .0), w .1, w .2))
+    (λ h.
+    let past = leb-false e place h in
+    rw (keep-none (λ (x : ℕ). leb x place) (e ∷ l) (past-place place e l past (up-rest from (e ∷ l) u)))
+    (omega arith, low, past))
 
 -- ---- parts by ends
 
@@ -139,7 +155,20 @@ module _ {n : ℕ} {ends : List ℕ} (cut : Cut n ends) (s : ℕ) (h : s < lengt
   unfolding stripFrom stripTo stripHolding
   strip-holds place low high = holding-from 0 ends s place (cut .up) h low high
 
-pub length-strip : (l : List Site) {ends : List ℕ} → Cut (length l) ends → (s : ℕ) → s < length ends
-    → length (stripAt ends l s) ≡ stripTo ends s - stripFrom ends s
-unfolding stripAt stripFrom stripTo
-length-strip l {ends} cut s h = length-strip-within (stripFrom ends s) (stripTo ends s) l (strip-inside cut s h .1)
+-- A place lies inside the strip that holds it.
+pub holding-inside : {n : ℕ} {ends : List ℕ} → Cut n ends → (place : ℕ) → place < n
+    → let s = stripHolding ends place in
+    (s < length ends) × (stripFrom ends s ≤ place) × (place < stripTo ends s)
+unfolding stripFrom stripTo stripHolding
+holding-inside {n} {ends} cut place h = holding-around 0 ends place (cut .up) (omega arith) (omega (arith, cut .last))
+
+-- ---- where a strip starts, by place
+
+pub starts-at-first : (ends : List ℕ) (s : ℕ) → s ≡ 0 → 0 ≡ stripFrom ends s
+unfolding stripFrom
+starts-at-first ends s h = rw h
+
+pub starts-at-end : (ends : List ℕ) (s : ℕ) → (s ≡ 0 → ⊥) → getD ends (s - 1) 0 ≡ stripFrom ends s
+unfolding stripFrom
+starts-at-end ends zero h = absurd (h refl)
+starts-at-end ends (suc s) h = let e : suc s - 1 ≡ s = omega arith in rw e

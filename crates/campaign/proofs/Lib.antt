@@ -4,12 +4,13 @@ pub mod LawfulEnds
 pub mod Grid
 pub mod MarkLaws
 pub mod EndsInvariant
-pub mod Cuts
 pub mod MarksInvariant
-pub mod Tally
+pub mod SettledRows
+pub mod PairTotal
 pub mod AllAscending
 pub mod SoundEntry
 pub mod SoundPlan
+pub mod EntryCount
 pub mod Sound
 pub mod SoundCampaign
 pub mod OpenAnswer

@@ -1,8 +1,10 @@
 -- Refusal 7 whole: its tests in an order in which each may rest on those before.
 use mathlib.Core.Path.{_≡_, refl, sym, ap, _∙_}
-use mathlib.Core.Bool.{Bool, true, false, not, cond, _&&_}
+use mathlib.Core.Bool.{Bool, true, false, not, cond, _&&_, and-assoc, and-false}
 use mathlib.Core.List.{List}
-use Prim.Native.Nat.{ℕ}
+use Prim.Native.Nat.{ℕ, _≤_, _<_}
+use native.Mathlib.Omega.{arith}
+use lib.Dec.{eqb}
 use lib.ListN.{length, take}
 use Rattle.order.specs.Order.{ascending}
 use Rattle.order.specs.Lists.{all}
@@ -11,15 +13,19 @@ use Rattle.site.specs.SiteList.{Columns, sites}
 use Rattle.site.specs.Terms.{Level}
 use Rattle.site.specs.Refusal.{listsRefusal}
 use Rattle.site.proofs.SiteList.{sites-length}
+use Rattle.site.proofs.Tests.{and-first, and-second}
 use Rattle.site.proofs.Answer.{first-refused, next-decides}
 use Rattle.entry.specs.declared.Entry.{Entry}
 use Rattle.entry.specs.Entry.{rankBefore, lawfulK}
 use Rattle.entry.specs.Results.{Results, entriesOf, roomFor}
+use Rattle.entry.proofs.Results.{length-entries}
 use Rattle.campaign.specs.declared.Campaign.{Campaign}
 use Rattle.campaign.specs.Grid.{lawfulMarks}
-use Rattle.campaign.specs.Internal.{lawfulSlots, Cutting, soundPlan, rightCount, soundEntries}
+use Rattle.campaign.specs.Internal.{lawfulSlots, soundPlan, soundEntries}
 use Rattle.campaign.specs.Soundness.{firstEnds, secondEnds, soundEntry, sound, campaignRefusal}
-use Rattle.campaign.proofs.SoundPlan.{plan-parts}
+use Rattle.campaign.proofs.LawfulEnds.{lawful-cut}
+use Rattle.campaign.proofs.SoundPlan.{plan-parts, settled-in-use}
+use Rattle.campaign.proofs.EntryCount.{sound-few, total, rightCount, count-above, count-full, count-decides}
 
 -- ---- the tests
 
@@ -29,25 +35,17 @@ regroup true true false m rest = refl
 regroup true false s m rest = refl
 regroup false f s m rest = refl
 
-last-first : (p q r : Bool) → (p && (q && r)) ≡ (r && (p && q))
-last-first true true true = refl
-last-first true true false = refl
-last-first true false true = refl
-last-first true false false = refl
-last-first false q true = refl
-last-first false q false = refl
-
 module _ (c : Campaign) (a b : List Site) (r : Results) where
   sound-is : sound c a b r ≡ (soundPlan c (length a) (length b) &&
-      (roomFor (c .k) r && (rightCount c a b && soundEntries c a b r)))
+      (roomFor (c .k) r && (soundEntries c a b r && rightCount c a b)))
   unfolding sound soundPlan lawfulSlots firstEnds secondEnds rightCount soundEntries
   sound-is =
       regroup (lawfulK (c .k)) (lawfulSlots (length a) (c .«first_strips») (c .«first_ends»))
       (lawfulSlots (length b) (c .«second_strips») (c .«second_ends»))
       (lawfulMarks (c .«first_strips») (c .«second_strips») 0 (c .marks)) _
       ∙ ap (λ (t : Bool). soundPlan c (length a) (length b) && (roomFor (c .k) r && t))
-      (last-first (ascending rankBefore (entriesOf (c .entries) r))
-      (all (soundEntry (c .marks) (firstEnds c) (secondEnds c) a b) (entriesOf (c .entries) r)) (rightCount c a b))
+      (sym (and-assoc (ascending rankBefore (entriesOf (c .entries) r))
+      (all (soundEntry (c .marks) (firstEnds c) (secondEnds c) a b) (entriesOf (c .entries) r)) (rightCount c a b)))
 
   pub order-fails : ascending rankBefore (entriesOf (c .entries) r) ≡ false → false ≡ soundEntries c a b r
   unfolding soundEntries
@@ -61,10 +59,23 @@ module _ (c : Campaign) (a b : List Site) (r : Results) where
   unfolding soundEntries firstEnds secondEnds
   entries-decide read h e = e ∙ rw read (simp h)
 
+-- The entries of a campaign, in order and with no fault, are not more than its pair total.
+entries-low : (c : Campaign) (a b : List Site) (r : Results) → length (c .«first_ends») ≡ 32 → length (c .«second_ends») ≡ 32
+    → soundPlan c (length a) (length b) ≡ true → soundEntries c a b r ≡ true → length (entriesOf (c .entries) r) ≤ total c a b
+unfolding soundEntries
+entries-low c a b r long long' plan h =
+    let p = plan-parts c (length a) (length b) plan in
+    let l = entriesOf (c .entries) r in
+    let up = ascending rankBefore l in
+    let each = all (soundEntry (c .marks) (firstEnds c) (secondEnds c) a b) l in
+    rw (settled-in-use c long long' p)
+    (sound-few (c .marks) (firstEnds c) (secondEnds c) a b (lawful-cut (length a) (firstEnds c) (p .first))
+    (lawful-cut (length b) (secondEnds c) (p .second)) l (and-first up each h) (and-second up each h))
+
 module _ (c : Campaign) (a b : Columns) (r : Results) (la : Level a) (lb : Level b) where
   pub steps : sound c (sites a) (sites b) r
       ≡ (soundPlan c (length (a .x)) (length (b .x)) &&
-      (roomFor (c .k) r && (rightCount c (sites a) (sites b) && soundEntries c (sites a) (sites b) r)))
+      (roomFor (c .k) r && (soundEntries c (sites a) (sites b) r && rightCount c (sites a) (sites b))))
   steps = sound-is c (sites a) (sites b) r ∙ rw (sites-length a la, sites-length b lb)
 
   pub plan-fails : soundPlan c (length (a .x)) (length (b .x)) ≡ false → false ≡ sound c (sites a) (sites b) r
@@ -74,19 +85,32 @@ module _ (c : Campaign) (a b : Columns) (r : Results) (la : Level a) (lb : Level
     pub room-fails : roomFor (c .k) r ≡ false → false ≡ sound c (sites a) (sites b) r
     room-fails h = sym (steps ∙ simp (plan, h))
 
-    module _ (room : roomFor (c .k) r ≡ true) {q : Bool}
-        (told : Cutting (firstEnds c) (secondEnds c) (λ l m. q ≡ rightCount c l m)) where
-      count-is : q ≡ rightCount c (sites a) (sites b)
-      count-is =
-          let p = plan-parts c (length (a .x)) (length (b .x)) plan in
-          told .cut (sites a) (sites b) (rw (sites-length a la) (p .first)) (rw (sites-length b lb) (p .second))
+    module _ (room : roomFor (c .k) r ≡ true) where
+      pub too-many : c .k < c .entries → false ≡ sound c (sites a) (sites b) r
+      too-many h =
+          let above = count-above c (sites a) (sites b) h in
+          sym (steps ∙ simp (plan, room, above, and-false (soundEntries c (sites a) (sites b) r)))
 
-      pub count-fails : q ≡ false → false ≡ sound c (sites a) (sites b) r
-      count-fails h = sym (steps ∙ simp (plan, room, ← count-is, h))
+      module _ {q : Bool} (told : q ≡ soundEntries c (sites a) (sites b) r) where
+        pub entries-fail : q ≡ false → false ≡ sound c (sites a) (sites b) r
+        entries-fail h = sym (steps ∙ simp (plan, room, ← told, h))
 
-      pub sound-decided : q ≡ true → {t : Bool} → t ≡ soundEntries c (sites a) (sites b) r → t ≡ sound c (sites a)
-          (sites b) r
-      sound-decided h e = e ∙ sym (steps ∙ simp (plan, room, ← count-is, h))
+        module _ (h : q ≡ true) where
+          past-entries : sound c (sites a) (sites b) r ≡ rightCount c (sites a) (sites b)
+          past-entries = steps ∙ simp (plan, room, ← told, h)
+
+          -- K entries: there are at least K pairs.
+          pub full-sound : length (c .«first_ends») ≡ 32 → length (c .«second_ends») ≡ 32 → c .entries ≡ c .k
+              → true ≡ sound c (sites a) (sites b) r
+          full-sound long long' full =
+              let many = length-entries (c .k) (c .entries) r room (omega arith) in
+              let low = entries-low c (sites a) (sites b) r long long' (rw (sites-length a la, sites-length b lb) plan) (sym told ∙ h) in
+              sym (past-entries ∙ count-full c (sites a) (sites b) full (omega arith))
+
+          -- Fewer: the total decides.
+          pub total-decides : c .entries ≤ c .k → (c .entries ≡ c .k → ⊥) → {n : ℕ} → n ≡ total c (sites a) (sites b)
+              → eqb (c .entries) n ≡ sound c (sites a) (sites b) r
+          total-decides most below is = count-decides c (sites a) (sites b) most below is ∙ sym past-entries
 
 -- ---- the refusal
 

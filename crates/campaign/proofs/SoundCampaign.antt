@@ -1,10 +1,8 @@
 -- What a campaign that is not refused is.
 use mathlib.Core.Path.{_≡_, sym, _∙_}
 use mathlib.Core.Bool.{true, not, cond, _&&_}
-use Prim.Native.Nat.{ℕ, min, _≤_}
-use native.Mathlib.Omega.{arith}
+use Prim.Native.Nat.{ℕ, _≤_}
 use lib.ListN.{length}
-use borrow.Author.Tests.{eqb-true}
 use Rattle.order.specs.Order.{ascending}
 use Rattle.order.specs.Lists.{all}
 use Rattle.order.specs.Terms.{Sorted}
@@ -21,9 +19,10 @@ use Rattle.entry.proofs.Rank.{rank-order}
 use Rattle.entry.proofs.Results.{length-entries}
 use Rattle.campaign.specs.declared.Campaign.{Campaign}
 use Rattle.campaign.specs.Soundness.{firstEnds, secondEnds, soundEntry, sound, campaignRefusal}
-use Rattle.campaign.specs.Internal.{SoundPlan, soundPlan, rightCount, soundEntries}
-use Rattle.site.proofs.Accepted.{accepted-level, accepted-few, both-accepted}
-use Rattle.campaign.proofs.SoundPlan.{sound-plan}
+use Rattle.campaign.specs.Internal.{soundPlan, soundEntries}
+use Rattle.site.proofs.Accepted.{accepted-level, both-accepted}
+use Rattle.campaign.proofs.SoundPlan.{PlanParts, plan-parts}
+use Rattle.campaign.proofs.EntryCount.{rightCount, count-few}
 use Rattle.campaign.proofs.Sound.{steps}
 
 -- The lists, the plan, room for the entries, and the entries in rank order.
@@ -36,23 +35,23 @@ pub record SoundCampaign (c : Campaign) (a b : Columns) (r : Results) : Type 0 w
 
 module _ (c : Campaign) (a b : Columns) (r : Results) where
   sound-by-tests : (listRefusal a ≡ 0) × (listRefusal b ≡ 0) → sound c (sites a) (sites b) r ≡ true → SoundCampaign c a b r
-  unfolding soundEntries rightCount
+  unfolding soundEntries
   sound-by-tests ok h =
       let p = soundPlan c (length (a .x)) (length (b .x)) in
       let q = roomFor (c .k) r in
-      let n = rightCount c (sites a) (sites b) in
       let o = ascending rankBefore (entriesOf (c .entries) r) in
       let e = all (soundEntry (c .marks) (firstEnds c) (secondEnds c) (sites a) (sites b)) (entriesOf (c .entries) r) in
-      let t : (p && (q && (n && (o && e)))) ≡ true =
+      let n = rightCount c (sites a) (sites b) in
+      let t : (p && (q && (o && e && n))) ≡ true =
       sym (steps c a b r (accepted-level a (ok .0)) (accepted-level b (ok .1))) ∙ h in
-      let u = and-second p (q && (n && (o && e))) t in
-      let v = and-second q (n && (o && e)) u in
+      let u = and-second p (q && (o && e && n)) t in
+      let v = and-second q (o && e && n) u in
       record {
         lists = ok;
-        plan = and-first p (q && (n && (o && e))) t;
-        room = and-first q (n && (o && e)) u;
-        most = omega (arith, eqb-true (c .entries) (min (c .k) _) (and-first n (o && e) v));
-        order = and-first o e (and-second n (o && e) v);
+        plan = and-first p (q && (o && e && n)) t;
+        room = and-first q (o && e && n) u;
+        most = count-few c (sites a) (sites b) (and-second (o && e) n v);
+        order = and-first o e (and-first (o && e) n v);
       }
 
   pub sound-campaign : {q : ℕ} → q ≡ campaignRefusal c a b r → q ≡ 0 → SoundCampaign c a b r
@@ -63,10 +62,8 @@ module _ (c : Campaign) (a b : Columns) (r : Results) where
       (fault-none _ 6 (orElse-second (listsRefusal a b) _ e))
 
   module _ (w : SoundCampaign c a b r) where
-    pub campaign-plan : SoundPlan c
-    campaign-plan =
-        sound-plan c (length (a .x)) (length (b .x)) (accepted-few a (w .lists .0)) (accepted-few b (w .lists .1))
-        (w .plan)
+    pub campaign-parts : PlanParts c (length (a .x)) (length (b .x))
+    campaign-parts = plan-parts c (length (a .x)) (length (b .x)) (w .plan)
 
     pub campaign-sorted : Sorted rankBefore (entriesOf (c .entries) r)
     campaign-sorted = ascends-sorted rank-order (entriesOf (c .entries) r) (ascending-ascends rank-order (entriesOf (c .entries) r) (w .order))

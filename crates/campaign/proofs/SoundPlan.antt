@@ -1,25 +1,28 @@
--- The tests of a campaign's plan, one after another: K, the ends, the marks, and the entry count.
-use mathlib.Core.Path.{_≡_, sym, _∙_}
+-- The tests of a campaign's plan, one after another: K, the ends and the marks; and a job's strips.
+use mathlib.Core.Path.{_≡_, refl, sym, ap₂, _∙_}
 use mathlib.Core.Bool.{Bool, true, false, _&&_}
 use mathlib.Core.List.{List}
-use Prim.Native.Nat.{ℕ, min, _≤_, _<_}
+use Prim.Native.Nat.{ℕ, _≤_, _<_}
 use native.Mathlib.Omega.{arith}
-use lib.Dec.{leb, eqb}
+use lib.Dec.{leb}
+use lib.IntN.{ℤ}
 use lib.ListN.{length, take}
 use lib.Seq.{length-take-le}
-use borrow.Author.Tests.{leb-true, eqb-true}
+use borrow.Author.Tests.{leb-true}
 use Rattle.order.specs.Lists.{keep}
 use Rattle.site.specs.declared.Site.{Site}
+use Rattle.site.specs.Terms.{Coordinates}
 use Rattle.site.proofs.Tests.{and-first, and-second}
 use Rattle.entry.specs.Entry.{lawfulK}
 use Rattle.entry.proofs.Rank.{k-limits}
+use Rattle.sweep.specs.Strip.{strip, pairs}
+use Rattle.sweep.specs.Terms.{StripIn}
 use Rattle.campaign.specs.declared.Campaign.{Campaign}
-use Rattle.campaign.specs.declared.Settled.{Settled}
-use Rattle.campaign.specs.Grid.{lawfulEnds, jobOf, jobs, lawfulMarks, settled, settledJobs, jobsPairs}
+use Rattle.campaign.specs.declared.Strip.{Strip}
+use Rattle.campaign.specs.Grid.{lawfulEnds, stripAt, jobOf, jobs, lawfulMarks, settled, settledJobs, jobPairs}
 use Rattle.campaign.specs.Soundness.{firstEnds, secondEnds}
-use Rattle.campaign.specs.Internal.{stripFrom, stripTo, lawfulSlots, Cutting, Tally, SoundPlan, JobAsked, soundPlan, rightCount}
+use Rattle.campaign.specs.Internal.{stripFrom, stripTo, StripOf, lawfulSlots, JobAsked, soundPlan}
 use Rattle.campaign.proofs.LawfulEnds.{lawful-cut, strip-inside}
-use Rattle.campaign.proofs.Cuts.{lawful-cuts, sampled}
 
 -- ---- the tests in their order
 
@@ -80,16 +83,6 @@ plan-parts c n m h =
       marks = and-second s marks q;
     }
 
-pub sound-plan : (c : Campaign) (n m : ℕ) → n ≤ 65_535 → m ≤ 65_535 → soundPlan c n m ≡ true → SoundPlan c
-sound-plan c n m s t h =
-    let p = plan-parts c n m h in
-    record {
-      rows = p .rows;
-      cols = p .cols;
-      first = lawful-cuts n (firstEnds c) (p .first) s;
-      second = lawful-cuts m (secondEnds c) (p .second) t;
-    }
-
 -- ---- the settled jobs
 
 pub in-use : (ends : List ℕ) (strips : ℕ) → length ends ≡ 32 → strips ≤ 32 → strips ≡ length (take strips ends)
@@ -105,44 +98,11 @@ in-use-below' : (c : Campaign) {t : ℕ} → length (c .«second_ends») ≡ 32 
 unfolding secondEnds
 in-use-below' c l h g = omega (arith, in-use (c .«second_ends») (c .«second_strips») l h)
 
-pub tally-plan : (c : Campaign) (r : Settled) → length (c .«first_ends») ≡ 32 → length (c .«second_ends») ≡ 32 → SoundPlan c
-    → Tally (take (c .«first_strips») (c .«first_ends»)) (take (c .«second_strips») (c .«second_ends»))
-    (keep (settled (c .marks)) (jobs (length (take (c .«first_strips») (c .«first_ends»))) (length (take (c .«second_strips») (c .«second_ends»))))) r
-    → Tally (firstEnds c) (secondEnds c) (settledJobs c) r
+pub settled-in-use : (c : Campaign) {n m : ℕ} → length (c .«first_ends») ≡ 32 → length (c .«second_ends») ≡ 32 → PlanParts c n m
+    → settledJobs c ≡ keep (settled (c .marks)) (jobs (length (firstEnds c)) (length (secondEnds c)))
 unfolding firstEnds secondEnds settledJobs
-tally-plan c r f s p t =
-    rw (← in-use (c .«first_ends») (c .«first_strips») f (p .rows), ← in-use (c .«second_ends») (c .«second_strips») s (p .cols)) at t
-
--- ---- the entry count
-
--- The settled jobs' pair total.
-abbrev total : Campaign → List Site → List Site → ℕ
-total c a b = length (jobsPairs (firstEnds c) (secondEnds c) a b (settledJobs c))
-
-module _ (c : Campaign) (r : Settled) (t : Tally (firstEnds c) (secondEnds c) (settledJobs c) r) where
-  pub count-k : c .k ≤ r .pairs → Cutting (firstEnds c) (secondEnds c)
-      (λ a b. eqb (c .entries) (c .k) ≡ rightCount c a b)
-  unfolding rightCount
-  count-k h = record {
-    cut = λ a b f g. let e : min (c .k) (total c a b) ≡ c .k = omega (arith, t .pairs .cut a b f g) in rw e;
-  }
-
-  pub count-total : r .pairs < c .k → Cutting (firstEnds c) (secondEnds c)
-      (λ a b. eqb (c .entries) (r .pairs) ≡ rightCount c a b)
-  unfolding rightCount
-  count-total h = record {
-    cut = λ a b f g. let e : min (c .k) (total c a b) ≡ r .pairs = omega (arith, t .pairs .cut a b f g) in rw e;
-  }
-
--- The right count is at most K.
-pub count-few : (c : Campaign) (n m : ℕ) → soundPlan c n m ≡ true → {q : Bool} → Cutting (firstEnds c) (secondEnds c)
-    (λ a b. q ≡ rightCount c a b)
-    → q ≡ true → c .entries ≤ c .k
-unfolding rightCount
-count-few c n m h w t =
-    let p = plan-parts c n m h in
-    let s = sampled n m (p .first) (p .second) w in
-    omega (arith, eqb-true (c .entries) (min (c .k) (total c (s .0) (s .1))) (sym (s .4) ∙ t))
+settled-in-use c f s p =
+    rw (← in-use (c .«first_ends») (c .«first_strips») f (p .rows), ← in-use (c .«second_ends») (c .«second_strips») s (p .cols)) refl
 
 -- ---- a job's strips
 
@@ -164,3 +124,38 @@ module _ {c : Campaign} {n m s t : ℕ} (w : JobAsked c n m (jobOf s t)) where
   second-strip long =
       strip-inside (lawful-cut m (secondEnds c) (asked-parts .second)) t
       (in-use-below' c long (asked-parts .cols) (w .column))
+
+module _ (c : Campaign) {s t : ℕ} {p q : Strip} (is : StripOf (take (c .«first_strips») (c .«first_ends»)) s p)
+    (js : StripOf (take (c .«second_strips») (c .«second_ends»)) t q) where
+  -- The strips of a job by their places.
+  pub places : {n m : ℕ} → JobAsked c n m (jobOf s t) → length (c .«first_ends») ≡ 32 → length (c .«second_ends») ≡ 32
+      → (p .from < p .to) × (p .to ≤ n) × (q .from < q .to) × (q .to ≤ m)
+  unfolding firstEnds secondEnds
+  places w long long' =
+      let f = first-strip w long in
+      let g = second-strip w long' in (
+        omega (arith, f, is .from, is .to),
+        omega (arith, f, is .to),
+        omega (arith, g, js .from, js .to),
+        omega
+            (arith, g, js .to),
+      )
+
+  pub strips-in : {ax ay bx by : List ℤ} → Coordinates ax ay → Coordinates bx by → JobAsked c (length ax) (length bx) (jobOf s t)
+      → length (c .«first_ends») ≡ 32 → length (c .«second_ends») ≡ 32
+      → StripIn ax ay (p .from) (p .to) × StripIn bx by (q .from) (q .to)
+  strips-in h g w long long' =
+      let l = places w long long' in (
+        record { lawful = h; range = omega (arith, l .0); inside = l .1 },
+        record { lawful = g; range = omega (arith, l .2); inside = l .3 },
+      )
+
+  pub strips-are : (a b : List Site) → (strip (p .from) (p .to) a ≡ stripAt (firstEnds c) a s) ×
+      (strip (q .from) (q .to) b ≡ stripAt (secondEnds c) b t)
+  unfolding stripAt stripFrom stripTo firstEnds secondEnds
+  strips-are a b = (rw (is .from, is .to), rw (js .from, js .to))
+
+  pub pairs-are : (a b : List Site)
+      → pairs (strip (p .from) (p .to) a) (strip (q .from) (q .to) b) ≡ jobPairs (firstEnds c) (secondEnds c) a b (jobOf s t)
+  unfolding jobPairs
+  pairs-are a b = ap₂ pairs (strips-are a b .0) (strips-are a b .1)

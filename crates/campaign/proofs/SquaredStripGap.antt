@@ -11,11 +11,12 @@ use lib.ListN.{getD}
 use Rattle.order.specs.Lists.{All, last}
 use Rattle.order.specs.Terms.{Sorted}
 use Rattle.order.proofs.Order.{byTest}
-use Rattle.order.proofs.Lists.{all-weaken}
+use Rattle.order.proofs.Lists.{all-weaken, all-keep}
 use Rattle.site.specs.Site.{gap, square}
 use Rattle.site.proofs.Integers.{lt-le, le-refl, le-trans as leZ-trans}
 use Rattle.site.proofs.Distance.{gap-sym, gap-grows, gap-shrinks, square-le, squared-gap-x}
-use Rattle.sweep.specs.Strip.{Placed, pair, pairs}
+use Rattle.entry.specs.Entry.{apart}
+use Rattle.sweep.specs.Strip.{Placed, pair, product, pairs}
 use Rattle.sweep.proofs.Geometry.{not-left}
 use Rattle.sweep.proofs.LeftOf.{leftOf}
 use Rattle.sweep.proofs.ProductLaws.{all-product}
@@ -106,4 +107,5 @@ module _ (p q : List Placed) where
   pub pairs-far : Sorted leftOf p → Sorted leftOf q → All (λ e. squaredStripGap p q ≤ e .distance) (pairs p q)
   unfolding pairs
   pairs-far sp sq =
-      all-product pair (λ e. squaredStripGap p q ≤ e .distance) p q (rows-far sq p (from-first p sp) (to-last p sp))
+      all-keep apart (λ e. squaredStripGap p q ≤ e .distance) (product pair p q)
+      (all-product pair (λ e. squaredStripGap p q ≤ e .distance) p q (rows-far sq p (from-first p sp) (to-last p sp)))

@@ -2,22 +2,21 @@
 use mathlib.Core.Path.{_≡_}
 use mathlib.Core.Bool.{true, Bool, _&&_, _||_}
 use mathlib.Core.List.{List, _∷_}
-use Prim.Native.Nat.{ℕ, _/_, _%_, min, _≤_, _<_}
+use Prim.Native.Nat.{ℕ, _/_, _%_, _≤_, _<_}
 use lib.Dec.{leb, ltb, eqb}
-use lib.ListN.{length, getD, take}
+use lib.ListN.{getD, take}
 use lib.IntN.{ℤ}
 use denote.Ref.{RefT}
 use Rattle.order.specs.Order.{ascending}
-use Rattle.order.specs.Lists.{all, last}
+use Rattle.order.specs.Lists.{all}
 use Rattle.column.specs.Lent.{Lent}
 use Rattle.site.specs.declared.Site.{Site}
 use Rattle.site.specs.Terms.{Coordinates, Numbered}
 use Rattle.entry.specs.Entry.{rankBefore, lawfulK}
 use Rattle.entry.specs.Results.{Results, entriesOf, roomFor}
-use Rattle.campaign.specs.declared.Settled.{Settled}
 use Rattle.campaign.specs.declared.Strip.{Strip}
 use Rattle.campaign.specs.declared.Campaign.{Campaign}
-use Rattle.campaign.specs.Grid.{lawfulEnds, Job, settledJobs, jobsPairs, lawfulMarks}
+use Rattle.campaign.specs.Grid.{lawfulEnds, Job, lawfulMarks}
 use Rattle.campaign.specs.Soundness.{firstEnds, secondEnds, soundEntry}
 
 -- The coordinate columns of two lawful lists.
@@ -30,10 +29,6 @@ abbrev pub NumberedLent :
 NumberedLent ax ay bx by holds =
     Numbered (ax .entry .now) (ay .entry .now) (bx .entry .now) (by .entry .now) holds
 
--- The last of the ends, or 0 where there are none.
-abbrev pub lastEnd : List ℕ → ℕ
-lastEnd ends = last 0 ends
-
 -- Where strip `s` starts, and where it ends.
 unfoldable pub stripFrom : List ℕ → ℕ → ℕ
 stripFrom ends s = getD (0 ∷ ends) s 0
@@ -41,24 +36,10 @@ stripFrom ends s = getD (0 ∷ ends) s 0
 unfoldable pub stripTo : List ℕ → ℕ → ℕ
 stripTo ends s = getD ends s 0
 
--- Ends that are lawful for some list.
-pub record Cuts (ends : List ℕ) : Type 0 where
-  pub lawful : lawfulEnds (lastEnd ends) ends ≡ true
-  pub size : lastEnd ends ≤ 65_535
-
 -- A strip by its places.
 pub record StripOf (ends : List ℕ) (s : ℕ) (r : Strip) : Type 0 where
   pub from : r .from ≡ stripFrom ends s
   pub to : r .to ≡ stripTo ends s
-
--- What holds of two lists, whichever they are, that the ends cut.
-pub record Cutting (ends ends' : List ℕ) (holds : List Site → List Site → Type 0) : Type 0 where
-  pub cut : (a b : List Site) → lawfulEnds (length a) ends ≡ true → lawfulEnds (length b) ends' ≡ true → holds a b
-
--- How many jobs there are in `l`, and how many pairs they have.
-pub record Tally (ends ends' : List ℕ) (l : List Job) (r : Settled) : Type 0 where
-  pub jobs : r .jobs ≡ length l
-  pub pairs : Cutting ends ends' (λ a b. r .pairs ≡ length (jobsPairs ends ends' a b l))
 
 -- What holds of two lists with these x, whatever else their sites have.
 pub record Across (ax bx : List ℤ) (holds : List Site → List Site → Type 0) : Type 0 where
@@ -80,21 +61,10 @@ soundPlan c n m =
     && (lawfulSlots m (c .«second_strips») (c .«second_ends»)
     && lawfulMarks (c .«first_strips») (c .«second_strips») 0 (c .marks)))
 
--- The entry count is the lesser of K and the settled jobs' pair total.
-unfoldable pub rightCount : Campaign → List Site → List Site → Bool
-rightCount c a b = eqb (c .entries) (min (c .k) (length (jobsPairs (firstEnds c) (secondEnds c) a b (settledJobs c))))
-
 -- The columns have room for the entries.
 pub record Room (k count : ℕ) (r : Results) : Type 0 where
   pub room : roomFor k r ≡ true
   pub most : count ≤ k
-
--- The plan of a campaign has no fault, for lists of at most 65,535 sites.
-pub record SoundPlan (c : Campaign) : Type 0 where
-  pub rows : c .«first_strips» ≤ 32
-  pub cols : c .«second_strips» ≤ 32
-  pub first : Cuts (firstEnds c)
-  pub second : Cuts (secondEnds c)
 
 -- A job of a campaign whose plan has no fault for lists of `n` and `m` sites.
 pub record JobAsked (c : Campaign) (n m : ℕ) (j : Job) : Type 0 where

@@ -12,7 +12,7 @@ use Rattle.site.specs.Site.{squaredDistance}
 use Rattle.site.specs.SiteList.{Columns, sites, siteAt}
 use Rattle.site.specs.Refusal.{listsRefusal}
 use Rattle.entry.specs.declared.Entry.{Entry}
-use Rattle.entry.specs.Entry.{rankBefore, lawfulK}
+use Rattle.entry.specs.Entry.{rankBefore, lawfulK, apart}
 use Rattle.entry.specs.Results.{Results, entriesOf, roomFor}
 use Rattle.campaign.specs.declared.Campaign.{Campaign}
 use Rattle.campaign.specs.Grid.{lawfulEnds, stripHolding, jobOf, settled, settledJobs, lawfulMarks, jobsPairs}
@@ -24,13 +24,14 @@ firstEnds c = take (c .«first_strips») (c .«first_ends»)
 unfoldable pub secondEnds : Campaign → List ℕ
 secondEnds c = take (c .«second_strips») (c .«second_ends»)
 
--- "with a place outside its list, a wrong squared distance or an unsettled job": an entry with no such fault.
+-- "with a place outside its list, a wrong squared distance or an unsettled job", or "at 0": an entry with no such fault.
 unfoldable pub soundEntry : List ℕ → List ℕ → List ℕ → List Site → List Site → Entry → Bool
 soundEntry marks ends ends' a b e =
     ltb (e .first) (length a)
     && (ltb (e .second) (length b)
+    && (apart e
     && (eqb (e .distance) (squaredDistance (siteAt a (e .first)) (siteAt b (e .second)))
-    && settled marks (jobOf (stripHolding ends (e .first)) (stripHolding ends' (e .second)))))
+    && settled marks (jobOf (stripHolding ends (e .first)) (stripHolding ends' (e .second))))))
 
 -- A campaign and result columns with none of the faults of refusal 7, in the order of 01's words.
 unfoldable pub sound : Campaign → List Site → List Site → Results → Bool

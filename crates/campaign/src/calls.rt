@@ -5,6 +5,7 @@ use super::Opened;
 use super::Outcome;
 use super::Status;
 use super::jobs;
+use super::marks;
 use super::opening;
 use super::soundness;
 use sweep::Way;
@@ -94,8 +95,9 @@ pub fn status(
     if refused != 0 {
         return Status::Refused(refused);
     }
+    let marks = c.marks;
     Status::Counts {
-        settled: soundness::settled(c).jobs,
+        settled: marks::settled_jobs(&marks, c.first_strips as usize, c.second_strips as usize),
         jobs: c.first_strips * c.second_strips,
         entries: c.entries,
         k: c.k,

@@ -1,11 +1,11 @@
 // Cut ends of a list: whether they are lawful, the strip that holds a place, and the slots that keep them.
 use super::Strip;
 ghost use mathlib.Core.Path.{_≡_};
-ghost use Prim.Native.Nat.{_-_, _≤_, _<_};
+ghost use Prim.Native.Nat.{_≤_, _<_};
 ghost use lib.ListN.{length, take};
 ghost use Rattle.campaign.specs.Grid.{lawfulEnds, stripHolding};
 ghost use Rattle.campaign.specs.Calls.{slots};
-ghost use Rattle.campaign.specs.Internal.{lawfulSlots, stripFrom, stripTo, Cuts, StripOf};
+ghost use Rattle.campaign.specs.Internal.{lawfulSlots, stripFrom, stripTo, StripOf};
 
 // Whether cut ends are lawful for a list of `n` sites.
 pub(super) fn lawful(n: usize, ends: &[u32]) -> bool
@@ -94,12 +94,4 @@ pub(super) fn strip(slots: [u32; 32], used: u32, s: u32) -> Strip
         from: from as usize,
         to: to as usize,
     }
-}
-
-// How many sites a strip has.
-pub(super) fn width(ends: &[u32], s: usize) -> u64
-    requires { ⌜ Cuts (now ends) × (s < length (now ends)) ⌝ }
-    ensures { λ r. ⌜ r ≡ stripTo (now (ends .entry)) s - stripFrom (now (ends .entry)) s ⌝ }
-{
-    (to(ends, s) - from(ends, s)) as u64
 }

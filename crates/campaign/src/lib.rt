@@ -6,6 +6,7 @@ mod marks;
 mod opening;
 mod soundness;
 mod strips;
+mod totals;
 
 use sweep::Distances;
 use sweep::Looks;
@@ -19,12 +20,6 @@ pub struct Campaign {
     pub first_ends: [u32; 32],
     pub second_ends: [u32; 32],
     pub marks: [u8; 1024],
-}
-
-// How many jobs are settled, and how many pairs they have.
-struct Settled {
-    jobs: u32,
-    pairs: u64,
 }
 
 // Where a strip starts and ends.

@@ -1,13 +1,11 @@
 // Marks: whether they are lawful, reading and setting one, and how many jobs are settled.
-use super::Settled;
-use super::ends;
 ghost use mathlib.Core.Path.{_≡_};
 ghost use mathlib.Core.List.{map};
 ghost use Prim.Native.Nat.{_≤_, _<_};
 ghost use lib.ListN.{length};
 ghost use Rattle.order.specs.Lists.{keep};
 ghost use Rattle.campaign.specs.Grid.{jobOf, countFrom, jobs, lawfulMarks, settled, settle};
-ghost use Rattle.campaign.specs.Internal.{lawfulMark, Cuts, Tally};
+ghost use Rattle.campaign.specs.Internal.{lawfulMark};
 
 // Whether mark `i` is 0, or 1 at a job.
 fn lawful_at(mark: u8, i: usize, rows: usize, cols: usize) -> bool
@@ -62,46 +60,32 @@ pub(super) fn settle(marks: [u8; 1024], a: usize, b: usize) -> [u8; 1024]
     settled
 }
 
-// The settled jobs of a strip of the first list.
-fn row(marks: &[u8], first_ends: &[u32], a: usize, second_ends: &[u32]) -> Settled
-    requires { ⌜ Cuts (now «first_ends») × Cuts (now «second_ends») × (a < length (now «first_ends»)) ⌝ }
-    ensures { λ r.
-        let first = now («first_ends» .entry) in
-        let second = now («second_ends» .entry) in
-        let row = keep (settled (now (marks .entry))) (map (jobOf a) (countFrom 0 (length second))) in
-        ⌜ Tally first second row r ⌝ }
+// How many jobs of a strip of the first list are settled.
+fn row(marks: &[u8], a: usize, cols: usize) -> u32
+    requires { ⌜ (a ≤ 32) × (cols ≤ 32) ⌝ }
+    ensures { λ r. ⌜ r ≡ length (keep (settled (now (marks .entry))) (map (jobOf a) (countFrom 0 cols))) ⌝ }
 {
-    let width = ends::width(first_ends, a);
-    let mut jobs: u32 = 0;
-    let mut pairs: u64 = 0;
+    let mut count: u32 = 0;
     let mut b = 0;
-    while b < second_ends.len() {
+    while b < cols {
         if is_settled(marks, a, b) {
-            jobs += 1;
-            pairs += width * ends::width(second_ends, b);
+            count += 1;
         }
         b += 1;
     }
-    Settled { jobs, pairs }
+    count
 }
 
-// The settled jobs.
-pub(super) fn tally(marks: &[u8], first_ends: &[u32], second_ends: &[u32]) -> Settled
-    requires { ⌜ Cuts (now «first_ends») × Cuts (now «second_ends») ⌝ }
-    ensures { λ r.
-        let first = now («first_ends» .entry) in
-        let second = now («second_ends» .entry) in
-        let grid = jobs (length first) (length second) in
-        ⌜ Tally first second (keep (settled (now (marks .entry))) grid) r ⌝ }
+// How many jobs are settled.
+pub(super) fn settled_jobs(marks: &[u8], rows: usize, cols: usize) -> u32
+    requires { ⌜ (rows ≤ 32) × (cols ≤ 32) ⌝ }
+    ensures { λ r. ⌜ r ≡ length (keep (settled (now (marks .entry))) (jobs rows cols)) ⌝ }
 {
-    let mut jobs: u32 = 0;
-    let mut pairs: u64 = 0;
+    let mut count: u32 = 0;
     let mut a = 0;
-    while a < first_ends.len() {
-        let found = row(marks, first_ends, a, second_ends);
-        jobs += found.jobs;
-        pairs += found.pairs;
+    while a < rows {
+        count += row(marks, a, cols);
         a += 1;
     }
-    Settled { jobs, pairs }
+    count
 }

@@ -1,8 +1,8 @@
 // Refusal 7: whether a campaign and the columns that hold its entries have a fault.
 use super::Campaign;
-use super::Settled;
 use super::ends;
 use super::marks;
+use super::totals;
 use entry::Entry;
 ghost use mathlib.Core.Path.{_≡_};
 ghost use mathlib.Core.Bool.{true};
@@ -14,19 +14,14 @@ ghost use Rattle.site.specs.Site.{squaredDistance};
 ghost use Rattle.site.specs.SiteList.{siteAt, lentList};
 ghost use Rattle.entry.specs.Entry.{rankBefore};
 ghost use Rattle.entry.specs.Results.{results, entriesOf, roomFor, lentResults};
-ghost use Rattle.campaign.specs.Grid.{settledJobs};
 ghost use Rattle.campaign.specs.Internal.{
   BothCoordinates,
   NumberedLent,
-  Cutting,
-  Tally,
   Room,
-  SoundPlan,
   soundPlan,
-  rightCount,
   soundEntries,
 };
-ghost use Rattle.campaign.specs.Soundness.{firstEnds, secondEnds, soundEntry, sound, campaignRefusal};
+ghost use Rattle.campaign.specs.Soundness.{soundEntry, sound, campaignRefusal};
 
 // The squared distance of the sites at two places.
 fn distance_at(ax: &[i32], ay: &[i32], bx: &[i32], by: &[i32], i: usize, j: usize) -> u64
@@ -80,6 +75,9 @@ fn sound_entry(
         return false;
     }
     if bx.len() <= j {
+        return false;
+    }
+    if e.distance == 0 {
         return false;
     }
     if e.distance != distance_at(ax, ay, bx, by, i, j) {
@@ -144,32 +142,6 @@ fn sound_plan(c: Campaign, n: usize, m: usize) -> bool
     marks::lawful(c.first_strips as usize, c.second_strips as usize, &marks)
 }
 
-// How many jobs of a sound plan are settled, and how many pairs they have.
-pub(super) fn settled(c: Campaign) -> Settled
-    requires { ⌜ SoundPlan c ⌝ }
-    ensures { λ r. ⌜ Tally (firstEnds c) (secondEnds c) (settledJobs c) r ⌝ }
-{
-    let rows = c.first_strips as usize;
-    let cols = c.second_strips as usize;
-    let first_ends = c.first_ends;
-    let second_ends = c.second_ends;
-    let marks = c.marks;
-    marks::tally(&marks, &first_ends[..rows], &second_ends[..cols])
-}
-
-// Whether the entry count is the lesser of K and the settled jobs' pair total.
-fn right_count(c: Campaign) -> bool
-    requires { ⌜ SoundPlan c ⌝ }
-    ensures { λ r. ⌜ Cutting (firstEnds c) (secondEnds c) (λ a b. r ≡ rightCount c a b) ⌝ }
-{
-    let total = settled(c).pairs;
-    if (c.k as u64) <= total {
-        c.entries == c.k
-    } else {
-        (c.entries as u64) == total
-    }
-}
-
 // Whether the entries stand in order and have no fault.
 fn sound_entries(
     c: Campaign,
@@ -182,7 +154,7 @@ fn sound_entries(
     second: &[u32],
 ) -> bool
     requires { ⌜ BothCoordinates ax ay bx by ⌝ }
-    requires { ⌜ SoundPlan c ⌝ }
+    requires { ⌜ (c .«first_strips» ≤ 32) × (c .«second_strips» ≤ 32) ⌝ }
     requires { ⌜ Room (c .k) (c .entries) (results (now distance) (now first) (now second)) ⌝ }
     ensures { λ r.
         let l = lentResults distance first second .entry in
@@ -215,7 +187,8 @@ fn sound_entries(
     )
 }
 
-// Whether a campaign and the result columns have no fault, for lists that were accepted.
+// Whether a campaign and the result columns have no fault, for lists that were accepted. K entries with no fault are K
+// pairs of settled jobs: where they are held, no pair is counted.
 fn sound(
     c: Campaign,
     ax: &[i32],
@@ -237,10 +210,16 @@ fn sound(
     if !entry::room(c.k as usize, distance, first, second) {
         return false;
     }
-    if !right_count(c) {
+    if c.k < c.entries {
         return false;
     }
-    sound_entries(c, ax, ay, bx, by, distance, first, second)
+    if !sound_entries(c, ax, ay, bx, by, distance, first, second) {
+        return false;
+    }
+    if c.entries == c.k {
+        return true;
+    }
+    c.entries as u64 == totals::settled_pairs(c, ax, ay, bx, by)
 }
 
 // The refusal of a campaign, its lists and its columns; 0 for none.

@@ -9,9 +9,9 @@ use Rattle.site.specs.Answer.{afterwards, answerUnless, orElse}
 use Rattle.site.specs.Refusal.{contentRefusal, equalLengths, listRefusal, listsRefusal, sizeFault}
 use Rattle.site.specs.Site.{gap, lawfulSite, siteBefore, square, squaredDistance, within}
 use Rattle.site.specs.SiteList.{columnsOf, siteAt, sites}
-use Rattle.entry.specs.Entry.{bestK, lastDistance, lawfulK, offer, rankBefore}
+use Rattle.entry.specs.Entry.{apart, bestK, lastDistance, lawfulK, offer, rankBefore}
 use Rattle.entry.specs.Results.{entriesOf, holding, roomFor}
-use Rattle.sweep.specs.Scan.{beyond, scan}
+use Rattle.sweep.specs.Scan.{beyond, scan, taken}
 use Rattle.sweep.specs.Strip.{pair, pairs, placedFrom, product, strip, whole}
 use Rattle.sweep.specs.Sweep.{classicOver, leads, look, reverseOver, sweep}
 use Rattle.pairs.specs.DistanceList.{distanceList}
@@ -23,11 +23,12 @@ use Rattle.demands.specs.Examples.{examples, ExamplesHold, figures, plac
 
 pub examples-hold : ExamplesHold
 unfolding
-    afterJob afterwards all answerUnless ascending bestK beyond campaignRefusal classicOver columnsOf contentRefusal
+    afterJob afterwards all answerUnless apart ascending bestK beyond campaignRefusal classicOver columnsOf contentRefusal
     countFrom distanceList entriesOf equalLengths examples ExamplesHold figures firstEnds flatMap gap holding insert
     jobAnswer jobEntries jobPairs jobRefusal jobs jobsPairs keep kList last lastDistance lawfulEnds lawfulK
     lawfulMarks lawfulSite leads lex listRefusal listsRefusal look markOf newCampaign offer openAnswer openRefusal
     orElse overwritten pair pairs placedFrom places product rangeGap rankBefore reverseOver roomFor run scan
     secondEnds settled settledJobs siteAt siteBefore sites sizeFault skips slots sort sound soundEntry square
-    squaredDistance squaredStripGap statusAnswer steps strip stripAt stripHolding sum sweep whole within zipWith
+    squaredDistance squaredStripGap statusAnswer steps strip stripAt stripHolding sum sweep taken whole within
+    zipWith
 examples-hold = refl

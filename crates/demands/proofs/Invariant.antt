@@ -102,6 +102,7 @@ module _ (a b : Columns) (bench : Bench) (book : Book) (i : Invariant a b bench 
       simp (
         lt-ltb (e .first) (length (sites a)) (o .first),
         lt-ltb (e .second) (length (sites b)) (o .second),
+        o .counts,
         eq-eqb _ _ (o .distance),
         o .holding,
         o .holding',

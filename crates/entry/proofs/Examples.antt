@@ -1,9 +1,10 @@
--- Examples of the rank: what M1 to M10 do not tell apart.
+-- Examples of the rank and of what a pair is: what M1 to M10 do not tell apart.
 use mathlib.Core.Path.{_≡_, refl}
+use mathlib.Core.Bool.{true, false}
 use mathlib.Core.List.{[], _∷_}
 use Rattle.order.specs.Sort.{insert, sort}
 use Rattle.order.specs.Order.{lex}
-use Rattle.entry.specs.Entry.{entry, rankBefore, bestK, offer}
+use Rattle.entry.specs.Entry.{entry, rankBefore, apart, bestK, offer}
 
 -- At equal distance the smaller first place comes first, and only then the smaller second place.
 ties : bestK 4 (entry 9 1 0 ∷ entry 1 1 1 ∷ entry 9 0 1 ∷ entry 1 0 0 ∷ []) ≡ entry 1 0 0 ∷ entry 1 1 1 ∷ entry 9 0 1 ∷ entry 9 1 0 ∷ []
@@ -18,3 +19,8 @@ second-places = refl
 drops : offer 2 (entry 4 7 7) (entry 1 0 0 ∷ entry 9 0 1 ∷ []) ≡ entry 1 0 0 ∷ entry 4 7 7 ∷ []
 unfolding lex insert rankBefore offer
 drops = refl
+
+-- Co-sited cells are no pair; anything further apart is one.
+co-sited : (apart (entry 0 3 4) ≡ false) × (apart (entry 1 3 3) ≡ true)
+unfolding apart
+co-sited = (refl, refl)

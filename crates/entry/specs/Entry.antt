@@ -16,6 +16,10 @@ entry distance first second = record { distance = distance; first = first; secon
 unfoldable pub rankBefore : Entry → Entry → Bool
 rankBefore = lex (on ltb (λ e. e .distance)) (lex (on ltb (λ e. e .first)) (on ltb (λ e. e .second)))
 
+-- "two cells at one x and y aren't a handover case": a pair is "at squared distance 1 or more". (02 d: co-sited cells.)
+unfoldable pub apart : Entry → Bool
+apart e = leb 1 (e .distance)
+
 -- "K is 1 to 4,096."
 unfoldable pub lawfulK : ℕ → Bool
 lawfulK k = leb 1 k && leb k 4_096

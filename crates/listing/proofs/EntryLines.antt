@@ -3,13 +3,10 @@ use mathlib.Core.Path.{_≡_, refl, _∙_}
 use mathlib.Core.Bool.{true}
 use mathlib.Core.List.{List, [], _∷_, _++_}
 use Prim.Native.Nat.{ℕ, suc, _+_, _*_, _≤_, _<_}
-use native.Mathlib.Nat.{mul-le-mul}
 use native.Mathlib.Numerals.{add-one}
 use native.Mathlib.Omega.{arith}
 use lib.ListN.{length, drop, length-append, drop-of-length-le}
 use lib.Seq.{drop-cons}
-use mir.Syntax.{w64}
-use mir.Val.{Fits}
 use Rattle.entry.specs.declared.Entry.{Entry}
 use Rattle.entry.specs.Entry.{entry}
 use Rattle.entry.specs.Terms.{entryAt}
@@ -99,20 +96,16 @@ module _ (a b : ℕ → ℕ) (count : ℕ) (r : Results) (at : ℕ) (before : Li
       let none = drop-of-length-le (entriesOf count r) {i = i} (omega (arith, size (w .enough))) in
       writing-ends (rw (none, lines-none a b (suc i)) at (w .writing))
 
--- The number of all pairs of two lawful lists fits 64 bits.
-pub total-fits : {n m : ℕ} → n ≤ 65_535 → m ≤ 65_535 → Fits w64 (n * m)
-total-fits {n} {m} p q = let most : n * m ≤ 65_535 * 65_535 = mul-le-mul p q in record { fits = omega arith }
-
 pub heading-next : (a b : ℕ) {at next : ℕ} {before after : List ℕ} → Put at (heading a b) before after next
     → next ≤ at + 51
 heading-next a b p = omega (arith, p .position, heading-length a b)
 
 -- The first line and the lines of the entries.
-pub text-put : (an bn : List ℕ) (count : ℕ) (r : Results) {p z : ℕ} {before l m : List ℕ} → roomFor count r ≡ true
-    → 51 ≤ length before → Put 0 (heading count (length an * length bn)) before l p
+pub text-put : (an bn : List ℕ) (total count : ℕ) (r : Results) {p z : ℕ} {before l m : List ℕ} → roomFor count r ≡ true
+    → 51 ≤ length before → Put 0 (heading count total) before l p
     → Put p (entryLines (numberAt an) (numberAt bn) 1 (entriesOf count r)) l m z
-    → Put 0 (entriesText an bn (entriesOf count r)) before m z
+    → Put 0 (entriesText an bn total (entriesOf count r)) before m z
 unfolding entriesText
-text-put an bn count r enough h one two =
+text-put an bn total count r enough h one two =
     rw (length-entries count count r enough (omega arith))
-    (put-then one two (omega (arith, heading-length count (length an * length bn))))
+    (put-then one two (omega (arith, heading-length count total)))

@@ -2,6 +2,7 @@
 use mathlib.Core.Path.{_≡_, refl}
 use mathlib.Core.List.{List, [], _∷_, _++_, flatMap}
 use Prim.Native.Nat.{ℕ}
+use lib.IntN.{pos}
 use lib.ListN.{take, drop, replicate}
 use Rattle.listing.specs.Decimal.{powersBelow, decimal}
 use Rattle.listing.specs.Listing.{bytes, line, entryLines, listingText, refusedText, listingRefusal, listing}
@@ -9,13 +10,13 @@ use Rattle.site_file.specs.Bytes.{word, signed}
 use Rattle.site_file.specs.File.{startIn, countIn, siteIn, sitesFrom, sitesIn}
 use Rattle.site_file.specs.Calls.{contentsRefusal, readRefusal}
 use Rattle.site.specs.Answer.{orElse}
-use Rattle.site.specs.SiteList.{siteAt}
+use Rattle.site.specs.SiteList.{site, siteAt}
 use Rattle.site.specs.Refusal.{contentRefusal}
 use Rattle.site.specs.Site.{within, lawfulSite, gap, square, squaredDistance, siteBefore}
 use Rattle.order.specs.Lists.{keep, all, sum}
 use Rattle.order.specs.Order.{lex, ascending}
 use Rattle.order.specs.Sort.{insert, sort}
-use Rattle.entry.specs.Entry.{rankBefore, bestK, lawfulK}
+use Rattle.entry.specs.Entry.{rankBefore, apart, bestK, lawfulK}
 use Rattle.sweep.specs.Strip.{placedFrom, whole, pair, product, pairs}
 use Rattle.pairs.specs.KList.{kList}
 
@@ -45,10 +46,18 @@ unfolding
     sampleInput sampleText bytes powersBelow decimal keep line siteAt entryLines listingText refusedText
     listingRefusal listing word signed startIn countIn siteIn sitesFrom sitesIn contentsRefusal readRefusal orElse
     contentRefusal within lawfulSite gap square squaredDistance siteBefore all sum lex ascending insert sort
-    rankBefore kList bestK placedFrom whole pair product flatMap pairs lawfulK
+    rankBefore apart kList bestK placedFrom whole pair product flatMap pairs lawfulK
 listings = (refl, refl, refl, refl)
 
 -- An input that is too long, whatever it holds.
 too-long : listing (replicate 48_021 0) ≡ refusedText 6
 unfolding listing listingRefusal orElse
 too-long = refl
+
+-- A pair of co-sited cells is neither listed nor counted; where all sites stand at one position, there is none.
+co-sited : (listingText 1 (site (pos 0) (pos 0) 5 ∷ []) (site (pos 0) (pos 0) 6 ∷ site (pos 3) (pos 4) 7 ∷ []) ≡ bytes "pairs 1 of 1\n1 25 5 7\n")
+    × (listingText 9 (site (pos 2) (pos 3) 5 ∷ site (pos 2) (pos 3) 6 ∷ []) (site (pos 2) (pos 3) 5 ∷ []) ≡ bytes "pairs 0 of 0\n")
+unfolding
+    bytes powersBelow decimal keep line siteAt entryLines listingText gap square squaredDistance sum lex insert sort
+    rankBefore apart kList bestK placedFrom whole pair product flatMap pairs
+co-sited = (refl, refl)

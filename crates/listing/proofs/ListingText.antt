@@ -10,11 +10,11 @@ use lib.Dec.{ltb}
 use Rattle.order.proofs.Order.{byTest}
 use Rattle.order.proofs.Best.{length-best}
 use Rattle.site.specs.SiteList.{Columns, sites, siteAt}
-use Rattle.site.specs.Terms.{Level}
+use Rattle.site.specs.Terms.{Level, Numbered}
 use Rattle.site.specs.Answer.{orElse}
-use Rattle.site.specs.Refusal.{listRefusal}
+use Rattle.site.specs.Refusal.{listRefusal, listsRefusal}
 use Rattle.site.proofs.Answer.{answered-values, refused-number}
-use Rattle.site.proofs.Accepted.{accepted-level, accepted-few, both-accepted}
+use Rattle.site.proofs.Accepted.{accepted-level, accepted-coordinates, both-accepted}
 use Rattle.site.proofs.SiteList.{nowhere, sites-length, site-at}
 use Rattle.entry.specs.declared.Entry.{Entry}
 use Rattle.entry.specs.Entry.{rankBefore, bestK}
@@ -24,11 +24,12 @@ use Rattle.entry.proofs.Results.{room-fewer, entries-holding, room-holding}
 use Rattle.sweep.specs.declared.Way.{Way}
 use Rattle.sweep.specs.declared.Looks.{Looks}
 use Rattle.sweep.specs.declared.Distances.{Distances}
-use Rattle.sweep.specs.Strip.{allPairs}
-use Rattle.sweep.proofs.Strip.{length-whole-pairs}
+use Rattle.sweep.specs.Strip.{strip, pairs, allPairs}
+use Rattle.sweep.specs.Terms.{StripIn}
 use Rattle.pairs.specs.declared.Listed.{Listed}
 use Rattle.pairs.specs.declared.Listed.the-variants.{Entries, Refused}
 use Rattle.pairs.specs.KList.{kList, kListRefusal, kListAnswer, listedAnswer}
+use Rattle.pairs.proofs.KList.{whole-strip}
 use Rattle.listing.specs.Listing.{entryLines, listingText}
 use Rattle.listing.specs.Internal.{heading, numberAt, entriesText, Put, Lawful}
 
@@ -50,18 +51,38 @@ same-lines a b f g p q rank [] = refl
 same-lines a b f g p q rank (e ∷ l) = rw (p (e .first), q (e .second), same-lines a b f g p q (suc rank) l)
 
 pub listing-text : (k : ℕ) (a b : Columns) → Level a → Level b
-    → listingText k (sites a) (sites b) ≡ entriesText (a .number) (b .number) (kList k (sites a) (sites b))
+    → let total = length (allPairs (sites a) (sites b)) in
+    listingText k (sites a) (sites b) ≡ entriesText (a .number) (b .number) total (kList k (sites a) (sites b))
 unfolding listingText entriesText heading
 listing-text k a b p q =
-    rw (
-      length-whole-pairs (sites a) (sites b),
-      sites-length a p,
-      sites-length b q,
-      p .number,
-      q .number,
-      same-lines (λ i. siteAt (sites a) i .number) (λ i. siteAt (sites b) i .number) (numberAt (a .number))
-          (numberAt (b .number)) (site-number a p) (site-number b q) 1 (kList k (sites a) (sites b)),
-    )
+    rw (same-lines (λ i. siteAt (sites a) i .number) (λ i. siteAt (sites b) i .number) (numberAt (a .number))
+    (numberAt (b .number)) (site-number a p) (site-number b q) 1 (kList k (sites a) (sites b)))
+
+-- ---- how many pairs there are
+
+module _ (a b : Columns) (lists : listsRefusal a b ≡ 0) where
+  both : (listRefusal a ≡ 0) × (listRefusal b ≡ 0)
+  both = both-accepted a b lists
+
+  both-level : Level a × Level b
+  both-level = (accepted-level a (both .0), accepted-level b (both .1))
+
+  -- What the count of all pairs asks, and tells.
+  pub count-asks : StripIn (a .x) (a .y) 0 (length (a .x)) × StripIn (b .x) (b .y) 0 (length (b .x))
+  count-asks = (
+    record { lawful = accepted-coordinates a (both .0); range = omega arith; inside = omega arith },
+    record { lawful = accepted-coordinates b (both .1); range = omega arith; inside = omega arith },
+  )
+
+  abbrev Counted : ℕ → Type 0
+  Counted n =
+      Numbered (a .x) (a .y) (b .x) (b .y)
+      (λ p q. n ≡ length (pairs (strip 0 (length (a .x)) p) (strip 0 (length (b .x)) q)))
+
+  all-counted : {n : ℕ} → Counted n → n ≡ length (allPairs (sites a) (sites b))
+  all-counted w =
+      rw (whole-strip a (both .0), whole-strip b (both .1)) at
+      (w .numbered (a .number) (b .number) (both-level .0) (both-level .1))
 
 -- ---- the K list in the result columns
 
@@ -85,15 +106,6 @@ module _ (way : Way) (a b : Columns) (k : ℕ) (r : Results) {buffer : List ℕ}
   unfolding found kList bestK
   few = omega (arith, k-most, length-best rankBefore k (allPairs (sites a) (sites b)))
 
-  level : (c : Columns) → listRefusal c ≡ 0 → (length (c .number) ≤ 65_535) × Level c
-  level c ok = let l = accepted-level c ok in (omega (arith, l .number, accepted-few c ok), l)
-
-  first : (length (a .number) ≤ 65_535) × Level a
-  first = level a (both-accepted a b (lawful .lists) .0)
-
-  second : (length (b .number) ≤ 65_535) × Level b
-  second = level b (both-accepted a b (lawful .lists) .1)
-
   module _ {l : Listed} (s : Results) (answer : listedAnswer l s ≡ kListAnswer way a b k r) where
     pub never-refused : {n : ℕ} → l ≡ Refused n → ⊥
     unfolding listedAnswer kListAnswer
@@ -107,21 +119,21 @@ module _ (way : Way) (a b : Columns) (k : ℕ) (r : Results) {buffer : List ℕ}
           (ap (λ x. x .results) v, ap (λ x. x .count) v)
 
       -- What the text is written from.
-      pub text-ready : (roomFor count s ≡ true)
-          × ((length (a .number) ≤ 65_535) × (length (b .number) ≤ 65_535) × (51 + 84 * count ≤ length buffer))
+      pub text-ready : (roomFor count s ≡ true) × (51 + 84 * count ≤ length buffer)
       text-ready = (
         rw (values .0, values .1) (room-holding (length found) found r (enough (length found) few) (omega arith)),
-        (first .0, second .0, omega (arith, lawful .room, few, values .1)),
+        omega (arith, lawful .room, few, values .1),
       )
 
-      pub text-written : {z : ℕ} {before after : List ℕ}
-          → Put 0 (entriesText (a .number) (b .number) (entriesOf count s)) before after z
+      pub text-written : {total z : ℕ} {before after : List ℕ} → Counted a b (lawful .lists) total
+          → Put 0 (entriesText (a .number) (b .number) total (entriesOf count s)) before after z
           → Put 0 (listingText k (sites a) (sites b)) before after z
       unfolding found
-      text-written p =
+      text-written {total} all p =
           let same : entriesOf count s ≡ kList k (sites a) (sites b) =
           rw (values .0, values .1) (entries-holding found r) in
-          rw (listing-text k a b (first .1) (second .1), ← same) p
+          let level = both-level a b (lawful .lists) in
+          rw (listing-text k a b (level .0) (level .1), ← same, ← all-counted a b (lawful .lists) all) p
 
 -- Result columns of 4,096 zeros have room.
 pub zeros-room : roomFor 4_096 (results (replicate 4_096 0) (replicate 4_096 0) (replicate 4_096 0)) ≡ true

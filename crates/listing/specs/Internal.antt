@@ -2,7 +2,7 @@
 use mathlib.Core.Path.{_≡_}
 use mathlib.Core.Bool.{true}
 use mathlib.Core.List.{List, [], _∷_, _++_, map}
-use Prim.Native.Nat.{ℕ, _+_, _*_, _/_, _%_, _≤_, _<_}
+use Prim.Native.Nat.{ℕ, _+_, _/_, _%_, _≤_, _<_}
 use lib.ListN.{length, getD}
 use Rattle.column.specs.Column.{stored}
 use Rattle.column.specs.Lent.{Lent}
@@ -33,10 +33,10 @@ entryLine rank distance first second =
 abbrev pub numberAt : List ℕ → ℕ → ℕ
 numberAt numbers place = getD numbers place 0
 
--- The text for some entries of two lists, from their columns of numbers.
-unfoldable pub entriesText : List ℕ → List ℕ → List Entry → List ℕ
-entriesText an bn entries =
-    heading (length entries) (length an * length bn) ++ entryLines (numberAt an) (numberAt bn) 1 entries
+-- The text for some of `total` pairs of two lists, from their columns of numbers.
+unfoldable pub entriesText : List ℕ → List ℕ → ℕ → List Entry → List ℕ
+entriesText an bn total entries =
+    heading (length entries) total ++ entryLines (numberAt an) (numberAt bn) 1 entries
 
 -- The text for the two lists of a file.
 abbrev pub fileText : ℕ → List ℕ → List ℕ

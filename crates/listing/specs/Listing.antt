@@ -37,7 +37,7 @@ entryLines a b rank (e ∷ l) =
     line (decimal rank ∷ decimal (e .distance) ∷ decimal (a (e .first)) ∷ decimal (b (e .second)) ∷ [])
     ++ entryLines a b (suc rank) l
 
--- The text for two lists: "one line, `pairs`, entries, `of` and n × m, then a line per entry".
+-- The text for two lists: "one line, `pairs`, entries, `of`" and how many pairs there are, "then a line per entry".
 unfoldable pub listingText : ℕ → List Site → List Site → List ℕ
 listingText k a b =
     let entries = kList k a b in

@@ -70,7 +70,7 @@ fn put_entries(
     next
 }
 
-// Writes the text for `count` entries of two lists whose numbers are lent: the position past it.
+// Writes the text for `count` of `total` pairs of two lists whose numbers are lent: the position past it.
 pub(super) fn put_text(
     an: &[u32],
     bn: &[u32],
@@ -78,15 +78,15 @@ pub(super) fn put_text(
     first: &[u32],
     second: &[u32],
     count: usize,
+    total: u64,
     out: &mut [u8],
 ) -> usize
     requires { ⌜ roomFor count (results (now distance) (now first) (now second)) ≡ true ⌝ }
-    requires { ⌜ (length (now an) ≤ 65535) × (length (now bn) ≤ 65535) × (51 + 84 * count ≤ length (now out)) ⌝ }
+    requires { ⌜ 51 + 84 * count ≤ length (now out) ⌝ }
     ensures { λ r.
         let l = entriesOf count (lentResults distance first second .entry) in
-        ⌜ Puts 0 (entriesText (now (an .entry)) (now (bn .entry)) l) out r ⌝ }
+        ⌜ Puts 0 (entriesText (now (an .entry)) (now (bn .entry)) total l) out r ⌝ }
 {
-    let total = (an.len() as u64) * (bn.len() as u64);
     let next = line::put_heading(out, 0, count as u64, total);
     put_entries(an, bn, distance, first, second, count, out, next)
 }

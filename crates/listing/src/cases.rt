@@ -44,7 +44,12 @@ fn list_with(
             count,
             looks: _,
             distances: _,
-        } => body::put_text(an, bn, distance, first, second, count as usize, out),
+        } => {
+            let n = ax.len();
+            let m = bx.len();
+            let total = sweep::count_pairs(ax, ay, bx, by, 0, n, 0, m);
+            body::put_text(an, bn, distance, first, second, count as usize, total, out)
+        }
         Listed::Refused(number) => line::put_refused(out, 0, number),
     }
 }

@@ -1,8 +1,8 @@
 -- Small laws of lists: statements and tests of each element, members, permutations, distinct lists, parts, the last, sums, joined lists.
 use mathlib.Core.Path.{_≡_, refl, sym, ap, _∙_, subst⁻¹}
 use mathlib.Core.Logic.{_⊎_, ⊎-elim, _↔_}
-use mathlib.Core.Bool.{Bool, true, false, not}
-use mathlib.Core.List.{List, [], _∷_, _++_, map, zipWith, List·Memᴰ, List·Memᴰ·head, List·Memᴰ·tail, List·Memᴰ·not-nil, List·Memᴰ·cases-cons, List·Memᴰ·append-cases, Memᴰ·append-left, Memᴰ·append-right, Memᴰ·cast, List·Permᴰ, List·Permᴰ·nil, List·Permᴰ·cons, List·Permᴰ·swap, List·Permᴰ·trans, Permᴰ·refl, Permᴰ·symm, Permᴰ·middle}
+use mathlib.Core.Bool.{Bool, true, false, not, _&&_}
+use mathlib.Core.List.{List, [], _∷_, _++_, map, zipWith, append-assoc, List·Memᴰ, List·Memᴰ·head, List·Memᴰ·tail, List·Memᴰ·not-nil, List·Memᴰ·cases-cons, List·Memᴰ·append-cases, Memᴰ·append-left, Memᴰ·append-right, Memᴰ·cast, List·Permᴰ, List·Permᴰ·nil, List·Permᴰ·cons, List·Permᴰ·swap, List·Permᴰ·trans, Permᴰ·refl, Permᴰ·symm, Permᴰ·middle}
 use Prim.Native.Nat.{ℕ, zero, suc, _+_, _-_, _≤_, _<_, min}
 use native.Mathlib.Nat.{add-zero, sub-zero, zero-sub, suc-sub-suc}
 use native.Mathlib.Omega.{arith}
@@ -124,6 +124,10 @@ module _ {A : Type 0} (test : A → Bool) where
       byTest (test a)
       (λ p. rw (keep-yes a l p, keep-yes a (l ++ m) p) (ap (λ (r : List A). a ∷ r) (keep-append l m)))
       (λ p. rw (keep-no a l p, keep-no a (l ++ m) p) (keep-append l m))
+
+  -- What is kept of one list and then of another, behind a third.
+  pub keep-after : (p l m : List A) → (p ++ keep test l) ++ keep test m ≡ p ++ keep test (l ++ m)
+  keep-after p l m = append-assoc p (keep test l) (keep test m) ∙ ap (λ (r : List A). p ++ r) (sym (keep-append l m))
 
   -- A kept element is one of the list, of which the test holds.
   pub keep-mem : {x : A} (l : List A) → List·Memᴰ x (keep test l) → List·Memᴰ x l × (test x ≡ true)
@@ -407,6 +411,28 @@ keep-split {A} test (a ∷ l) =
     let q : not (test a) ≡ true = ap not p in
     rw (keep-no test a l p, keep-yes (λ (x : A). not (test x)) a l q)
     (List·Permᴰ·trans (List·Permᴰ·cons refl (keep-split test l)) (Permᴰ·symm (Permᴰ·middle a (keep test l) (keep (λ x. not (test x)) l)))))
+
+-- A test keeps of the elements in another order the same, in another order.
+pub perm-keep : {A : Type 0} (test : A → Bool) {l m : List A} → List·Permᴰ l m → List·Permᴰ (keep test l) (keep test m)
+unfolding keep
+perm-keep test List·Permᴰ·nil = List·Permᴰ·nil
+perm-keep test (List·Permᴰ·cons {b = b} e p) =
+    rw e (byTest (test b) (λ h. rw h (List·Permᴰ·cons refl (perm-keep test p))) (λ h. rw h (perm-keep test p)))
+perm-keep test (List·Permᴰ·swap {a′ = a} {b′ = b} {l = l} e f) =
+    rw (e, f)
+    (byTest (test a)
+    (λ p. byTest (test b) (λ q. rw (p, q) (List·Permᴰ·swap refl refl)) (λ q. rw (p, q) (Permᴰ·refl (a ∷ keep test l))))
+    (λ p. byTest (test b) (λ q. rw (p, q) (Permᴰ·refl (b ∷ keep test l))) (λ q. rw (p, q) (Permᴰ·refl (keep test l)))))
+perm-keep test (List·Permᴰ·trans p q) = List·Permᴰ·trans (perm-keep test p) (perm-keep test q)
+
+-- One test after another keeps what both keep.
+pub keep-both : {A : Type 0} (test test' : A → Bool) (l : List A) → keep test (keep test' l) ≡ keep (λ a. test a && test' a) l
+unfolding keep
+keep-both test test' [] = refl
+keep-both {A} test test' (a ∷ l) =
+    byTest (test' a)
+    (λ p. byTest (test a) (λ q. rw (p, q) (ap (λ (r : List A). a ∷ r) (keep-both test test' l))) (λ q. rw (p, q) (keep-both test test' l)))
+    (λ p. byTest (test a) (λ q. rw (p, q) (keep-both test test' l)) (λ q. rw (p, q) (keep-both test test' l)))
 
 -- Two tests that agree on the list keep the same.
 pub keep-same : {A : Type 0} (test test' : A → Bool) (l : List A) → ((a : A) → List·Memᴰ a l → test a ≡ test' a) → keep test l ≡ keep test' l

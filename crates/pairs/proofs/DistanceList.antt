@@ -9,6 +9,7 @@ use lib.ListN.{length}
 use Rattle.column.proofs.Stored.{stored-start}
 use Rattle.site.specs.Answer.{refused, answered, afterwards}
 use Rattle.site.specs.SiteList.{Columns, sites}
+use Rattle.site.specs.Terms.{Coordinates}
 use Rattle.site.specs.Refusal.{listsRefusal}
 use Rattle.site.proofs.Answer.{
   answer-values,
@@ -21,16 +22,15 @@ use Rattle.site.proofs.Answer.{
   orElse-second,
   no-fault,
 }
-use Rattle.site.proofs.Accepted.{accepted-level, both-accepted}
+use Rattle.site.proofs.Accepted.{accepted-level, accepted-coordinates, both-accepted}
 use Rattle.entry.specs.declared.Entry.{Entry}
 use Rattle.pairs.specs.DistanceList.{distanceList, distanceRefusal, distanceValues, distanceAnswer}
-use Rattle.pairs.specs.Internal.{InOrder, nearPairs, Room, Written}
-use Rattle.pairs.proofs.Offset.{in-order}
+use Rattle.pairs.specs.Internal.{nearPairs, Room, Written}
 use Rattle.pairs.proofs.NearPairs.{list-is}
 
 -- Two accepted lists.
-pub both-in-order : (a b : Columns) → listsRefusal a b ≡ 0 → (InOrder (a .x) (a .y)) × (InOrder (b .x) (b .y))
-both-in-order a b ok = let l = both-accepted a b ok in (in-order a (l .0), in-order b (l .1))
+pub both-coordinates : (a b : Columns) → listsRefusal a b ≡ 0 → Coordinates (a .x) (a .y) × Coordinates (b .x) (b .y)
+both-coordinates a b ok = let l = both-accepted a b ok in (accepted-coordinates a (l .0), accepted-coordinates b (l .1))
 
 both-listed : (e : ℕ) (a b : Columns) → listsRefusal a b ≡ 0
     → distanceList e (sites a) (sites b) ≡ nearPairs e (a .x) (a .y) (b .x) (b .y) 0
@@ -71,9 +71,9 @@ module _ (a b : Columns) (e : ℕ) (first second : List ℕ) where
     unfolding distanceRefusal
     accepted-room = ltb-false _ _ (no-fault _ 5 (orElse-second (listsRefusal a b) _ ok))
 
-    pub accepted : (InOrder (a .x) (a .y)) × (InOrder (b .x) (b .y)) × (Room near 0 first second)
+    pub accepted : Coordinates (a .x) (a .y) × Coordinates (b .x) (b .y) × (Room near 0 first second)
     accepted =
-        let l = both-in-order a b accepted-lists in
+        let l = both-coordinates a b accepted-lists in
         let m = accepted-room in
         let n = ap length (both-listed e a b accepted-lists) in
         (l .0, l .1, record { in-first = omega arith; in-second = omega arith })

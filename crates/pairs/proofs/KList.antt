@@ -41,7 +41,7 @@ unfolding entriesOf Sorted
 sorted-none r = tt
 
 -- A whole list is its strip from 0 to its length.
-whole-strip : (c : Columns) → listRefusal c ≡ 0 → strip 0 (length (c .x)) (sites c) ≡ whole (sites c)
+pub whole-strip : (c : Columns) → listRefusal c ≡ 0 → strip 0 (length (c .x)) (sites c) ≡ whole (sites c)
 whole-strip c ok = strip-whole (length (c .x)) (sites c) (omega (arith, accepted-length c ok))
 
 -- What a sweep over two whole lists finds.
@@ -102,12 +102,8 @@ module _ (a b : Columns) (k : ℕ) (r : Results) where
         let m = k-limits k (fault-none (lawfulK k) 3 (orElse-first _ _ rest-accepted)) in
         let room = fault-none (roomFor k r) 5 (orElse-second _ _ rest-accepted) in
         record {
-          a = accepted-coordinates a (lists-accepted .0);
-          b = accepted-coordinates b (lists-accepted .1);
-          a-range = omega arith;
-          a-inside = omega arith;
-          b-range = omega arith;
-          b-inside = omega arith;
+          a = record { lawful = accepted-coordinates a (lists-accepted .0); range = omega arith; inside = omega arith };
+          b = record { lawful = accepted-coordinates b (lists-accepted .1); range = omega arith; inside = omega arith };
           some = m .0;
           few = m .1;
           ready = record { room = room; most = omega arith; sorted = sorted-none r };

@@ -1,4 +1,5 @@
 -- The laws of the two lists of pairs.
+pub mod Examples
 pub mod Offset
 pub mod NearSites
 pub mod NearPairs

@@ -1,7 +1,7 @@
 -- A distance list row by row.
-use mathlib.Core.Path.{_≡_, refl, sym, ap, ap₂, _∙_, fun-ext}
-use mathlib.Core.Bool.{Bool}
-use mathlib.Core.List.{List, [], _∷_, _++_, map, map-map, flatMap}
+use mathlib.Core.Path.{_≡_, sym, ap, ap₂, _∙_}
+use mathlib.Core.Bool.{Bool, _&&_}
+use mathlib.Core.List.{List, [], _++_, map}
 use Prim.Native.Nat.{ℕ, _+_, _*_, _-_, _≤_, _<_}
 use native.Mathlib.Nat.{mul-le-mul}
 use native.Mathlib.Omega.{arith}
@@ -9,26 +9,25 @@ use lib.Dec.{leb}
 use lib.IntN.{ℤ, pos}
 use lib.ListN.{length, getD, length-append, length-map}
 use Rattle.order.specs.Lists.{keep}
-use Rattle.order.proofs.Lists.{keep-append, keep-nil, keep-map, length-keep}
+use Rattle.order.proofs.Lists.{keep-append, keep-nil, keep-map, keep-both, length-keep}
 use Rattle.site.specs.Site.{square}
 use Rattle.site.specs.SiteList.{Columns, sites}
-use Rattle.site.specs.Terms.{Level}
+use Rattle.site.specs.Terms.{Level, Coordinates}
 use Rattle.site.proofs.SiteList.{sites-length}
-use Rattle.site.proofs.Distance.{numberless}
 use Rattle.site.proofs.Accepted.{coordinate-x, coordinate-y}
 use Rattle.entry.specs.declared.Entry.{Entry}
-use Rattle.sweep.specs.Strip.{Placed, whole, product, pair, pairs}
+use Rattle.entry.specs.Entry.{apart}
+use Rattle.sweep.specs.Strip.{Placed, product, pair, pairs}
 use Rattle.sweep.specs.Terms.{spotOf, spot, rightward}
-use Rattle.sweep.proofs.Strip.{length-pairs, strip-whole}
+use Rattle.sweep.proofs.Strip.{length-pairs-most, strip-whole}
 use Rattle.sweep.proofs.ProductLaws.{product-nil, product-cons}
 use Rattle.sweep.proofs.SiteRuns.{rightward-nil, rightward-cons, length-rightward}
-use Rattle.sweep.proofs.Unnumbered.{bare, strip-bare}
+use Rattle.sweep.proofs.UnnumberedPairs.{pairs-strips}
 use Rattle.pairs.specs.declared.Run.{Run}
 use Rattle.pairs.specs.DistanceList.{distanceList}
 use Rattle.pairs.specs.Internal.{
   Behind,
   RunOf,
-  InOrder,
   Rising,
   offsetAt,
   near,
@@ -39,42 +38,22 @@ use Rattle.pairs.specs.Internal.{
 }
 use Rattle.pairs.proofs.NearSites.{row-run}
 
--- ---- no number
-
-pair-bare : (p q : Placed) → pair p q ≡ pair (bare p) (bare q)
-unfolding pair
-pair-bare p q =
-    let s = p .site in
-    let t = q .site in
-    let e = numberless (s .x) (s .y) (t .x) (t .y) (s .number) (t .number) in
-    λ i. record { distance = e i; first = p .place; second = q .place }
-
-pairs-bare : (p q : List Placed) → pairs p q ≡ pairs (map bare p) (map bare q)
-unfolding pairs product flatMap
-pairs-bare [] q = refl
-pairs-bare (a ∷ p) q =
-    ap₂ (λ (l m : List Entry). l ++ m)
-    (ap (λ (f : Placed → Entry). map f q) (fun-ext (pair-bare a)) ∙ sym (map-map (pair (bare a)) bare q))
-    (pairs-bare p q)
-
-whole-bare : (c : Columns) → Level c → map bare (whole (sites c)) ≡ rightward (c .x) (c .y) 0 (length (c .x) - 0)
-whole-bare c level =
-    ap (map bare) (sym (strip-whole (length (c .x)) (sites c) (omega (arith, sites-length c level))))
-    ∙ strip-bare c level 0 (length (c .x)) (omega arith)
-
 -- A distance list reads no number.
 pub list-is : (e : ℕ) (a b : Columns) → Level a → Level b
     → distanceList e (sites a) (sites b) ≡ nearPairs e (a .x) (a .y) (b .x) (b .y) 0
 unfolding distanceList nearPairs
 list-is e a b la lb =
+    let p = strip-whole (length (a .x)) (sites a) (omega (arith, sites-length a la)) in
+    let q = strip-whole (length (b .x)) (sites b) (omega (arith, sites-length b lb)) in
     ap (keep (λ p. leb (p .distance) (square e)))
-    (pairs-bare (whole (sites a)) (whole (sites b)) ∙ ap₂ pairs (whole-bare a la) (whole-bare b lb))
+    (ap₂ pairs (sym p) (sym q)
+    ∙ pairs-strips a b 0 (length (a .x)) 0 (length (b .x)) la lb (omega arith) (omega arith))
 
 -- ---- row by row
 
 module _ (e : ℕ) (ax ay bx by : List ℤ) where
   abbrev test : Entry → Bool
-  test p = leb (p .distance) (square e)
+  test p = leb (p .distance) (square e) && apart p
 
   -- The first list's sites from a place on, all of the second's, and the pairs left.
   abbrev references : ℕ → List Placed
@@ -86,33 +65,42 @@ module _ (e : ℕ) (ax ay bx by : List ℤ) where
   abbrev left : ℕ → List Entry
   left i = nearPairs e ax ay bx by i
 
-  pub pairs-none : (i : ℕ) → length ax ≤ i → left i ≡ []
+  -- They are those of which both tests hold.
+  left-is : (i : ℕ) → left i ≡ keep test (product pair (references i) others)
   unfolding nearPairs pairs
-  pairs-none i h = rw (rightward-nil ax ay i (length ax) h, product-nil pair others) (keep-nil test)
+  left-is i = keep-both (λ p. leb (p .distance) (square e)) apart (product pair (references i) others)
+
+  pub pairs-none : (i : ℕ) → length ax ≤ i → left i ≡ []
+  pairs-none i h = left-is i ∙ rw (rightward-nil ax ay i (length ax) h, product-nil pair others) (keep-nil test)
 
   pairs-cons : (i : ℕ) → i < length ax
       → left i
       ≡ map (pair (spot ax ay i)) (nearSites (square e) (getD ax i (pos 0)) (getD ay i (pos 0)) bx by 0 (length bx))
       ++ left (i + 1)
-  unfolding nearPairs pairs nearSites near spot pair
+  unfolding nearSites near spot pair apart
   pairs-cons i h =
       let rest = product pair (references (i + 1)) others in
-      ap (λ (p : List Placed). keep test (product pair p others)) (rightward-cons ax ay i (length ax) h)
+      left-is i
+      ∙ ap (λ (p : List Placed). keep test (product pair p others)) (rightward-cons ax ay i (length ax) h)
       ∙ ap (keep test) (product-cons pair (spot ax ay i) (references (i + 1)) others)
       ∙ keep-append test (map (pair (spot ax ay i)) others) rest
-      ∙ ap (λ (l : List Entry). l ++ keep test rest) (keep-map test (pair (spot ax ay i)) others)
+      ∙ ap₂ (λ (l m : List Entry). l ++ m) (keep-map test (pair (spot ax ay i)) others) (sym (left-is (i + 1)))
 
-  module _ (a : InOrder ax ay) (b : InOrder bx by) where
+  module _ (a : Coordinates ax ay) (b : Coordinates bx by) where
     -- There are few pairs.
     pub pairs-few : length (left 0) ≤ 4_294_836_225
     unfolding nearPairs
     pairs-few =
-        let i : length ax - 0 ≤ 65_535 = omega (arith, a .coordinates .few) in
-        let j : length bx - 0 ≤ 65_535 = omega (arith, b .coordinates .few) in
-        let size : length (pairs (references 0) others) ≡ (length ax - 0) * (length bx - 0) =
-        length-pairs (references 0) others
-        ∙ ap₂ _*_ (length-rightward ax ay 0 (length ax - 0)) (length-rightward bx by 0 (length bx - 0)) in
-        omega (arith, mul-le-mul i j, length-keep test (pairs (references 0) others))
+        let i : length ax - 0 ≤ 65_535 = omega (arith, a .few) in
+        let j : length bx - 0 ≤ 65_535 = omega (arith, b .few) in
+        let size : length (references 0) * length others ≡ (length ax - 0) * (length bx - 0) =
+        ap₂ _*_ (length-rightward ax ay 0 (length ax - 0)) (length-rightward bx by 0 (length bx - 0)) in
+        omega (
+          arith,
+          mul-le-mul i j,
+          length-pairs-most (references 0) others,
+          length-keep (λ p. leb (p .distance) (square e)) (pairs (references 0) others),
+        )
 
     -- One row, as the functions on rows ask and answer it.
     module _ {i : ℕ} {run : Run} {x y : ℤ} (h : i < length ax) (r : RunOf ax bx e i run) (p : x ≡ getD ax i (pos 0))
@@ -120,9 +108,9 @@ module _ (e : ℕ) (ax ay bx by : List ℤ) where
       pub row-asks : Reference x y bx by run
       row-asks =
           record {
-            inside-x = rw p (coordinate-x (a .coordinates) i h);
-            inside-y = rw q (coordinate-y (a .coordinates) i h);
-            others = b .coordinates;
+            inside-x = rw p (coordinate-x a i h);
+            inside-y = rw q (coordinate-y a i h);
+            others = b;
             ends = r .behind .right;
           }
 
@@ -132,7 +120,7 @@ module _ (e : ℕ) (ax ay bx by : List ℤ) where
           rw (p, q)
           (pairs-cons i h
           ∙ ap (λ (l : List Placed). map (pair (spot ax ay i)) l ++ left (i + 1))
-          (row-run (b .coordinates) r (getD ay i (pos 0)) (coordinate-x (a .coordinates) i h)))
+          (row-run b r (getD ay i (pos 0)) (coordinate-x a i h)))
 
       pub row-counted : {n : ℕ} → n ≡ length (nearSites (e * e) x y bx by (run .left) (run .right))
           → length (left i) ≡ n + length (left (i + 1))

@@ -3,7 +3,6 @@ use mathlib.Core.Path.{_≡_, refl, sym, ap, ap₂, _∙_}
 use mathlib.Core.Bool.{Bool, true, false}
 use mathlib.Core.List.{List, [], _∷_, _++_, append-nil}
 use Prim.Native.Nat.{ℕ, zero, suc, _+_, _-_, _≤_, _<_}
-use native.Mathlib.Nat.{add-zero, zero-add}
 use native.Mathlib.Omega.{arith}
 use borrow.Author.Tests.{ltb-true, ltb-false}
 use lib.Dec.{ltb}
@@ -11,14 +10,14 @@ use lib.IntN.{ℤ, pos}
 use lib.ListN.{length, getD}
 use Rattle.order.proofs.Lists.{keep-append, keep-yes, keep-no, keep-nil}
 use Rattle.site.specs.Site.{within, square}
-use Rattle.site.specs.Terms.{Coordinates}
+use Rattle.site.specs.Terms.{positionAt, Coordinates}
 use Rattle.site.proofs.Tests.{byTest}
 use Rattle.site.proofs.Accepted.{coordinate-x, coordinate-y}
 use Rattle.sweep.specs.Strip.{Placed}
-use Rattle.sweep.specs.Terms.{spot, rightward}
-use Rattle.sweep.proofs.SiteRuns.{rightward-nil, rightward-cons}
+use Rattle.sweep.specs.Terms.{spot}
+use Rattle.sweep.proofs.SiteRuns.{rightward-nil, rightward-cons, rightward-join}
 use Rattle.pairs.specs.declared.Run.{Run}
-use Rattle.pairs.specs.Internal.{RunOf, siteOf, near, nearSites, Reference}
+use Rattle.pairs.specs.Internal.{RunOf, near, nearSites, Reference}
 use Rattle.pairs.proofs.Offset.{far-left, far-right, far}
 
 module _ (limit : ℕ) (x y : ℤ) (xs ys : List ℤ) where
@@ -27,7 +26,7 @@ module _ (limit : ℕ) (x y : ℤ) (xs ys : List ℤ) where
   test o = near limit x y (o .site)
 
   abbrev testAt : ℕ → Bool
-  testAt k = near limit x y (siteOf xs ys k)
+  testAt k = near limit x y (positionAt xs ys k)
 
   -- The near sites between two places.
   abbrev between : ℕ → ℕ → List Placed
@@ -47,22 +46,10 @@ module _ (limit : ℕ) (x y : ℤ) (xs ys : List ℤ) where
     unfolding nearSites spot
     near-no p = rw (rightward-cons xs ys from to h) (keep-no test (spot xs ys from) _ (sym e ∙ p))
 
-  rightward-append : (n m from : ℕ)
-      → rightward xs ys from (n + m) ≡ rightward xs ys from n ++ rightward xs ys (from + n) m
-  unfolding rightward
-  rightward-append zero m from = rw (zero-add, add-zero)
-  rightward-append (suc n) m from =
-      let e : suc n + m ≡ suc (n + m) = omega arith in
-      let u : suc from + n ≡ from + suc n = omega arith in
-      rw (e, ← u) (ap (λ (l : List Placed). spot xs ys from ∷ l) (rightward-append n m (suc from)))
-
   -- Two parts that meet.
   near-join : (from mid to : ℕ) → from ≤ mid → mid ≤ to → between from to ≡ between from mid ++ between mid to
   unfolding nearSites
-  near-join from mid to h g =
-      let e : to - from ≡ (mid - from) + (to - mid) = omega arith in
-      let u : from + (mid - from) ≡ mid = omega arith in
-      rw (e, rightward-append (mid - from) (to - mid) from, u) (keep-append test _ _)
+  near-join from mid to h g = rw (rightward-join xs ys h g) (keep-append test _ _)
 
   -- Places of which none is near.
   near-far : (n from : ℕ) → ((k : ℕ) → from ≤ k → k < from + n → testAt k ≡ false) → between from (from + n) ≡ []

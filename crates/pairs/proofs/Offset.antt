@@ -1,8 +1,8 @@
 -- Offsets of coordinates: which sites are too far in x.
-use mathlib.Core.Path.{_≡_, refl, ap, _∙_}
-use mathlib.Core.Bool.{Bool, true, false, not, _&&_}
-use mathlib.Core.List.{List, [], _∷_}
-use Prim.Native.Nat.{ℕ, zero, suc, _+_, _*_, _-_, _%_, _^_, _≤_, _<_}
+use mathlib.Core.Path.{_≡_, refl}
+use mathlib.Core.Bool.{true, false, _&&_}
+use mathlib.Core.List.{List}
+use Prim.Native.Nat.{ℕ, _+_, _*_, _-_, _%_, _^_, _≤_, _<_}
 use native.Mathlib.Nat.{mul-lt-mul-of-pos-right, mul-le-mul, mul-le-mul-left, mul-le-mul-right}
 use native.Mathlib.Omega.{arith}
 use borrow.Author.Tests.{lt-leb, ltb-true, ltb-false}
@@ -14,20 +14,15 @@ use mir.Syntax.{w32, w64}
 use mir.Val.{Fits}
 use Rattle.site.specs.declared.Site.{Site}
 use Rattle.site.specs.Site.{within, gap, square, squaredDistance}
-use Rattle.order.specs.Terms.{Sorted}
-use Rattle.order.proofs.Lists.{all-at}
-use Rattle.site.specs.SiteList.{Columns, site, sites}
-use Rattle.site.specs.Refusal.{listRefusal}
-use Rattle.site.proofs.SiteList.{nowhere, sites-at}
-use Rattle.site.proofs.Accepted.{accepted-level, accepted-length, accepted-order, accepted-coordinates, inside-x}
+use Rattle.site.specs.SiteList.{site}
+use Rattle.site.specs.Terms.{positionAt, Coordinates}
+use Rattle.site.proofs.Accepted.{coordinate-x}
+use Rattle.site.proofs.PositionOrder.{not-before-x}
 use Rattle.site.proofs.Tests.{byTest, and-first}
-use Rattle.site.proofs.Integers.{up, down, le-not-lt, le-sides, le-total, le-trans, size-up, size-down}
+use Rattle.site.proofs.Integers.{up, down, le-sides, le-total, le-trans, size-up, size-down}
 use Rattle.site.proofs.Distance.{squared-gap-x, squared-gap-y}
-use Rattle.sweep.specs.Strip.{Placed, whole}
-use Rattle.sweep.proofs.Strip.{length-whole, whole-at}
-use Rattle.sweep.proofs.LeftOf.{leftOf, whole-sorted}
 use Rattle.pairs.specs.declared.Run.{Run}
-use Rattle.pairs.specs.Internal.{offset, offsetAt, Rising, InOrder, Skipped, Behind, RunOf, near}
+use Rattle.pairs.specs.Internal.{offset, offsetAt, Rising, Skipped, Behind, RunOf, near}
 
 within-tests : (x : ℤ) → within x ≡ true → (leZ (negsuc 999_999_999) x && leZ x (pos 1_000_000_000)) ≡ true
 unfolding within
@@ -44,39 +39,14 @@ pub offset-rises : (a b : ℤ) → within a ≡ true → within b ≡ true → l
 offset-rises a b h k t = omega (arith, offset-sides a h, offset-sides b k, le-sides a b t)
 
 -- The x of a lawful list never falls.
-sorted-at : {A : Type 0} (before : A → A → Bool) (l : List A) (d : A) (k m : ℕ) → Sorted before l → k < m → m < length l
-    → before (getD l m d) (getD l k d) ≡ false
-unfolding Sorted
-sorted-at before [] d k m s p q = absurd (omega arith)
-sorted-at before (a ∷ l) d k zero s p q = absurd (omega arith)
-sorted-at before (a ∷ l) d zero (suc m) s p q = all-at (λ b. before b a ≡ false) l m d (omega arith) (s .0)
-sorted-at before (a ∷ l) d (suc k) (suc m) s p q = sorted-at before l d k m (s .1) (omega arith) (omega arith)
-
--- What is read past the end of a list.
-abbrev none : Placed
-none = record { place = 0; site = nowhere }
-
-module _ (c : Columns) (ok : listRefusal c ≡ 0) where
-  whole-at-x : (k : ℕ) → k < length (c .x) → getD (whole (sites c)) k none .site .x ≡ getD (c .x) k (pos 0)
-  whole-at-x k h =
-      ap (λ (o : Placed). o .site .x) (whole-at (sites c) k none nowhere (omega (arith, accepted-length c ok)))
-      ∙ ap (λ (s : Site). s .x) (sites-at c (accepted-level c ok) k nowhere h)
-
-  rises-at : (k m : ℕ) → k ≤ m → m < length (c .x) → offsetAt (c .x) k ≤ offsetAt (c .x) m
-  rises-at k m h g =
-      byTest (ltb k m)
-      (λ t.
-      let long : length (whole (sites c)) ≡ length (c .x) = length-whole (sites c) ∙ accepted-length c ok in
-      let order = whole-sorted (sites c) (accepted-order c ok) in
-      let s = sorted-at leftOf (whole (sites c)) none k m order (ltb-true k m t) (omega arith) in
-      let x = getD (c .x) k (pos 0) in
-      let y = getD (c .x) m (pos 0) in
-      offset-rises x y (inside-x c ok k (omega arith)) (inside-x c ok m g)
-      (le-not-lt x y ∙ ap not (rw (whole-at-x k (omega arith), whole-at-x m g) at s)))
-      (λ t. let e : k ≡ m = omega (arith, ltb-false k m t) in rw e (omega arith))
-
-  pub in-order : InOrder (c .x) (c .y)
-  in-order = record { coordinates = accepted-coordinates c ok; rising = record { rises = rises-at } }
+pub rising : {xs ys : List ℤ} → Coordinates xs ys → Rising xs
+rising {xs} {ys} c = record {
+  rises = λ k m h g.
+      let x = getD xs k (pos 0) in
+      let y = getD xs m (pos 0) in
+      offset-rises x y (coordinate-x c k (omega arith)) (coordinate-x c m g)
+      (not-before-x (positionAt xs ys m) (positionAt xs ys k) (c .rising k m h g));
+}
 
 -- Offsets that are more than `e` apart.
 pub far-left : (a b : ℤ) (e : ℕ) → within a ≡ true → within b ≡ true → offset b + e < offset a → e < gap a b
@@ -105,8 +75,8 @@ square-lt m n h =
 pub far : (x y : ℤ) (s : Site) (e : ℕ) → e < gap x (s .x) → near (square e) x y s ≡ false
 unfolding near
 far x y s e h =
-    lt-leb (squaredDistance (site x y 0) s) (square e)
-    (omega (arith, square-lt e (gap x (s .x)) h, squared-gap-x (site x y 0) s))
+    rw (lt-leb (squaredDistance (site x y 0) s) (square e)
+    (omega (arith, square-lt e (gap x (s .x)) h, squared-gap-x (site x y 0) s)))
 
 -- Nor is one further than `e` in y, by a difference that wraps.
 pub far-y : (x y : ℤ) (s : Site) (e : ℕ) {a b r : ℕ} → within y ≡ true → within (s .y) ≡ true → e < 2 ^ 32 → r < 2 ^ 64
@@ -118,8 +88,8 @@ far-y x y s e {a} {b} {r} h k u v p g q f w t =
     byTest (ltb (a + e) b)
     (λ l. far-left y (s .y) e h k (omega (arith, ltb-true (a + e) b l)))
     (λ l. far-right y (s .y) e h k (omega (arith, ltb-false (a + e) b l))) in
-    lt-leb (squaredDistance (site x y 0) s) (e * e)
-    (omega (arith, square-lt e (gap y (s .y)) beyond, squared-gap-y (site x y 0) s))
+    rw (lt-leb (squaredDistance (site x y 0) s) (e * e)
+    (omega (arith, square-lt e (gap y (s .y)) beyond, squared-gap-y (site x y 0) s)))
 
 -- Of each place of a range: of none, and of one more.
 pub between-none : (P : ℕ → Type 0) (f : ℕ) (k : ℕ) → f ≤ k → k < f → P k

@@ -1,6 +1,6 @@
 -- Terms that only this crate's functions cite: the run of sites near a reference in x, the near ones, and their pairs.
 use mathlib.Core.Path.{_≡_}
-use mathlib.Core.Bool.{Bool, true}
+use mathlib.Core.Bool.{Bool, true, _&&_}
 use mathlib.Core.List.{List, map}
 use Prim.Native.Nat.{ℕ, _+_, _*_, _-_, _≤_, _<_}
 use lib.Dec.{leb}
@@ -30,11 +30,6 @@ offsetAt xs k = offset (getD xs k (pos 0))
 pub record Rising (xs : List ℤ) : Type 0 where
   pub rises : (k m : ℕ) → k ≤ m → m < length xs → offsetAt xs k ≤ offsetAt xs m
 
--- Two coordinate columns of a lawful list.
-pub record InOrder (xs ys : List ℤ) : Type 0 where
-  pub coordinates : Coordinates xs ys
-  pub rising : Rising xs
-
 -- `r` is the first place from `from` on whose offset is `limit` or more.
 pub record Skipped (xs : List ℤ) (from limit r : ℕ) : Type 0 where
   pub onward : from ≤ r
@@ -53,13 +48,9 @@ pub record RunOf (a b : List ℤ) (e i : ℕ) (run : Run) : Type 0 where
   pub behind : Behind a b e i run
   pub above : (k : ℕ) → run .right ≤ k → k < length b → offsetAt a i + e < offsetAt b k
 
--- The site at a place of two coordinate columns; no number is read.
-abbrev pub siteOf : List ℤ → List ℤ → ℕ → Site
-siteOf xs ys k = site (getD xs k (pos 0)) (getD ys k (pos 0)) 0
-
--- A site whose squared distance from a position is at most a limit.
+-- A site whose squared distance from a position is at most a limit, and 1 or more.
 unfoldable pub near : ℕ → ℤ → ℤ → Site → Bool
-near limit x y s = leb (squaredDistance (site x y 0) s) limit
+near limit x y s = let d = squaredDistance (site x y 0) s in leb d limit && leb 1 d
 
 -- The near ones of the sites from place `from` up to, not including, place `to`.
 unfoldable pub nearSites : ℕ → ℤ → ℤ → List ℤ → List ℤ → ℕ → ℕ → List Placed

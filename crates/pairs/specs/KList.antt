@@ -16,7 +16,7 @@ use Rattle.sweep.specs.Sweep.{sweep}
 use Rattle.pairs.specs.declared.Listed.{Listed}
 use Rattle.pairs.specs.declared.Listed.the-variants.{Entries, Refused}
 
--- "The first K pairs by rank, or all n × m when that is fewer." (01: K list.)
+-- "The first K pairs by rank, or all" where there are fewer. (01: K list.)
 unfoldable pub kList : ℕ → List Site → List Site → List Entry
 kList k a b = bestK k (allPairs a b)
 

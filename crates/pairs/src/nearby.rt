@@ -11,11 +11,10 @@ ghost use Rattle.column.specs.Lent.{the, _of_};
 ghost use Rattle.site.specs.Site.{within};
 ghost use Rattle.site.specs.Answer.{afterwards};
 ghost use Rattle.site.specs.SiteList.{lentList};
+ghost use Rattle.site.specs.Terms.{positionAt, Coordinates};
 ghost use Rattle.sweep.specs.Terms.{spotOf};
 ghost use Rattle.pairs.specs.DistanceList.{distanceRefusal, distanceAnswer, withinAnswer};
 ghost use Rattle.pairs.specs.Internal.{
-  InOrder,
-  siteOf,
   near,
   nearSites,
   rowPairs,
@@ -25,20 +24,21 @@ ghost use Rattle.pairs.specs.Internal.{
   Writes,
 };
 
-// Whether a site's squared distance from a position is at most `e` squared. A difference of y beyond `e` decides alone.
+// Whether a site is no more than `e` from a position, and not at it. A difference of y beyond `e` decides alone.
 fn is_near(x: i32, y: i32, bx: &[i32], by: &[i32], j: usize, e: u32) -> bool
     requires { ⌜
         (within x ≡ true) × (within y ≡ true) × (j < length (now bx)) × (j < length (now by))
         × (within (getD (now bx) j (pos 0)) ≡ true) × (within (getD (now by) j (pos 0)) ≡ true)
         ⌝ }
-    ensures { λ r. ⌜ r ≡ near (e * e) x y ((the siteOf of bx of by) .entry j) ⌝ }
+    ensures { λ r. ⌜ r ≡ near (e * e) x y ((the positionAt of bx of by) .entry j) ⌝ }
 {
     let reach = e as u64;
     let above = std::num::wrapping_sub_u64(window::offset(by[j]) + reach, window::offset(y));
     if 2 * reach < above {
         return false;
     }
-    site::squared_distance(x, y, bx[j], by[j]) <= reach * reach
+    let squared = site::squared_distance(x, y, bx[j], by[j]);
+    squared <= reach * reach && 1 <= squared
 }
 
 // How many sites of a run are near a position.
@@ -62,7 +62,7 @@ fn count_row(x: i32, y: i32, bx: &[i32], by: &[i32], run: Run, e: u32) -> u64
 
 // How many pairs of two lawful lists are within `e`.
 fn count_all(ax: &[i32], ay: &[i32], bx: &[i32], by: &[i32], e: u32) -> u64
-    requires { ⌜ (InOrder (now ax) (now ay)) × (InOrder (now bx) (now by)) ⌝ }
+    requires { ⌜ (Coordinates (now ax) (now ay)) × (Coordinates (now bx) (now by)) ⌝ }
     ensures { λ r.
         let near = (the (nearPairs e) of ax of ay of bx of by) .entry in
         ⌜ r ≡ length (near 0) ⌝ }
@@ -124,8 +124,8 @@ fn write_all(
     second: &mut [u32],
 ) -> usize
     requires { ⌜
-        (InOrder (now ax) (now ay))
-        × (InOrder (now bx) (now by))
+        (Coordinates (now ax) (now ay))
+        × (Coordinates (now bx) (now by))
         × (Room (nearPairs e (now ax) (now ay) (now bx) (now by) 0) 0 (now first) (now second))
         ⌝ }
     ensures { λ r.

@@ -1,28 +1,30 @@
 -- What an accepted list is: a lawful one, and the other way round.
 use mathlib.Core.Path.{_≡_, sym, _∙_}
 use mathlib.Core.Logic.{_↔_}
-use mathlib.Core.Bool.{true, not, cond, _&&_}
+use mathlib.Core.Bool.{true, false, not, cond, _&&_}
 use mathlib.Core.List.{List}
 use Prim.Native.Nat.{ℕ, _≤_, _<_}
 use native.Mathlib.Omega.{arith}
-use borrow.Author.Tests.{leb-true}
-use lib.Dec.{leb}
+use borrow.Author.Tests.{leb-true, ltb-true, ltb-false}
+use lib.Dec.{leb, ltb}
 use lib.IntN.{ℤ, pos}
 use lib.ListN.{length, getD}
 use Rattle.order.specs.Order.{ascending}
 use Rattle.order.specs.Lists.{all, All}
-use Rattle.order.proofs.Sorted.{Ascends, ascending-ascends, ascends-ascending}
+use Rattle.order.proofs.Order.{byTest, irrefl}
+use Rattle.order.proofs.Sorted.{Ascends, ascending-ascends, ascends-ascending, ascends-sorted, sorted-at}
 use Rattle.order.proofs.Lists.{all-holds, holds-all, all-at}
 use Rattle.site.specs.declared.Site.{Site}
 use Rattle.site.specs.Answer.{orElse}
 use Rattle.site.specs.Site.{within, lawfulSite, siteBefore}
 use Rattle.site.specs.SiteList.{Columns, sites, siteAt}
-use Rattle.site.specs.Terms.{Level, Coordinates}
+use Rattle.site.specs.Terms.{Level, positionAt, Coordinates}
 use Rattle.site.specs.Refusal.{equalLengths, sizeFault, contentRefusal, listRefusal, listsRefusal}
 use Rattle.site.proofs.Tests.{and-first, and-second}
 use Rattle.site.proofs.Answer.{orElse-first, orElse-second, fault-none}
 use Rattle.site.proofs.SiteBefore.{site-order}
-use Rattle.site.proofs.SiteList.{columnsAt, sites-length, site-at}
+use Rattle.site.proofs.SiteList.{nowhere, columnsAt, sites-length, sites-at, site-at}
+use Rattle.site.proofs.PositionOrder.{position-not-first}
 use Rattle.site.proofs.Refusal.{lawful-columns, equal-level, content-left}
 
 -- Sites that no test refuses, by the tests and one by one.
@@ -82,7 +84,17 @@ module _ (c : Columns) (ok : listRefusal c ≡ 0) where
   pub accepted-length : length (sites c) ≡ length (c .x)
   accepted-length = sites-length c accepted-level
 
-  -- Its coordinate columns.
+  -- Its coordinate columns, in the order of the sites.
+  accepted-rising : (i j : ℕ) → i ≤ j → j < length (c .x) → siteBefore (positionAt (c .x) (c .y) j) (positionAt (c .x) (c .y) i) ≡ false
+  accepted-rising i j h k =
+      byTest (ltb i j)
+      (λ t.
+      let order = ascends-sorted site-order (sites c) (content-ascends (sites c) accepted-content) in
+      let s = sorted-at siteBefore (sites c) nowhere i j order (ltb-true i j t) (omega (arith, accepted-length)) in
+      position-not-first (columnsAt c j) (columnsAt c i)
+      (rw (sites-at c accepted-level i nowhere (omega arith), sites-at c accepted-level j nowhere k) at s))
+      (λ f. let e : i ≡ j = omega (arith, ltb-false i j f) in rw e (irrefl site-order (positionAt (c .x) (c .y) j)))
+
   pub accepted-coordinates : Coordinates (c .x) (c .y)
   accepted-coordinates =
       let within-both : (all within (c .x) && all within (c .y)) ≡ true = sym (lawful-columns c accepted-level) ∙ accepted-inside in
@@ -91,6 +103,7 @@ module _ (c : Columns) (ok : listRefusal c ≡ 0) where
         few = accepted-few;
         xs-within = and-first (all within (c .x)) (all within (c .y)) within-both;
         ys-within = and-second (all within (c .x)) (all within (c .y)) within-both;
+        rising = accepted-rising;
       }
 
   -- The site at a place, and its coordinates.

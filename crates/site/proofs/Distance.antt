@@ -2,20 +2,20 @@
 use mathlib.Core.Path.{_≡_, refl, ap, ap₂}
 use mathlib.Core.Bool.{true}
 use mathlib.Core.List.{List, [], _∷_, map}
-use Prim.Native.Nat.{ℕ, _+_, _≤_}
-use native.Mathlib.Nat.{mul-le-mul, add-zero}
+use Prim.Native.Nat.{ℕ, zero, suc, _+_, _≤_}
+use native.Mathlib.Nat.{mul-le-mul, add-zero, suc-mul}
 use native.Mathlib.Omega.{arith}
 use borrow.Author.Tests.{leb-true}
 use lib.Dec.{leb}
 use lib.IntN.{ℤ, pos, negsuc}
-use lib.Signed.{leZ}
-use Rattle.order.specs.Lists.{sum}
+use lib.Signed.{ltZ, leZ}
+use Rattle.order.specs.Lists.{All, sum}
 use Rattle.site.specs.declared.Site.{Site}
 use Rattle.site.specs.SiteList.{site}
 use Rattle.site.specs.Site.{within, plane, gap, square, squaredDistance}
 use Rattle.order.proofs.Order.{byTest}
 use Rattle.site.proofs.Tests.{and-first, and-second}
-use Rattle.site.proofs.Integers.{up, down, le-sides, le-total, le-trans as leZ-trans, size-up, size-down}
+use Rattle.site.proofs.Integers.{up, down, le-sides, le-total, le-refl, le-trans as leZ-trans, lt-sides, lt-le, lt-total, size-up, size-down}
 
 -- A gap by sides.
 gap-up : (a b : ℤ) → leZ a b ≡ true → gap a b + (up a + down b) ≡ up b + down a
@@ -39,6 +39,23 @@ gap-grows a b c h k =
 pub gap-shrinks : (a b c : ℤ) → leZ a b ≡ true → leZ b c ≡ true → gap b c ≤ gap a c
 gap-shrinks a b c h k =
     omega (arith, gap-up a b h, gap-up b c k, gap-up a c (leZ-trans a b c h k), le-sides a b h)
+
+-- A gap is 0 exactly between a coordinate and itself.
+gap-some : (a b : ℤ) → ltZ a b ≡ true → 1 ≤ gap a b
+gap-some a b h = omega (arith, lt-sides a b h, gap-up a b (lt-le a b h))
+
+pub gap-same : (a : ℤ) → gap a a ≡ 0
+gap-same a = omega (arith, gap-up a a (le-refl a))
+
+pub gap-none : (a b : ℤ) → gap a b ≡ 0 → a ≡ b
+gap-none a b h =
+    lt-total a b (byTest (ltZ a b) (λ t. absurd (omega (arith, gap-some a b t))) (λ f. f))
+    (byTest (ltZ b a) (λ t. absurd (omega (arith, gap-some b a t, gap-sym a b))) (λ f. f))
+
+square-none : (n : ℕ) → square n ≡ 0 → n ≡ 0
+unfolding square
+square-none zero h = refl
+square-none (suc n) h = absurd (omega (arith, suc-mul n (suc n)))
 
 pub square-le : {m n : ℕ} → m ≤ n → square m ≤ square n
 unfolding square
@@ -106,6 +123,26 @@ squared-gap-under c l s t = omega arith
 pub squared-rest-under : (c : Site → ℤ) (l : List (Site → ℤ)) (s t : Site) → squaredOver l s t ≤ squaredOver (c ∷ l) s t
 unfolding sum
 squared-rest-under c l s t = omega arith
+
+-- It is 0 exactly where each coordinate is the same.
+pub squared-over-same : (l : List (Site → ℤ)) (s t : Site) → All (λ c. c s ≡ c t) l → squaredOver l s t ≡ 0
+unfolding sum All square
+squared-over-same [] s t h = refl
+squared-over-same (c ∷ l) s t h = rw (h .0, gap-same (c t)) (omega (arith, squared-over-same l s t (h .1)))
+
+pub squared-over-none : (l : List (Site → ℤ)) (s t : Site) → squaredOver l s t ≡ 0 → All (λ c. c s ≡ c t) l
+unfolding sum All
+squared-over-none [] s t h = tt
+squared-over-none (c ∷ l) s t h =
+    (gap-none (c s) (c t) (square-none (gap (c s) (c t)) (omega arith)), squared-over-none l s t (omega arith))
+
+pub squared-distance-same : (s t : Site) → s .x ≡ t .x → s .y ≡ t .y → squaredDistance s t ≡ 0
+unfolding squaredDistance All
+squared-distance-same s t p q = squared-over-same plane s t (p, (q, tt))
+
+pub squared-distance-none : (s t : Site) → squaredDistance s t ≡ 0 → (s .x ≡ t .x) × (s .y ≡ t .y)
+unfolding squaredDistance All
+squared-distance-none s t h = let w = squared-over-none plane s t h in (w .0, w .1 .0)
 
 pub squared-gap-x : (s t : Site) → square (gap (s .x) (t .x)) ≤ squaredDistance s t
 squared-gap-x s t = omega (arith, squared-distance-is s t)

@@ -7,7 +7,9 @@ pub mod Signed
 pub mod Within
 pub mod Counting
 pub mod SiteBefore
+pub mod PositionOrder
 pub mod SiteList
+pub mod Numbered
 pub mod Refusal
 pub mod Accepted
 pub mod PlaceOf

@@ -8,27 +8,17 @@ use lib.ListN.{drop}
 use Rattle.order.specs.Order.{on, ascending}
 use Rattle.order.specs.Terms.{Sorted}
 use Rattle.order.proofs.Sorted.{Ascends, ascending-ascends, sorted-take, sorted-drop}
-use Rattle.order.proofs.Order.{StrictOrder, byTest, never-both, ltZ-order, up-to-equality, on-order, by-number, lex-order, lex-more, strict}
+use Rattle.order.proofs.Order.{byTest, never-both, ltZ-order, lex-more}
 use Rattle.order.specs.Lists.{All}
 use Rattle.order.proofs.Lists.{all-weaken}
 use Rattle.site.specs.declared.Site.{Site}
 use Rattle.site.specs.Site.{siteBefore}
+use Rattle.site.proofs.SiteBefore.{site-order}
 use Rattle.sweep.specs.Strip.{Placed, placedFrom, whole, strip}
 
 -- By x alone.
 abbrev pub leftOf : Placed → Placed → Bool
 leftOf = on ltZ (λ p. p .site .x)
-
-same-site : (a b : Site) → (a .x ≡ b .x) × ((a .y ≡ b .y) × (a .number ≡ b .number)) → a ≡ b
-same-site a b h = λ i. record { x = h .0 i; y = h .1 .0 i; number = h .1 .1 i }
-
-pub site-order : StrictOrder siteBefore
-unfolding siteBefore
-site-order =
-    strict
-    (lex-order (on-order (up-to-equality ltZ-order) (λ s. s .x))
-    (lex-order (on-order (up-to-equality ltZ-order) (λ s. s .y)) (by-number (λ s. s .number))))
-    same-site
 
 -- A site that comes before another is not right of it.
 before-x : (s t : Site) → siteBefore s t ≡ true → ltZ (t .x) (s .x) ≡ false

@@ -18,5 +18,9 @@ pub mod Unnumbered
 pub mod FirstNext
 pub mod ReferenceLaws
 pub mod SweptStrips
+pub mod UnnumberedPairs
+pub mod KeptPairs
+pub mod RunAt
+pub mod CoSited
 pub mod ClassicInvariant
 pub mod ReverseInvariant

@@ -1,4 +1,4 @@
--- What a look leaves, by its three outcomes.
+-- What a look leaves, by its outcomes.
 use mathlib.Core.Path.{_≡_, refl, sym, ap, _∙_}
 use mathlib.Core.Bool.{Bool, true, false, cond}
 use Prim.Native.Nat.{ℕ, _+_, _≤_, _<_, _^_}
@@ -8,28 +8,56 @@ use mathlib.Core.List.{List}
 use lib.Dec.{ltb}
 use lib.IntN.{ℤ, pos}
 use lib.ListN.{getD}
-use borrow.Author.Tests.{lt-ltb, le-ltb}
+use borrow.Author.Tests.{lt-ltb, le-ltb, le-leb}
+use Rattle.order.proofs.Order.{byTest}
 use Rattle.site.specs.Site.{gap, square, squaredDistance}
 use Rattle.site.specs.SiteList.{site}
 use Rattle.site.proofs.Accepted.{coordinate-x, coordinate-y}
 use Rattle.site.proofs.Distance.{gap-sym, squared-distance-sym, squared-distance-within, squared-gap-within}
 use Rattle.entry.specs.declared.Entry.{Entry}
-use Rattle.entry.specs.Entry.{entry, offer}
+use Rattle.entry.specs.Entry.{entry, apart, offer}
 use Rattle.entry.specs.declared.Queue.{Queue}
 use Rattle.entry.specs.Results.{Results}
 use Rattle.entry.specs.Terms.{queued, Queueing, Offered}
 use Rattle.entry.proofs.Queueing.{sorted-queued}
 use Rattle.sweep.specs.declared.Reference.{Reference}
 use Rattle.sweep.specs.declared.Tally.{Tally}
+use Rattle.sweep.specs.declared.Looked.{Looked}
 use Rattle.sweep.specs.Strip.{pair}
-use Rattle.sweep.specs.Scan.{Candidate, beyond}
+use Rattle.sweep.specs.Scan.{Candidate, beyond, taken}
 use Rattle.sweep.specs.Sweep.{look}
 use Rattle.sweep.specs.Terms.{spotOf, spot}
 use Rattle.sweep.specs.Internal.{lookFrom, stateOf, LookAsked, Updated, LookDone}
 use Rattle.sweep.proofs.Updated.{updated-none}
 use Rattle.sweep.proofs.Reach.{beyond-reach, reach-past}
 
+-- ---- what the list takes
+
+module _ (k : ℕ) (e : Entry) (l : List Entry) where
+  -- A pair takes its place,
+  taken-offers : (e .distance ≡ 0 → ⊥) → taken apart k e l ≡ offer k e l
+  unfolding taken apart
+  taken-offers h = rw (le-leb 1 (e .distance) (omega arith))
+
+  -- co-sited cells do not,
+  taken-none : e .distance ≡ 0 → taken apart k e l ≡ l
+  unfolding taken apart
+  taken-none h = rw h
+
+  -- and what cannot enter changes nothing.
+  taken-past : offer k e l ≡ l → taken apart k e l ≡ l
+  unfolding taken
+  taken-past h = byTest (apart e) (λ t. rw t h) (λ f. rw f)
+
 -- ---- any candidate
+
+-- A look that went on: it counted a look and a distance, and the list under way is `q`.
+abbrev wentOn : Tally → Queue → Looked
+wentOn old q =
+    record {
+      stopped = false;
+      tally = record { at = old .at; looks = old .looks + 1; distances = old .distances + 1; queue = q };
+    }
 
 module _ {k : ℕ} {r : Results} (c : Candidate) (old : Tally) (h : Queueing k (old .queue) r) (fits : c .gap < 2 ^ 64) where
   abbrev reach : ℕ
@@ -52,9 +80,8 @@ module _ {k : ℕ} {r : Results} (c : Candidate) (old : Tally) (h : Queueing k (
 
   -- It goes on, with the columns as they are after the offer.
   gone-on : {after : Results} {new : Queue} → c .gap ≤ reach → Updated k r (old .queue .count) after new
-      → queued new after ≡ offer k (c .entry) (queued (old .queue) r)
-      → LookDone k c old r after
-      (record { stopped = false; tally = record { at = old .at; looks = old .looks + 1; distances = old .distances + 1; queue = new } })
+      → queued new after ≡ taken apart k (c .entry) (queued (old .queue) r)
+      → LookDone k c old r after (wentOn old new)
   unfolding stateOf
   gone-on near updated is =
       let on : beyond k (queued (old .queue) r) (c .gap) ≡ false = stop-is ∙ le-ltb reach (c .gap) near in
@@ -94,7 +121,7 @@ module _ (o : Reference) (xs ys : List ℤ) (i : ℕ) where
         go true = refl
         go false = refl
 
--- ---- the three outcomes
+-- ---- the outcomes
 
 module _ {o : Reference} {xs ys : List ℤ} {i k : ℕ} {old : Tally} {r : Results} (asked : LookAsked o xs ys i k old r)
     {g : ℕ} (gap-is : g ≡ square (gap (o .x) (getD xs i (pos 0)))) where
@@ -114,25 +141,35 @@ module _ {o : Reference} {xs ys : List ℤ} {i k : ℕ} {old : Tally} {r : Resul
   look-stops h = stopped c old (asked .queue) gap-fits (omega (arith, same-gap))
 
   module _ {d : ℕ} (is : d ≡ squaredDistance (site (o .x) (o .y) 0) (site (getD xs i (pos 0)) (getD ys i (pos 0)) 0)) (on : g ≤ old .queue .reach) where
+    -- The list stays, as it takes nothing.
+    look-stays : taken apart k (c .entry) (queued (old .queue) r) ≡ queued (old .queue) r
+        → LookDone k c old r r (wentOn old (old .queue))
+    look-stays h = gone-on c old (asked .queue) gap-fits (omega (arith, same-gap)) (updated-none (asked .queue)) (sym h)
+
     -- The pair is past the reach.
     pub look-passes : old .queue .reach < d
-        → LookDone k c old r r
-        (record { stopped = false; tally = record { at = old .at; looks = old .looks + 1; distances = old .distances + 1; queue = old .queue } })
+        → LookDone k c old r r (wentOn old (old .queue))
     look-passes h =
         let q = asked .queue in
         let same = look-distance o xs ys i d is in
         let most = squared-distance-within (site (o .x) (o .y) 0) (site (getD xs i (pos 0)) (getD ys i (pos 0)) 0) (asked .lawful .x) (asked .lawful .y)
         (coordinate-x (asked .lawful .others) i (asked .inside)) (coordinate-y (asked .lawful .others) i (asked .inside)) in
-        gone-on c old q gap-fits (omega (arith, same-gap)) (updated-none q)
-        (sym (reach-past k (c .entry) (queued (old .queue) r) (q .some) (sorted-queued (old .queue) r) (omega arith) (omega (arith, q .reach))))
+        look-stays
+        (taken-past k (c .entry) (queued (old .queue) r)
+        (reach-past k (c .entry) (queued (old .queue) r) (q .some) (sorted-queued (old .queue) r) (omega arith) (omega (arith, q .reach))))
+
+    -- The two cells are co-sited.
+    pub look-leaves : d ≡ 0
+        → LookDone k c old r r (wentOn old (old .queue))
+    look-leaves h = look-stays (taken-none k (c .entry) (queued (old .queue) r) (look-distance o xs ys i d is ∙ h))
 
     -- The pair takes its place.
-    pub look-offers : {e : Entry} {after : Results} {new : Queue} → e ≡ cond (o .swapped) (entry d i (o .place)) (entry d (o .place) i)
+    pub look-offers : {e : Entry} {after : Results} {new : Queue} → (d ≡ 0 → ⊥) → e ≡ cond (o .swapped) (entry d i (o .place)) (entry d (o .place) i)
         → Offered k e (old .queue) r after new
-        → LookDone k c old r after
-        (record { stopped = false; tally = record { at = old .at; looks = old .looks + 1; distances = old .distances + 1; queue = new } })
-    look-offers {e} made offered =
+        → LookDone k c old r after (wentOn old new)
+    look-offers {e} some made offered =
         let same : e ≡ c .entry = made ∙ sym (look-entry o xs ys i d is) in
+        let counts = taken-offers k (c .entry) (queued (old .queue) r) (λ none. some (sym (look-distance o xs ys i d is) ∙ none)) in
         gone-on c old (asked .queue) gap-fits (omega (arith, same-gap))
         (record { queue = offered .queue; least = offered .least; rest = offered .within })
-        (offered .list ∙ ap (λ (f : Entry). offer k f (queued (old .queue) r)) same)
+        (offered .list ∙ ap (λ (f : Entry). offer k f (queued (old .queue) r)) same ∙ sym counts)

@@ -1,12 +1,12 @@
 -- All pairs of two lists: by rows, by columns, and by parts of either list.
-use mathlib.Core.Path.{_≡_, refl, sym}
+use mathlib.Core.Path.{_≡_, refl, sym, ap₂}
 use mathlib.Core.Logic.{⊎-elim}
 use mathlib.Core.Bool.{Bool, true}
 use Prim.Native.Nat.{_*_}
 use native.Mathlib.Nat.{zero-mul, suc-mul}
 use native.Mathlib.Omega.{arith}
 use lib.ListN.{length, length-append, length-map}
-use mathlib.Core.List.{List, [], _∷_, _++_, map, flatMap, append-assoc, List·Memᴰ, List·Memᴰ·head, List·Memᴰ·tail, List·Memᴰ·not-nil, List·Memᴰ·cases-cons, List·Memᴰ·append-cases, Memᴰ·append-left, Memᴰ·append-right, Memᴰ·map, Memᴰ·of-map, List·Permᴰ, List·Permᴰ·nil, List·Permᴰ·cons, List·Permᴰ·trans, Permᴰ·refl, Permᴰ·symm, Permᴰ·append-left, Permᴰ·append-right, List·Permᴰ·append-comm}
+use mathlib.Core.List.{List, [], _∷_, _++_, map, map-map, flatMap, append-assoc, List·Memᴰ, List·Memᴰ·head, List·Memᴰ·tail, List·Memᴰ·not-nil, List·Memᴰ·cases-cons, List·Memᴰ·append-cases, Memᴰ·append-left, Memᴰ·append-right, Memᴰ·map, Memᴰ·of-map, List·Permᴰ, List·Permᴰ·nil, List·Permᴰ·cons, List·Permᴰ·trans, Permᴰ·refl, Permᴰ·symm, Permᴰ·append-left, Permᴰ·append-right, List·Permᴰ·append-comm}
 use Rattle.order.specs.Lists.{All}
 use Rattle.order.proofs.Sorted.{Ascends}
 use Rattle.order.proofs.Lists.{perm-eq, all-append, all-map, all-weaken, mem-all}
@@ -121,3 +121,10 @@ module _ {A B C : Type 0} (f : A → B → C) where
         all-map (λ y. before (f a b) y ≡ true) (f a) q (all-weaken (λ d. beforeB b d ≡ true) (λ d. before (f a b) (f a d) ≡ true) (h a b) q (s .0)),
         row q (s .1),
       )
+
+-- Things replaced by others.
+pub product-map : {A B C D E : Type 0} (f : C → D → E) (g : A → C) (h : B → D) (p : List A) (q : List B)
+    → product f (map g p) (map h q) ≡ product (λ a b. f (g a) (h b)) p q
+unfolding product flatMap
+product-map f g h [] q = refl
+product-map f g h (a ∷ p) q = ap₂ _++_ (map-map (f (g a)) h q) (product-map f g h p q)

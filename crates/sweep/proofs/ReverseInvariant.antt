@@ -9,6 +9,7 @@ use lib.IntN.{ℤ}
 use lib.ListN.{take, length-map}
 use borrow.Author.Tests.{ltb-true, ltb-false}
 use Rattle.order.proofs.Order.{byTest, never-both}
+use Rattle.entry.specs.Entry.{apart}
 use Rattle.entry.specs.declared.Queue.{Queue}
 use Rattle.entry.specs.Results.{Results, entriesOf}
 use Rattle.entry.specs.Terms.{started}
@@ -35,7 +36,7 @@ pub record ReverseInvariant (ax ay bx by : List ℤ) (aFrom aTo bFrom bTo k old 
   pub b-limit : bLimit ≤ j
   pub b-most : j ≤ bTo
   pub updated : Updated k before old r (t .queue)
-  pub whole : reverseOver leads look k (rightward ax ay i (aTo - i)) (rightward bx by j (bTo - j)) (leftward ax ay aLimit (i - aLimit))
+  pub whole : reverseOver leads look apart k (rightward ax ay i (aTo - i)) (rightward bx by j (bTo - j)) (leftward ax ay aLimit (i - aLimit))
       (leftward bx by bLimit (j - bLimit)) (stateOf t r)
       ≡ sweep ReverseRun k (rightward ax ay aFrom (aTo - aFrom)) (rightward bx by bFrom (bTo - bFrom)) (entriesOf old before)
 
@@ -44,9 +45,9 @@ pub record ReverseInvariant (ax ay bx by : List ℤ) (aFrom aTo bFrom bTo k old 
 module _ (ax ay bx by : List ℤ) (aTo bTo k i j : ℕ) (u v : List Placed) (s : State) where
   step-first : firstNext ax i aTo bx j bTo ≡ true
       → (i < aTo)
-      × (reverseOver leads look k (rightward ax ay i (aTo - i)) (rightward bx by j (bTo - j)) u v s
-      ≡ reverseOver leads look k (rightward ax ay (i + 1) (aTo - (i + 1))) (rightward bx by j (bTo - j)) (spot ax ay i ∷ u)
-      (take (scan k (map (look (spot ax ay i)) v) s .passed) v) (scan k (map (look (spot ax ay i)) v) s .state))
+      × (reverseOver leads look apart k (rightward ax ay i (aTo - i)) (rightward bx by j (bTo - j)) u v s
+      ≡ reverseOver leads look apart k (rightward ax ay (i + 1) (aTo - (i + 1))) (rightward bx by j (bTo - j)) (spot ax ay i ∷ u)
+      (take (scan apart k (map (look (spot ax ay i)) v) s .passed) v) (scan apart k (map (look (spot ax ay i)) v) s .state))
   step-first h =
       byTest (ltb i aTo)
       (λ t.
@@ -54,54 +55,54 @@ module _ (ax ay bx by : List ℤ) (aTo bTo k i j : ℕ) (u v : List Placed) (s :
       (inA, rw (rightward-cons ax ay i aTo inA) (go inA)))
       (λ t. never-both h (sym (next-none ax i aTo bx j bTo (ltb-false i aTo t))))
     where
-      go : i < aTo → reverseOver leads look k (spot ax ay i ∷ rightward ax ay (i + 1) (aTo - (i + 1))) (rightward bx by j (bTo - j)) u v s
-          ≡ reverseOver leads look k (rightward ax ay (i + 1) (aTo - (i + 1))) (rightward bx by j (bTo - j)) (spot ax ay i ∷ u)
-          (take (scan k (map (look (spot ax ay i)) v) s .passed) v) (scan k (map (look (spot ax ay i)) v) s .state)
+      go : i < aTo → reverseOver leads look apart k (spot ax ay i ∷ rightward ax ay (i + 1) (aTo - (i + 1))) (rightward bx by j (bTo - j)) u v s
+          ≡ reverseOver leads look apart k (rightward ax ay (i + 1) (aTo - (i + 1))) (rightward bx by j (bTo - j)) (spot ax ay i ∷ u)
+          (take (scan apart k (map (look (spot ax ay i)) v) s .passed) v) (scan apart k (map (look (spot ax ay i)) v) s .state)
       go inA =
           byTest (ltb j bTo)
           (λ t.
           let inB = ltb-true j bTo t in
           rw (rightward-cons bx by j bTo inB)
-          (reverse-first leads look k (spot ax ay i) (rightward ax ay (i + 1) (aTo - (i + 1))) (spot bx by j) (rightward bx by (j + 1) (bTo - (j + 1))) u v s
+          (reverse-first leads look apart k (spot ax ay i) (rightward ax ay (i + 1) (aTo - (i + 1))) (spot bx by j) (rightward bx by (j + 1) (bTo - (j + 1))) u v s
           (next-leads ax i aTo bx j bTo ay by inA inB ∙ h)))
           (λ t.
           rw (rightward-nil bx by j bTo (ltb-false j bTo t))
-          (reverse-first-last leads look k (spot ax ay i) (rightward ax ay (i + 1) (aTo - (i + 1))) u v s))
+          (reverse-first-last leads look apart k (spot ax ay i) (rightward ax ay (i + 1) (aTo - (i + 1))) u v s))
 
   step-second : firstNext ax i aTo bx j bTo ≡ false → j < bTo
-      → reverseOver leads look k (rightward ax ay i (aTo - i)) (rightward bx by j (bTo - j)) u v s
-      ≡ reverseOver leads look k (rightward ax ay i (aTo - i)) (rightward bx by (j + 1) (bTo - (j + 1)))
-      (take (scan k (map (λ c. look c (spot bx by j)) u) s .passed) u) (spot bx by j ∷ v) (scan k (map (λ c. look c (spot bx by j)) u) s .state)
+      → reverseOver leads look apart k (rightward ax ay i (aTo - i)) (rightward bx by j (bTo - j)) u v s
+      ≡ reverseOver leads look apart k (rightward ax ay i (aTo - i)) (rightward bx by (j + 1) (bTo - (j + 1)))
+      (take (scan apart k (map (λ c. look c (spot bx by j)) u) s .passed) u) (spot bx by j ∷ v) (scan apart k (map (λ c. look c (spot bx by j)) u) s .state)
   step-second h inB =
       rw (rightward-cons bx by j bTo inB)
       (byTest (ltb i aTo)
       (λ t.
       let inA = ltb-true i aTo t in
       rw (rightward-cons ax ay i aTo inA)
-      (reverse-second leads look k (spot ax ay i) (rightward ax ay (i + 1) (aTo - (i + 1))) (spot bx by j) (rightward bx by (j + 1) (bTo - (j + 1))) u v s
+      (reverse-second leads look apart k (spot ax ay i) (rightward ax ay (i + 1) (aTo - (i + 1))) (spot bx by j) (rightward bx by (j + 1) (bTo - (j + 1))) u v s
       (next-leads ax i aTo bx j bTo ay by inA inB ∙ h)))
       (λ t.
       rw (rightward-nil ax ay i aTo (ltb-false i aTo t))
-      (reverse-second-last leads look k (spot bx by j) (rightward bx by (j + 1) (bTo - (j + 1))) u v s)))
+      (reverse-second-last leads look apart k (spot bx by j) (rightward bx by (j + 1) (bTo - (j + 1))) u v s)))
 
   step-none : firstNext ax i aTo bx j bTo ≡ false → bTo ≤ j
-      → reverseOver leads look k (rightward ax ay i (aTo - i)) (rightward bx by j (bTo - j)) u v s ≡ s
+      → reverseOver leads look apart k (rightward ax ay i (aTo - i)) (rightward bx by j (bTo - j)) u v s ≡ s
   step-none h out =
       rw (rightward-nil bx by j bTo out)
       (byTest (ltb i aTo)
       (λ t. never-both (sym (next-alone ax i aTo bx j bTo (ltb-true i aTo t) out)) h)
-      (λ t. rw (rightward-nil ax ay i aTo (ltb-false i aTo t)) (reverse-nil leads look k u v s)))
+      (λ t. rw (rightward-nil ax ay i aTo (ltb-false i aTo t)) (reverse-nil leads look apart k u v s)))
 
 -- What a scan passed: the sites past the new limit.
 passed-run : (xs ys : List ℤ) {limit stop at : ℕ} (k : ℕ) (f : Placed → Candidate) (s : State) → limit ≤ at
-    → stop + scan k (map f (leftward xs ys limit (at - limit))) s .passed ≡ at
-    → (stop ≤ at) × (take (scan k (map f (leftward xs ys limit (at - limit))) s .passed) (leftward xs ys limit (at - limit)) ≡ leftward xs ys stop (at - stop))
+    → stop + scan apart k (map f (leftward xs ys limit (at - limit))) s .passed ≡ at
+    → (stop ≤ at) × (take (scan apart k (map f (leftward xs ys limit (at - limit))) s .passed) (leftward xs ys limit (at - limit)) ≡ leftward xs ys stop (at - stop))
 passed-run xs ys {limit} {stop} {at} k f s h is =
     let v = leftward xs ys limit (at - limit) in
-    let n = scan-passed k (map f v) s in
+    let n = scan-passed apart k (map f v) s in
     let m = length-map v f in
     let l = length-leftward xs ys limit (at - limit) in
-    (omega arith, take-leftward xs ys limit stop at (scan k (map f v) s .passed) (omega arith) is)
+    (omega arith, take-leftward xs ys limit stop at (scan apart k (map f v) s .passed) (omega arith) is)
 
 module _ {ax ay bx by : List ℤ} {aFrom aTo bFrom bTo k old : ℕ} {before : Results} (asked : SweepAsked ax ay bx by aFrom aTo bFrom bTo k old before) where
   pub invariant-start : {q : Queue} → q ≡ started (before .distance) old k
@@ -111,9 +112,9 @@ module _ {ax ay bx by : List ℤ} {aFrom aTo bFrom bTo k old : ℕ} {before : Re
       let s = updated-start (asked .ready) (asked .some) is in
       record {
         a-limit = omega arith;
-        a-most = asked .a-range;
+        a-most = asked .a .range;
         b-limit = omega arith;
-        b-most = asked .b-range;
+        b-most = asked .b .range;
         updated = s .0;
         whole = rw (s .1, leftward-nil ax ay aFrom aFrom (omega arith), leftward-nil bx by bFrom bFrom (omega arith));
       }
@@ -129,7 +130,7 @@ module _ {ax ay bx by : List ℤ} {aFrom aTo bFrom bTo k old : ℕ} {before : Re
     fits : (t .looks ≤ 2 ^ 62) × (t .distances ≤ 2 ^ 62)
     fits =
         swept-fits ReverseRun ax ay bx by aFrom aTo bFrom bTo k old before asked t r
-        (rw (f .whole) at (reverse-counted leads look k (rightward ax ay i (aTo - i)) (rightward bx by j (bTo - j)) u v (stateOf t r)))
+        (rw (f .whole) at (reverse-counted leads look apart k (rightward ax ay i (aTo - i)) (rightward bx by j (bTo - j)) u v (stateOf t r)))
 
     -- Every site has been taken.
     pub invariant-end : b ≡ false → bTo ≤ j
@@ -143,17 +144,17 @@ module _ {ax ay bx by : List ℤ} {aFrom aTo bFrom bTo k old : ℕ} {before : Re
     module _ {o : Reference} where
       pub invariant-ask-first : b ≡ true → o ≡ referenceAt ax ay i false → ScanAsked o bx by bLimit j k t r
       invariant-ask-first h is =
-          reference-asks false (asked .a) (omega (arith, invariant-in h, asked .a-inside)) is (asked .b) (f .b-limit) (omega (arith, f .b-most, asked .b-inside)) (f .updated .queue) fits
+          reference-asks false (asked .a .lawful) (omega (arith, invariant-in h, asked .a .inside)) is (asked .b .lawful) (f .b-limit) (omega (arith, f .b-most, asked .b .inside)) (f .updated .queue) fits
 
       pub invariant-ask-second : j < bTo → o ≡ referenceAt bx by j true → ScanAsked o ax ay aLimit i k t r
       invariant-ask-second inB is =
-          reference-asks true (asked .b) (omega (arith, asked .b-inside)) is (asked .a) (f .a-limit) (omega (arith, f .a-most, asked .a-inside)) (f .updated .queue) fits
+          reference-asks true (asked .b .lawful) (omega (arith, asked .b .inside)) is (asked .a .lawful) (f .a-limit) (omega (arith, f .a-most, asked .a .inside)) (f .updated .queue) fits
 
       module _ {after : Results} {n : Tally} where
         -- The first list's site is taken; the second list's limit is where the scan ended.
         pub invariant-first : b ≡ true → o ≡ referenceAt ax ay i false
-            → Tallied k r (t .queue .count) (scan k (map (lookFrom o) v) (stateOf t r) .state) after n
-            × (n .at + scan k (map (lookFrom o) v) (stateOf t r) .passed ≡ j)
+            → Tallied k r (t .queue .count) (scan apart k (map (lookFrom o) v) (stateOf t r) .state) after n
+            × (n .at + scan apart k (map (lookFrom o) v) (stateOf t r) .passed ≡ j)
             → ReverseInvariant ax ay bx by aFrom aTo bFrom bTo k old before after (i + 1) j aLimit (n .at) n
         invariant-first h is done =
             let seen = looks-first ax ay i is in
@@ -170,8 +171,8 @@ module _ {ax ay bx by : List ℤ} {aFrom aTo bFrom bTo k old : ℕ} {before : Re
 
         -- The second list's site is taken; the first list's limit is where the scan ended.
         pub invariant-second : b ≡ false → j < bTo → o ≡ referenceAt bx by j true
-            → Tallied k r (t .queue .count) (scan k (map (lookFrom o) u) (stateOf t r) .state) after n
-            × (n .at + scan k (map (lookFrom o) u) (stateOf t r) .passed ≡ i)
+            → Tallied k r (t .queue .count) (scan apart k (map (lookFrom o) u) (stateOf t r) .state) after n
+            × (n .at + scan apart k (map (lookFrom o) u) (stateOf t r) .passed ≡ i)
             → ReverseInvariant ax ay bx by aFrom aTo bFrom bTo k old before after i (j + 1) (n .at) bLimit n
         invariant-second h inB is done =
             let seen = looks-second bx by j is in

@@ -1,13 +1,13 @@
--- Reverse Run: its steps; it finds the best K of all pairs.
+-- Reverse Run: its steps; it finds the best K of all pairs that count.
 use mathlib.Core.Path.{_≡_, refl, sym, ap, _∙_}
 use mathlib.Core.Bool.{Bool, true, false}
 use mathlib.Core.List.{List, [], _∷_, _++_, map, append-assoc, append-nil, List·Permᴰ, List·Permᴰ·trans, Permᴰ·symm, Permᴰ·append-left, Permᴰ·append-right}
 use Prim.Native.Nat.{ℕ}
 use lib.ListN.{take, drop, take-append-drop}
-use Rattle.order.specs.Lists.{All}
+use Rattle.order.specs.Lists.{keep, All}
 use Rattle.order.specs.Terms.{Sorted}
 use Rattle.order.proofs.Order.{byTest}
-use Rattle.order.proofs.Lists.{all-weaken, all-take, all-drop}
+use Rattle.order.proofs.Lists.{all-weaken, all-take, all-drop, all-keep, keep-nil, keep-after, perm-keep}
 use Rattle.order.proofs.Sorted.{sorted-take}
 use Rattle.entry.specs.declared.Entry.{Entry}
 use Rattle.entry.specs.Entry.{bestK}
@@ -20,46 +20,50 @@ use Rattle.sweep.proofs.Geometry.{Geometry, leads-all, follows-all, row
 
 -- ---- one step
 
-module _ {A B : Type 0} (leads : A → B → Bool) (look : A → B → Candidate) (k : ℕ) where
-  pub reverse-nil : (u : List A) (v : List B) (s : State) → reverseOver leads look k [] [] u v s ≡ s
+module _ {A B : Type 0} (leads : A → B → Bool) (look : A → B → Candidate) (counts : Entry → Bool) (k : ℕ) where
+  pub reverse-nil : (u : List A) (v : List B) (s : State) → reverseOver leads look counts k [] [] u v s ≡ s
   unfolding reverseOver
   reverse-nil u v s = refl
 
   -- The reference is the first list's: it leads the second list's next, or there is none.
   pub reverse-first : (a : A) (p : List A) (b : B) (q : List B) (u : List A) (v : List B) (s : State) → leads a b ≡ true
-      → reverseOver leads look k (a ∷ p) (b ∷ q) u v s
-      ≡ reverseOver leads look k p (b ∷ q) (a ∷ u) (take (scan k (map (look a) v) s .passed) v) (scan k (map (look a) v) s .state)
+      → reverseOver leads look counts k (a ∷ p) (b ∷ q) u v s
+      ≡ reverseOver leads look counts k p (b ∷ q) (a ∷ u) (take (scan counts k (map (look a) v) s .passed) v) (scan counts k (map (look a) v) s .state)
   unfolding reverseOver
   reverse-first a p b q u v s h = rw h
 
   pub reverse-first-last : (a : A) (p : List A) (u : List A) (v : List B) (s : State)
-      → reverseOver leads look k (a ∷ p) [] u v s
-      ≡ reverseOver leads look k p [] (a ∷ u) (take (scan k (map (look a) v) s .passed) v) (scan k (map (look a) v) s .state)
+      → reverseOver leads look counts k (a ∷ p) [] u v s
+      ≡ reverseOver leads look counts k p [] (a ∷ u) (take (scan counts k (map (look a) v) s .passed) v) (scan counts k (map (look a) v) s .state)
   unfolding reverseOver
   reverse-first-last a p u v s = refl
 
   -- The reference is the second list's.
   pub reverse-second : (a : A) (p : List A) (b : B) (q : List B) (u : List A) (v : List B) (s : State) → leads a b ≡ false
-      → reverseOver leads look k (a ∷ p) (b ∷ q) u v s
-      ≡ reverseOver leads look k (a ∷ p) q (take (scan k (map (λ c. look c b) u) s .passed) u) (b ∷ v) (scan k (map (λ c. look c b) u) s .state)
+      → reverseOver leads look counts k (a ∷ p) (b ∷ q) u v s
+      ≡ reverseOver leads look counts k (a ∷ p) q (take (scan counts k (map (λ c. look c b) u) s .passed) u) (b ∷ v) (scan counts k (map (λ c. look c b) u) s .state)
   unfolding reverseOver
   reverse-second a p b q u v s h = rw h
 
   pub reverse-second-last : (b : B) (q : List B) (u : List A) (v : List B) (s : State)
-      → reverseOver leads look k [] (b ∷ q) u v s
-      ≡ reverseOver leads look k [] q (take (scan k (map (λ c. look c b) u) s .passed) u) (b ∷ v) (scan k (map (λ c. look c b) u) s .state)
+      → reverseOver leads look counts k [] (b ∷ q) u v s
+      ≡ reverseOver leads look counts k [] q (take (scan counts k (map (λ c. look c b) u) s .passed) u) (b ∷ v) (scan counts k (map (λ c. look c b) u) s .state)
   unfolding reverseOver
   reverse-second-last b q u v s = refl
 
 -- ---- all of it
 
--- Pairs `x` offered and pairs `d` left out as beyond: with the rest `r` they are all the pairs `t`.
-step-best : (k : ℕ) (m x d r t : List Entry) → All (λ e. beyond k (bestK k (m ++ x)) (e .distance) ≡ true) d
-    → List·Permᴰ t (x ++ (d ++ r)) → bestK k ((m ++ x) ++ r) ≡ bestK k (m ++ t)
-step-best k m x d r t h p =
-    sym (bestK-left k ((m ++ x) ++ d) (m ++ x) r (beyond-drop k (m ++ x) d h))
-    ∙ ap (bestK k) (simp append-assoc)
-    ∙ sym (bestK-perm k (Permᴰ·append-left m p))
+-- Pairs `x` offered and pairs `d` left out as beyond: with the rest `r` they are all the pairs `t`. Of all of them those
+-- that count are taken.
+step-best : (counts : Entry → Bool) (k : ℕ) (m x d r t : List Entry)
+    → All (λ e. beyond k (bestK k (m ++ keep counts x)) (e .distance) ≡ true) d
+    → List·Permᴰ t (x ++ (d ++ r)) → bestK k ((m ++ keep counts x) ++ keep counts r) ≡ bestK k (m ++ keep counts t)
+step-best counts k m x d r t h p =
+    let here = m ++ keep counts x in
+    let left = all-keep counts (λ e. beyond k (bestK k here) (e .distance) ≡ true) d h in
+    sym (bestK-left k (here ++ keep counts d) here (keep counts r) (beyond-drop k here (keep counts d) left))
+    ∙ ap (bestK k) (keep-after counts here d r ∙ keep-after counts m x (d ++ r))
+    ∙ sym (bestK-perm k (Permᴰ·append-left m (perm-keep counts p)))
 
 -- The pairs of a step by parts.
 first-parts : {C : Type 0} (u x w d c q : List C) → List·Permᴰ (u ++ ((x ++ (w ++ d)) ++ (c ++ q))) (x ++ (d ++ ((c ++ u) ++ (w ++ q))))
@@ -78,7 +82,7 @@ second-parts x u d v c q =
     (Permᴰ·append-left d (Permᴰ·append-left u (perm-exchange v c q)))))
 
 module _ {A B : Type 0} {leftA : A → A → Bool} {leftB : B → B → Bool} {leads : A → B → Bool} {look : A → B → Candidate}
-    (G : Geometry leftA leftB leads look) (k : ℕ) where
+    (G : Geometry leftA leftB leads look) (counts : Entry → Bool) (k : ℕ) where
   -- The sites `u` and `v` are taken, latest first; `p` and `q` are still to come.
   record Taken (p : List A) (q : List B) (u : List A) (v : List B) : Type 0 where
     backA : Sorted (λ a c. leftA c a) u
@@ -175,78 +179,80 @@ module _ {A B : Type 0} {leftA : A → A → Bool} {leftB : B → B → Bool} {l
       (Permᴰ·append-left (product weigh (take n u) q) (Permᴰ·append-right (product weigh p q) (Permᴰ·symm (product-cons-right weigh p b v)))))))
 
   first-scan : (a : A) (p : List A) (q : List B) (u : List A) (v : List B) (s : State) (m : List Entry) → Taken (a ∷ p) q u v
-      → s .entries ≡ bestK k m → scan k (map (look a) v) s .state .entries ≡ bestK k (m ++ map (weigh a) v)
+      → s .entries ≡ bestK k m → scan counts k (map (look a) v) s .state .entries ≡ bestK k (m ++ keep counts (map (weigh a) v))
   unfolding All
   first-scan a p q u v s m t e =
-      scan-best (look a) k v s m
+      scan-best (look a) counts k v s m
       (row-widening-back G a v (all-weaken (λ b. All (λ c. leads c b ≡ false) (a ∷ p)) (λ b. leads a b ≡ false) (λ b h. h .0) v (t .followed)) (t .backB))
       (row-bounding G a v) e
 
   first-step : (a : A) (p : List A) (q : List B) (u : List A) (v : List B) (s : State) (m : List Entry) → Taken (a ∷ p) q u v
       → Sorted leftA (a ∷ p) → s .entries ≡ bestK k m
-      → bestK k ((m ++ map (weigh a) v) ++ toCome p q (a ∷ u) (take (scan k (map (look a) v) s .passed) v)) ≡ bestK k (m ++ toCome (a ∷ p) q u v)
+      → bestK k ((m ++ keep counts (map (weigh a) v)) ++ keep counts (toCome p q (a ∷ u) (take (scan counts k (map (look a) v) s .passed) v)))
+      ≡ bestK k (m ++ keep counts (toCome (a ∷ p) q u v))
   unfolding All
   first-step a p q u v s m t o e =
-      let n : ℕ = scan k (map (look a) v) s .passed in
+      let n : ℕ = scan counts k (map (look a) v) s .passed in
       let f : All (λ b. leads a b ≡ false) v
       = all-weaken (λ b. All (λ c. leads c b ≡ false) (a ∷ p)) (λ b. leads a b ≡ false) (λ b h. h .0) v (t .followed) in
-      let r : All (λ b. beyond k (bestK k (m ++ map (weigh a) v)) (look a b .gap) ≡ true) (drop n v)
-      = rw (first-scan a p q u v s m t e) at (scan-rest (look a) k v s (row-widening-back G a v f (t .backB))) in
-      step-best k m (map (weigh a) v) (product weigh p (drop n v)) (toCome p q (a ∷ u) (take n v)) (toCome (a ∷ p) q u v)
-      (rest-first a p (drop n v) (bestK k (m ++ map (weigh a) v)) o (all-drop (λ b. leads a b ≡ false) n v f) r)
+      let r : All (λ b. beyond k (bestK k (m ++ keep counts (map (weigh a) v))) (look a b .gap) ≡ true) (drop n v)
+      = rw (first-scan a p q u v s m t e) at (scan-rest (look a) counts k v s (row-widening-back G a v f (t .backB))) in
+      step-best counts k m (map (weigh a) v) (product weigh p (drop n v)) (toCome p q (a ∷ u) (take n v)) (toCome (a ∷ p) q u v)
+      (rest-first a p (drop n v) (bestK k (m ++ keep counts (map (weigh a) v))) o (all-drop (λ b. leads a b ≡ false) n v f) r)
       (first-regroup a p q u v n)
 
   second-scan : (p : List A) (b : B) (q : List B) (u : List A) (v : List B) (s : State) (m : List Entry) → Taken p (b ∷ q) u v
-      → s .entries ≡ bestK k m → scan k (map (λ a. look a b) u) s .state .entries ≡ bestK k (m ++ map (λ a. weigh a b) u)
+      → s .entries ≡ bestK k m → scan counts k (map (λ a. look a b) u) s .state .entries ≡ bestK k (m ++ keep counts (map (λ a. weigh a b) u))
   unfolding All
   second-scan p b q u v s m t e =
-      scan-best (λ a. look a b) k u s m
+      scan-best (λ a. look a b) counts k u s m
       (column-widening-back G b u (all-weaken (λ a. All (λ d. leads a d ≡ true) (b ∷ q)) (λ a. leads a b ≡ true) (λ a h. h .0) u (t .led)) (t .backA))
       (column-bounding G b u) e
 
   second-step : (p : List A) (b : B) (q : List B) (u : List A) (v : List B) (s : State) (m : List Entry) → Taken p (b ∷ q) u v
       → Sorted leftB (b ∷ q) → s .entries ≡ bestK k m
-      → bestK k ((m ++ map (λ a. weigh a b) u) ++ toCome p q (take (scan k (map (λ a. look a b) u) s .passed) u) (b ∷ v)) ≡ bestK k (m ++ toCome p (b ∷ q) u v)
+      → bestK k ((m ++ keep counts (map (λ a. weigh a b) u)) ++ keep counts (toCome p q (take (scan counts k (map (λ a. look a b) u) s .passed) u) (b ∷ v)))
+      ≡ bestK k (m ++ keep counts (toCome p (b ∷ q) u v))
   unfolding All
   second-step p b q u v s m t o e =
-      let n : ℕ = scan k (map (λ a. look a b) u) s .passed in
+      let n : ℕ = scan counts k (map (λ a. look a b) u) s .passed in
       let f : All (λ a. leads a b ≡ true) u
       = all-weaken (λ a. All (λ d. leads a d ≡ true) (b ∷ q)) (λ a. leads a b ≡ true) (λ a h. h .0) u (t .led) in
-      let r : All (λ a. beyond k (bestK k (m ++ map (λ a. weigh a b) u)) (look a b .gap) ≡ true) (drop n u)
-      = rw (second-scan p b q u v s m t e) at (scan-rest (λ a. look a b) k u s (column-widening-back G b u f (t .backA))) in
-      step-best k m (map (λ a. weigh a b) u) (product weigh (drop n u) q) (toCome p q (take n u) (b ∷ v)) (toCome p (b ∷ q) u v)
-      (rest-second b q (drop n u) (bestK k (m ++ map (λ a. weigh a b) u)) o (all-drop (λ a. leads a b ≡ true) n u f) r)
+      let r : All (λ a. beyond k (bestK k (m ++ keep counts (map (λ a. weigh a b) u))) (look a b .gap) ≡ true) (drop n u)
+      = rw (second-scan p b q u v s m t e) at (scan-rest (λ a. look a b) counts k u s (column-widening-back G b u f (t .backA))) in
+      step-best counts k m (map (λ a. weigh a b) u) (product weigh (drop n u) q) (toCome p q (take n u) (b ∷ v)) (toCome p (b ∷ q) u v)
+      (rest-second b q (drop n u) (bestK k (m ++ keep counts (map (λ a. weigh a b) u))) o (all-drop (λ a. leads a b ≡ true) n u f) r)
       (second-regroup p b q u v n)
 
   reverse-from : (p : List A) (q : List B) (u : List A) (v : List B) (s : State) (m : List Entry) → Sorted leftA p → Sorted leftB q
-      → Taken p q u v → s .entries ≡ bestK k m → reverseOver leads look k p q u v s .entries ≡ bestK k (m ++ toCome p q u v)
+      → Taken p q u v → s .entries ≡ bestK k m → reverseOver leads look counts k p q u v s .entries ≡ bestK k (m ++ keep counts (toCome p q u v))
   unfolding reverseOver Sorted All
-  reverse-from [] [] u v s m sp sq t e = rw (product-nil-right weigh u, product-nil weigh v, product-nil weigh [], append-nil) e
+  reverse-from [] [] u v s m sp sq t e = rw (product-nil-right weigh u, product-nil weigh v, product-nil weigh [], keep-nil counts, append-nil) e
   reverse-from [] (b ∷ q) u v s m sp sq t e =
-      let r = scan k (map (λ c. look c b) u) s in
-      reverse-from [] q (take (r .passed) u) (b ∷ v) (r .state) (m ++ map (λ a. weigh a b) u) sp (sq .1)
+      let r = scan counts k (map (λ c. look c b) u) s in
+      reverse-from [] q (take (r .passed) u) (b ∷ v) (r .state) (m ++ keep counts (map (λ a. weigh a b) u)) sp (sq .1)
       (take-second [] b q u v (r .passed) t sq tt) (second-scan [] b q u v s m t e)
       ∙ second-step [] b q u v s m t sq e
   reverse-from (a ∷ p) [] u v s m sp sq t e =
-      let r = scan k (map (look a) v) s in
-      reverse-from p [] (a ∷ u) (take (r .passed) v) (r .state) (m ++ map (weigh a) v) (sp .1) sq
+      let r = scan counts k (map (look a) v) s in
+      reverse-from p [] (a ∷ u) (take (r .passed) v) (r .state) (m ++ keep counts (map (weigh a) v)) (sp .1) sq
       (take-first a p [] u v (r .passed) t sp tt) (first-scan a p [] u v s m t e)
       ∙ first-step a p [] u v s m t sp e
   reverse-from (a ∷ p) (b ∷ q) u v s m sp sq t e =
       byTest (leads a b)
       (λ h. rw h
-      (let r = scan k (map (look a) v) s in
-      reverse-from p (b ∷ q) (a ∷ u) (take (r .passed) v) (r .state) (m ++ map (weigh a) v) (sp .1) sq
+      (let r = scan counts k (map (look a) v) s in
+      reverse-from p (b ∷ q) (a ∷ u) (take (r .passed) v) (r .state) (m ++ keep counts (map (weigh a) v)) (sp .1) sq
       (take-first a p (b ∷ q) u v (r .passed) t sp (leads-all G a b q h sq)) (first-scan a p (b ∷ q) u v s m t e)
       ∙ first-step a p (b ∷ q) u v s m t sp e))
       (λ h. rw h
-      (let r = scan k (map (λ c. look c b) u) s in
-      reverse-from (a ∷ p) q (take (r .passed) u) (b ∷ v) (r .state) (m ++ map (λ a. weigh a b) u) sp (sq .1)
+      (let r = scan counts k (map (λ c. look c b) u) s in
+      reverse-from (a ∷ p) q (take (r .passed) u) (b ∷ v) (r .state) (m ++ keep counts (map (λ a. weigh a b) u)) sp (sq .1)
       (take-second (a ∷ p) b q u v (r .passed) t sq (follows-all G a b p h sp)) (second-scan (a ∷ p) b q u v s m t e)
       ∙ second-step (a ∷ p) b q u v s m t sq e))
 
   pub reverse-best : (p : List A) (q : List B) (s : State) (m : List Entry) → Sorted leftA p → Sorted leftB q → s .entries ≡ bestK k m
-      → reverseOver leads look k p q [] [] s .entries ≡ bestK k (m ++ product (λ a b. look a b .entry) p q)
+      → reverseOver leads look counts k p q [] [] s .entries ≡ bestK k (m ++ keep counts (product (λ a b. look a b .entry) p q))
   unfolding Sorted All
   reverse-best p q s m sp sq e =
       rw (product-nil weigh q, product-nil-right weigh p) at

@@ -6,14 +6,14 @@ use Prim.Native.Nat.{ℕ, suc, _+_, _≤_, _<_, _^_}
 use native.Mathlib.Omega.{arith}
 use lib.IntN.{ℤ}
 use lib.ListN.{length}
-use Rattle.entry.specs.Entry.{offer}
+use Rattle.entry.specs.Entry.{apart}
 use Rattle.entry.specs.Results.{Results}
 use Rattle.entry.specs.Terms.{queued}
 use Rattle.sweep.specs.declared.Looked.{Looked}
 use Rattle.sweep.specs.declared.Reference.{Reference}
 use Rattle.sweep.specs.declared.Tally.{Tally}
 use Rattle.sweep.specs.Strip.{Placed}
-use Rattle.sweep.specs.Scan.{State, state, Scanned, beyond, lookAt, scan}
+use Rattle.sweep.specs.Scan.{State, state, Scanned, beyond, taken, lookAt, scan}
 use Rattle.sweep.specs.Terms.{spot}
 use Rattle.sweep.specs.Internal.{lookFrom, stateOf, LookAsked, ScanAsked, Updated, Tallied, LookDone}
 use Rattle.sweep.proofs.ScanLaws.{scan-nil, scan-stop, scan-on}
@@ -21,7 +21,7 @@ use Rattle.sweep.proofs.Updated.{updated-none, updated-twice}
 
 -- A reference's scan over a run of sites, from the state that a tally and the columns hold.
 abbrev scanned : ℕ → Reference → List Placed → Results → Tally → Scanned
-scanned k o run r t = scan k (map (lookFrom o) run) (stateOf t r)
+scanned k o run r t = scan apart k (map (lookFrom o) run) (stateOf t r)
 
 -- The sites left, from the state held now, lead where all of them led from the first state.
 pub record ScanInvariant (k : ℕ) (before : Results) (old : Tally) (o : Reference) (all left : List Placed) (r : Results) (t : Tally) : Type 0 where
@@ -59,7 +59,7 @@ module _ {o : Reference} {xs ys : List ℤ} {from to k : ℕ} {before : Results}
     -- Nothing is left.
     pub invariant-ends : left ≡ [] → Ended k before old o all (length left) r t
     invariant-ends none =
-        let nil : scanned k o left r t ≡ record { state = stateOf t r; passed = 0 } = rw none (scan-nil k (stateOf t r)) in
+        let nil : scanned k o left r t ≡ record { state = stateOf t r; passed = 0 } = rw none (scan-nil apart k (stateOf t r)) in
         record {
           tallied = record { updated = p .updated; state = ap (λ (s : Scanned). s .state) (sym nil) ∙ p .state };
           passed = omega (arith, p .passed, ap length none, ap (λ (s : Scanned). s .passed) nil);
@@ -86,8 +86,8 @@ module _ {o : Reference} {xs ys : List ℤ} {from to k : ℕ} {before : Results}
       pub invariant-stops : l .stopped ≡ true → Ended k before old o all (length left) after (l .tally)
       unfolding stateOf
       invariant-stops h =
-          let whole : scanned k o left r t ≡ record { state = lookAt k (lookFrom o x) (stateOf t r); passed = 0 }
-          = rw is (scan-stop k (lookFrom o x) (map (lookFrom o) rest) (stateOf t r) (sym (done .stopped) ∙ h)) in
+          let whole : scanned k o left r t ≡ record { state = lookAt apart k (lookFrom o x) (stateOf t r); passed = 0 }
+          = rw is (scan-stop apart k (lookFrom o x) (map (lookFrom o) rest) (stateOf t r) (sym (done .stopped) ∙ h)) in
           record {
             tallied = record { updated = joined; state = done .tally .state ∙ ap (λ (s : Scanned). s .state) (sym whole) ∙ p .state };
             passed = omega (arith, p .passed, ap (λ (s : Scanned). s .passed) whole);
@@ -98,9 +98,9 @@ module _ {o : Reference} {xs ys : List ℤ} {from to k : ℕ} {before : Results}
       unfolding stateOf
       invariant-goes h =
           let on : beyond k (queued (t .queue) r) (lookFrom o x .gap) ≡ false = sym (done .stopped) ∙ h in
-          let now : stateOf (l .tally) after ≡ state (offer k (lookFrom o x .entry) (queued (t .queue) r)) (suc (t .looks)) (suc (t .distances))
+          let now : stateOf (l .tally) after ≡ state (taken apart k (lookFrom o x .entry) (queued (t .queue) r)) (suc (t .looks)) (suc (t .distances))
           = rw on at (done .tally .state) in
-          let then = scan-on k (lookFrom o x) (map (lookFrom o) rest) (stateOf t r) on in
+          let then = scan-on apart k (lookFrom o x) (map (lookFrom o) rest) (stateOf t r) on in
           let whole : scanned k o left r t ≡ record { state = scanned k o rest after (l .tally) .state; passed = suc (scanned k o rest after (l .tally) .passed) }
           = rw (is, done .tally .state) then in
           let n = ap length is in

@@ -1,37 +1,38 @@
 -- One scan: what it leaves out cannot enter, so it finds the best K of all its candidates.
-use mathlib.Core.Path.{_≡_, refl, sym, _∙_}
-use mathlib.Core.Bool.{true, false}
-use mathlib.Core.List.{List, [], _∷_, _++_, map, append-assoc, append-nil, List·Permᴰ}
+use mathlib.Core.Path.{_≡_, refl, sym, ap, _∙_}
+use mathlib.Core.Bool.{Bool, true, false}
+use mathlib.Core.List.{List, [], _∷_, _++_, map, append-nil, List·Permᴰ}
 use Prim.Native.Nat.{ℕ, suc, _≤_, _<_}
 use native.Mathlib.Omega.{arith}
 use lib.Dec.{eqb}
 use lib.ListN.{length, drop, getD}
 use borrow.Author.Tests.{ltb-true, eqb-true, eq-eqb, lt-ltb}
-use Rattle.order.specs.Lists.{All}
+use Rattle.order.specs.Lists.{keep, All}
 use Rattle.order.specs.Terms.{Sorted}
 use Rattle.order.proofs.Order.{byTest, never-both}
-use Rattle.order.proofs.Lists.{all-weaken, all-map}
+use Rattle.order.proofs.Lists.{all-weaken, all-map, all-keep, keep-nil, keep-after}
 use Rattle.order.proofs.Best.{best-append, best-snoc, best-perm}
 use Rattle.order.proofs.Sorted.{sorted-best, best-drop, last-weak}
 use Rattle.entry.specs.declared.Entry.{Entry}
 use Rattle.entry.specs.Entry.{rankBefore, bestK, offer, lastDistance}
 use Rattle.entry.proofs.Rank.{rank-order, rank-farther, last-distance}
-use Rattle.sweep.specs.Scan.{Candidate, State, beyond, lookAt, scan}
+use Rattle.sweep.specs.Scan.{Candidate, State, beyond, taken, lookAt, scan}
 
 -- ---- one step
 
-module _ (k : ℕ) where
-  pub scan-nil : (s : State) → scan k [] s ≡ record { state = s; passed = 0 }
+module _ (counts : Entry → Bool) (k : ℕ) where
+  pub scan-nil : (s : State) → scan counts k [] s ≡ record { state = s; passed = 0 }
   unfolding scan
   scan-nil s = refl
 
   pub scan-stop : (c : Candidate) (l : List Candidate) (s : State) → beyond k (s .entries) (c .gap) ≡ true
-      → scan k (c ∷ l) s ≡ record { state = lookAt k c s; passed = 0 }
+      → scan counts k (c ∷ l) s ≡ record { state = lookAt counts k c s; passed = 0 }
   unfolding scan
   scan-stop c l s b = rw b
 
   pub scan-on : (c : Candidate) (l : List Candidate) (s : State) → beyond k (s .entries) (c .gap) ≡ false
-      → scan k (c ∷ l) s ≡ record { state = scan k l (lookAt k c s) .state; passed = suc (scan k l (lookAt k c s) .passed) }
+      → let r = scan counts k l (lookAt counts k c s) in
+      scan counts k (c ∷ l) s ≡ record { state = r .state; passed = suc (r .passed) }
   unfolding scan
   scan-on c l s b = rw b
 
@@ -116,56 +117,67 @@ module _ {X : Type 0} (f : X → Candidate) where
   unfoldable pub Bounding : List X → Type 0
   Bounding l = All (λ x. f x .gap ≤ f x .entry .distance) l
 
-  module _ (k : ℕ) where
-    -- Where the first of widening candidates is beyond, all are.
-    beyond-all : (E : List Entry) (x : X) (l : List X) → Widening (x ∷ l) → beyond k E (f x .gap) ≡ true
-        → All (λ y. beyond k E (f y .gap) ≡ true) (x ∷ l)
-    unfolding Widening All
-    beyond-all E x l w b = (
-      b,
-      all-weaken (λ y. f x .gap ≤ f y .gap) (λ y. beyond k E (f y .gap) ≡ true)
-          (λ y le. beyond-more k E (f x .gap) (f y .gap) le b) l (w .0),
-    )
+  -- Where the first of widening candidates is beyond, all are.
+  beyond-all : (k : ℕ) (E : List Entry) (x : X) (l : List X) → Widening (x ∷ l) → beyond k E (f x .gap) ≡ true
+      → All (λ y. beyond k E (f y .gap) ≡ true) (x ∷ l)
+  unfolding Widening All
+  beyond-all k E x l w b = (
+    b,
+    all-weaken (λ y. f x .gap ≤ f y .gap) (λ y. beyond k E (f y .gap) ≡ true)
+        (λ y le. beyond-more k E (f x .gap) (f y .gap) le b) l (w .0),
+  )
+
+  module _ (counts : Entry → Bool) (k : ℕ) where
+    -- The pairs of the candidates that count.
+    abbrev pub counted : List X → List Entry
+    counted l = keep counts (map (λ x. f x .entry) l)
 
     -- Candidates beyond by their gaps may be left out.
     pub beyond-rest : (m : List Entry) (l : List X) → Bounding l → All (λ y. beyond k (bestK k m) (f y .gap) ≡ true) l
-        → bestK k (m ++ map (λ x. f x .entry) l) ≡ bestK k m
+        → bestK k (m ++ counted l) ≡ bestK k m
     unfolding Bounding
     beyond-rest m l b h =
-        beyond-drop k m (map (λ x. f x .entry) l)
+        beyond-drop k m (counted l)
+        (all-keep counts (λ e. beyond k (bestK k m) (e .distance) ≡ true) (map (λ x. f x .entry) l)
         (all-map (λ e. beyond k (bestK k m) (e .distance) ≡ true) (λ x. f x .entry) l
         (all-zip (λ x. f x .gap ≤ f x .entry .distance) (λ x. beyond k (bestK k m) (f x .gap) ≡ true)
         (λ x. beyond k (bestK k m) (f x .entry .distance) ≡ true)
-        (λ x. beyond-more k (bestK k m) (f x .gap) (f x .entry .distance)) l b h))
+        (λ x. beyond-more k (bestK k m) (f x .gap) (f x .entry .distance)) l b h)))
 
-    -- A look that offers gives the best K with the pair.
+    -- What the list takes of one pair gives the best K with it, if it counts.
+    taken-best : (m : List Entry) (e : Entry) → taken counts k e (bestK k m) ≡ bestK k (m ++ keep counts (e ∷ []))
+    unfolding taken offer bestK keep
+    taken-best m e = byTest (counts e) (λ t. rw t (sym (best-snoc rankBefore k m e))) (λ n. rw (n, append-nil))
+
+    -- A look that goes on gives the best K with the pair, if it counts.
     offered-best : (x : X) (s : State) (m : List Entry) → s .entries ≡ bestK k m → beyond k (s .entries) (f x .gap) ≡ false
-        → lookAt k (f x) s .entries ≡ bestK k (m ++ (f x .entry ∷ []))
-    unfolding offer bestK
-    offered-best x s m e n = rw n (rw (e, best-snoc rankBefore k m (f x .entry)))
+        → lookAt counts k (f x) s .entries ≡ bestK k (m ++ counted (x ∷ []))
+    offered-best x s m e n = rw n (rw e (taken-best m (f x .entry)))
 
     -- A look that stops leaves the list.
-    stopped-list : (x : X) (s : State) → beyond k (s .entries) (f x .gap) ≡ true → lookAt k (f x) s .entries ≡ s .entries
+    stopped-list : (x : X) (s : State) → beyond k (s .entries) (f x .gap) ≡ true → lookAt counts k (f x) s .entries ≡ s .entries
     stopped-list x s t = rw t
 
-    -- A scan finds the best K of what there was and all its candidates.
+    -- A scan finds the best K of what there was and all its candidates that count.
     pub scan-best : (l : List X) (s : State) (m : List Entry) → Widening l → Bounding l → s .entries ≡ bestK k m
-        → scan k (map f l) s .state .entries ≡ bestK k (m ++ map (λ x. f x .entry) l)
+        → scan counts k (map f l) s .state .entries ≡ bestK k (m ++ counted l)
     unfolding Widening Bounding All
-    scan-best [] s m w b e = rw (scan-nil k s, append-nil) e
+    scan-best [] s m w b e = rw (scan-nil counts k s, keep-nil counts, append-nil) e
     scan-best (x ∷ l) s m w b e =
         byTest (beyond k (s .entries) (f x .gap))
-        (λ t. rw (scan-stop k (f x) (map f l) s t)
-        (stopped-list x s t ∙ e ∙ sym (beyond-rest m (x ∷ l) b (beyond-all (bestK k m) x l w (rw e at t)))))
-        (λ n. rw (scan-on k (f x) (map f l) s n)
-        (scan-best l (lookAt k (f x) s) (m ++ (f x .entry ∷ [])) (w .1) (b .1) (offered-best x s m e n) ∙ simp append-assoc))
+        (λ t. rw (scan-stop counts k (f x) (map f l) s t)
+        (stopped-list x s t ∙ e ∙ sym (beyond-rest m (x ∷ l) b (beyond-all k (bestK k m) x l w (rw e at t)))))
+        (λ n. rw (scan-on counts k (f x) (map f l) s n)
+        (scan-best l (lookAt counts k (f x) s) (m ++ counted (x ∷ [])) (w .1) (b .1) (offered-best x s m e n)
+        ∙ ap (bestK k) (keep-after counts m (f x .entry ∷ []) (map (λ y. f y .entry) l))))
 
     -- What a scan did not pass is beyond the list that it leaves.
     pub scan-rest : (l : List X) (s : State) → Widening l
-        → All (λ x. beyond k (scan k (map f l) s .state .entries) (f x .gap) ≡ true) (drop (scan k (map f l) s .passed) l)
+        → let r = scan counts k (map f l) s in
+        All (λ x. beyond k (r .state .entries) (f x .gap) ≡ true) (drop (r .passed) l)
     unfolding Widening All
-    scan-rest [] s w = rw (scan-nil k s) tt
+    scan-rest [] s w = rw (scan-nil counts k s) tt
     scan-rest (x ∷ l) s w =
         byTest (beyond k (s .entries) (f x .gap))
-        (λ t. rw (scan-stop k (f x) (map f l) s t) (rw (stopped-list x s t) (beyond-all (s .entries) x l w t)))
-        (λ n. rw (scan-on k (f x) (map f l) s n) (scan-rest l (lookAt k (f x) s) (w .1)))
+        (λ t. rw (scan-stop counts k (f x) (map f l) s t) (rw (stopped-list x s t) (beyond-all k (s .entries) x l w t)))
+        (λ n. rw (scan-on counts k (f x) (map f l) s n) (scan-rest l (lookAt counts k (f x) s) (w .1)))

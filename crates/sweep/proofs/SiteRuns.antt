@@ -1,11 +1,12 @@
 -- Laws of runs of sites read from two columns.
 use mathlib.Core.Path.{_≡_, refl, sym, ap, _∙_}
-use mathlib.Core.List.{List, [], _∷_}
+use mathlib.Core.List.{List, [], _∷_, _++_}
 use Prim.Native.Nat.{ℕ, zero, suc, _+_, _-_, _≤_, _<_}
 use native.Mathlib.Numerals.{add-one}
 use native.Mathlib.Omega.{arith}
 use lib.IntN.{ℤ}
 use lib.ListN.{length, take}
+use Rattle.order.specs.Lists.{All}
 use Rattle.sweep.specs.Strip.{Placed}
 use Rattle.sweep.specs.Terms.{spot, rightward}
 use Rattle.sweep.specs.Internal.{leftward}
@@ -22,6 +23,34 @@ module _ (xs ys : List ℤ) where
       let one : to - from ≡ suc (to - (from + 1)) = omega arith in
       ap (λ (n : ℕ). rightward xs ys from n) one
       ∙ ap (λ (m : ℕ). spot xs ys from ∷ rightward xs ys m (to - (from + 1))) (sym (add-one from))
+
+  rightward-parts : (from m n : ℕ) → rightward xs ys from (m + n) ≡ rightward xs ys from m ++ rightward xs ys (from + m) n
+  unfolding rightward
+  rightward-parts from zero n = let e : from + 0 ≡ from = omega arith in let z : 0 + n ≡ n = omega arith in rw (e, z)
+  rightward-parts from (suc m) n =
+      let e : from + suc m ≡ suc from + m = omega arith in
+      let z : suc m + n ≡ suc (m + n) = omega arith in
+      rw (e, z) (ap (λ (l : List Placed). spot xs ys from ∷ l) (rightward-parts (suc from) m n))
+
+  -- Two runs that meet are one.
+  pub rightward-join : {from mid to : ℕ} → from ≤ mid → mid ≤ to
+      → rightward xs ys from (to - from) ≡ rightward xs ys from (mid - from) ++ rightward xs ys mid (to - mid)
+  rightward-join {from} {mid} {to} h g =
+      let e : to - from ≡ (mid - from) + (to - mid) = omega arith in
+      let z : from + (mid - from) ≡ mid = omega arith in
+      rw e (rw z at (rightward-parts from (mid - from) (to - mid)))
+
+  all-sites : (P : Placed → Type 0) (from n : ℕ) → ((k : ℕ) → from ≤ k → k < from + n → P (spot xs ys k))
+      → All P (rightward xs ys from n)
+  unfolding rightward All
+  all-sites P from zero h = tt
+  all-sites P from (suc n) h =
+      (h from (omega arith) (omega arith), all-sites P (suc from) n (λ k p q. h k (omega arith) (omega arith)))
+
+  -- What holds of the site at each place.
+  pub all-rightward : (P : Placed → Type 0) {from to : ℕ} → ((k : ℕ) → from ≤ k → k < to → P (spot xs ys k))
+      → All P (rightward xs ys from (to - from))
+  all-rightward P {from} {to} h = all-sites P from (to - from) (λ k p q. h k p (omega arith))
 
   pub leftward-nil : (limit at : ℕ) → at ≤ limit → leftward xs ys limit (at - limit) ≡ []
   unfolding leftward

@@ -11,13 +11,14 @@ use lib.Seq.{take-all, take-add, drop-drop, getD-take, getD-drop}
 use borrow.Author.Tests.{lt-ltb, le-ltb}
 use Rattle.order.specs.Order.{on, lex}
 use Rattle.order.specs.Lists.{All, Distinct}
-use Rattle.order.proofs.Sorted.{Ascends, ascends-take, ascends-drop}
+use Rattle.order.proofs.Sorted.{Ascends, ascends-take, ascends-drop, ascends-keep}
 use Rattle.order.proofs.Order.{never-both, lex-less, lex-next}
-use Rattle.order.proofs.Lists.{all-weaken, mem-take, mem-drop}
+use Rattle.order.proofs.Lists.{all-weaken, mem-take, mem-drop, keep-mem, mem-keep, length-keep}
 use Rattle.site.specs.declared.Site.{Site}
 use Rattle.site.specs.Site.{squaredDistance}
 use Rattle.entry.specs.declared.Entry.{Entry}
-use Rattle.sweep.specs.Strip.{Placed, placedFrom, whole, strip, pair, pairs}
+use Rattle.entry.specs.Entry.{apart}
+use Rattle.sweep.specs.Strip.{Placed, placedFrom, whole, strip, pair, product, pairs}
 use Rattle.sweep.proofs.ProductLaws.{mem-product, product-mem, product-ascends, length-product}
 
 -- A site at a place.
@@ -175,19 +176,23 @@ strip-empty at l = let z : at - at ≡ 0 = omega arith in rw z
 
 -- ---- pairs
 
--- What a pair of two lists is: two places, and the squared distance of the sites there. The site `s` stands for none.
+-- What a pair of two lists is: two places, and the squared distance of the sites there, 1 or more. The site `s` stands
+-- for none.
 pub record PairOf (a b : List Site) (s : Site) (e : Entry) : Type 0 where
   pub first-below : e .first < length a
   pub second-below : e .second < length b
   pub right : e .distance ≡ squaredDistance (getD a (e .first) s) (getD b (e .second) s)
+  pub counts : apart e ≡ true
 
 pub mem-pairs : {e : Entry} (a b : List Site) (s : Site) → List·Memᴰ e (pairs (whole a) (whole b)) → PairOf a b s e
 unfolding pairs pair
 mem-pairs a b s m =
-    let w = mem-product pair (whole a) (whole b) m in
+    let k = keep-mem apart (product pair (whole a) (whole b)) m in
+    let w = mem-product pair (whole a) (whole b) (k .0) in
     let u = mem-whole a s (w .2) in
     let v = mem-whole b s (w .3) in
-    rw (w .4) (record { first-below = u .0; second-below = v .0; right = rw (u .1, v .1) })
+    let c : apart (pair (w .0) (w .1)) ≡ true = rw (w .4) at (k .1) in
+    rw (w .4) (record { first-below = u .0; second-below = v .0; right = rw (u .1, v .1); counts = c })
 
 pub pairs-mem : (e : Entry) (a b : List Site) (s : Site) → PairOf a b s e → List·Memᴰ e (pairs (whole a) (whole b))
 unfolding pairs pair
@@ -195,8 +200,10 @@ pairs-mem e a b s h =
     let x = placed (e .first) (getD a (e .first) s) in
     let y = placed (e .second) (getD b (e .second) s) in
     let same : e ≡ pair x y = λ i. record { distance = h .right i; first = e .first; second = e .second } in
-    Memᴰ·cast same
-    (product-mem pair (whole a) (whole b) (whole-mem x a s (h .first-below) refl) (whole-mem y b s (h .second-below) refl))
+    mem-keep apart (product pair (whole a) (whole b))
+    (Memᴰ·cast same
+    (product-mem pair (whole a) (whole b) (whole-mem x a s (h .first-below) refl) (whole-mem y b s (h .second-below) refl)))
+    (h .counts)
 
 pub mem-pairs-iff : (e : Entry) (a b : List Site) (s : Site) → List·Memᴰ e (pairs (whole a) (whole b)) ↔ PairOf a b s e
 mem-pairs-iff e a b s = (mem-pairs a b s, pairs-mem e a b s)
@@ -206,27 +213,30 @@ pub mem-strip-pairs : {e : Entry} (f t g h : ℕ) (a b : List Site) → List·Me
     → (f ≤ e .first) × (e .first < t) × (g ≤ e .second) × (e .second < h) × List·Memᴰ e (pairs (whole a) (whole b))
 unfolding pairs pair
 mem-strip-pairs f t g h a b m =
-    let w = mem-product pair (strip f t a) (strip g h b) m in
+    let k = keep-mem apart (product pair (strip f t a) (strip g h b)) m in
+    let w = mem-product pair (strip f t a) (strip g h b) (k .0) in
     let u = mem-strip f t a (w .2) in
     let v = mem-strip g h b (w .3) in
-    rw (w .4) (u .0, u .1, v .0, v .1, product-mem pair (whole a) (whole b) (u .2) (v .2))
+    let c : apart (pair (w .0) (w .1)) ≡ true = rw (w .4) at (k .1) in
+    rw (w .4)
+    (u .0, u .1, v .0, v .1, mem-keep apart (product pair (whole a) (whole b)) (product-mem pair (whole a) (whole b) (u .2) (v .2)) c)
 
 pub strip-pairs-mem : {e : Entry} (f t g h : ℕ) (a b : List Site) → f ≤ e .first → e .first < t → g ≤ e .second → e .second < h
     → List·Memᴰ e (pairs (whole a) (whole b)) → List·Memᴰ e (pairs (strip f t a) (strip g h b))
 unfolding pairs pair
 strip-pairs-mem {e} f t g h a b i j k l m =
-    let w = mem-product pair (whole a) (whole b) m in
+    let n = keep-mem apart (product pair (whole a) (whole b)) m in
+    let w = mem-product pair (whole a) (whole b) (n .0) in
     let first : e .first ≡ w .0 .place = ap (λ x. x .first) (w .4) in
     let second : e .second ≡ w .1 .place = ap (λ x. x .second) (w .4) in
-    Memᴰ·cast (w .4)
-    (product-mem pair (strip f t a) (strip g h b) (strip-mem f t a (omega arith) (omega arith) (w .2)) (strip-mem g h b (omega arith) (omega arith) (w .3)))
+    mem-keep apart (product pair (strip f t a) (strip g h b))
+    (Memᴰ·cast (w .4)
+    (product-mem pair (strip f t a) (strip g h b) (strip-mem f t a (omega arith) (omega arith) (w .2)) (strip-mem g h b (omega arith) (omega arith) (w .3))))
+    (n .1)
 
-pub length-pairs : (p q : List Placed) → length (pairs p q) ≡ length p * length q
+pub length-pairs-most : (p q : List Placed) → length (pairs p q) ≤ length p * length q
 unfolding pairs
-length-pairs p q = length-product pair p q
-
-pub length-whole-pairs : (a b : List Site) → length (pairs (whole a) (whole b)) ≡ length a * length b
-length-whole-pairs a b = rw (length-pairs, length-whole a, length-whole b)
+length-pairs-most p q = omega (arith, length-keep apart (product pair p q), length-product pair p q)
 
 -- By first place and then second.
 abbrev pub byPlaces : Entry → Entry → Bool
@@ -238,10 +248,11 @@ places-apart n = le-ltb n n (omega arith)
 pub pairs-ascend : (p q : List Placed) → Ascends (on ltb (λ x. x .place)) p → Ascends (on ltb (λ x. x .place)) q → Ascends byPlaces (pairs p q)
 unfolding pairs pair
 pairs-ascend p q sp sq =
-    product-ascends pair (on ltb (λ x. x .place)) (on ltb (λ x. x .place)) byPlaces
+    ascends-keep byPlaces apart (product pair p q)
+    (product-ascends pair (on ltb (λ x. x .place)) (on ltb (λ x. x .place)) byPlaces
     (λ a c b d h. lex-less _ _ (pair a b) (pair c d) h)
     (λ a b d h. lex-next _ _ (pair a b) (pair a d) (places-apart (a .place)) (places-apart (a .place)) ∙ h)
-    p q sp sq
+    p q sp sq)
 
 -- What ascends by a test that holds of nothing and itself has nothing twice.
 irreflexive-distinct : {A : Type 0} (before : A → A → Bool) → ((a : A) → before a a ≡ false) → (l : List A) → Ascends before l → Distinct l

@@ -9,7 +9,7 @@ use Rattle.site.specs.declared.Site.{Site}
 use Rattle.site.specs.Site.{siteBefore}
 use Rattle.site.proofs.Distance.{squared-gap-x}
 use Rattle.entry.specs.declared.Entry.{Entry}
-use Rattle.entry.specs.Entry.{bestK}
+use Rattle.entry.specs.Entry.{apart, bestK}
 use Rattle.sweep.specs.declared.Way.{Way}
 use Rattle.sweep.specs.declared.Way.the-variants.{Classic, ReverseRun}
 use Rattle.sweep.specs.Strip.{Placed, whole, strip, pair, pairs}
@@ -29,8 +29,8 @@ plane-geometry =
 pub sweep-sorted : (w : Way) (k : ℕ) (p q : List Placed) (l m : List Entry) → Sorted leftOf p → Sorted leftOf q → l ≡ bestK k m
     → sweep w k p q l .entries ≡ bestK k (m ++ pairs p q)
 unfolding sweep pairs look
-sweep-sorted Classic k p q l m sp sq e = classic-best plane-geometry k p q (state l 0 0) m sp sq e
-sweep-sorted ReverseRun k p q l m sp sq e = reverse-best plane-geometry k p q (state l 0 0) m sp sq e
+sweep-sorted Classic k p q l m sp sq e = classic-best plane-geometry apart k p q (state l 0 0) m sp sq e
+sweep-sorted ReverseRun k p q l m sp sq e = reverse-best plane-geometry apart k p q (state l 0 0) m sp sq e
 
 -- Over two strips.
 pub sweep-best : (w : Way) (k f t g h : ℕ) (a b : List Site) (l m : List Entry)

@@ -33,7 +33,7 @@ module _ (way : Way) (ax ay bx by : List ℤ) (aFrom aTo bFrom bTo k old : ℕ) 
       let q = rightward bx by bFrom (bTo - bFrom) in
       let m = length-rightward ax ay aFrom (aTo - aFrom) in
       let n = length-rightward bx by bFrom (bTo - bFrom) in
-      let f = sweep-looks-fit way k p q (entriesOf old before) (omega (arith, asked .a-inside, asked .a .few)) (omega (arith, asked .b-inside, asked .b .few)) in
+      let f = sweep-looks-fit way k p q (entriesOf old before) (omega (arith, asked .a .inside, asked .a .lawful .few)) (omega (arith, asked .b .inside, asked .b .lawful .few)) in
       let g = sweep-distances-bound way k p q (entriesOf old before) in
       omega (arith, c .looks-from, c .distances-from)
 
@@ -49,7 +49,7 @@ module _ (way : Way) (ax ay bx by : List ℤ) (aFrom aTo bFrom bTo k old : ℕ) 
   unfolding stateOf
   swept-strips {r} {after} {t} {answer} h a = record {
     numbered = λ an bn la lb.
-        let same = sweep-strips way k (columns ax ay an) (columns bx by bn) aFrom aTo bFrom bTo (entriesOf old before) la lb (asked .a-inside) (asked .b-inside) in
+        let same = sweep-strips way k (columns ax ay an) (columns bx by bn) aFrom aTo bFrom bTo (entriesOf old before) la lb (asked .a .inside) (asked .b .inside) in
         let u = h .updated in
         let n = length-queued (queue-finishes (u .queue)) in
         let whole : SweptTo (stateOf t r) before after answer = record {

@@ -13,7 +13,7 @@ use Rattle.order.proofs.Lists.{map-take}
 use Rattle.site.specs.declared.Site.{Site}
 use Rattle.site.specs.Site.{gap, square}
 use Rattle.site.proofs.Distance.{numberless}
-use Rattle.entry.specs.Entry.{entry}
+use Rattle.entry.specs.Entry.{entry, apart}
 use Rattle.site.specs.SiteList.{Columns, sites}
 use Rattle.site.specs.Terms.{Level}
 use Rattle.site.proofs.SiteList.{columnsAt, sites-length, sites-at}
@@ -28,54 +28,54 @@ use Rattle.sweep.proofs.Strip.{strip-is}
 
 -- ---- things replaced by others that lead and look the same
 
-module _ {A B C D : Type 0} (f : A → C) (g : B → D) (leads : C → D → Bool) (look : C → D → Candidate) (k : ℕ) where
+module _ {A B C D : Type 0} (f : A → C) (g : B → D) (leads : C → D → Bool) (look : C → D → Candidate) (counts : Entry → Bool) (k : ℕ) where
   pub classic-map : (p : List A) (q : List B) (s : State)
-      → classicOver (λ a b. leads (f a) (g b)) (λ a b. look (f a) (g b)) k p q s ≡ classicOver leads look k (map f p) (map g q) s
+      → classicOver (λ a b. leads (f a) (g b)) (λ a b. look (f a) (g b)) counts k p q s ≡ classicOver leads look counts k (map f p) (map g q) s
   unfolding classicOver
   classic-map [] q s = refl
   classic-map (a ∷ p) [] s = refl
   classic-map (a ∷ p) (b ∷ q) s =
       rw (map-map (look (f a)) g (b ∷ q), map-map (λ (c : C). look c (g b)) f (a ∷ p))
       (byTest (leads (f a) (g b))
-      (λ t. rw t (classic-map p (b ∷ q) (scan k (map (λ (x : B). look (f a) (g x)) (b ∷ q)) s .state)))
-      (λ t. rw t (classic-map (a ∷ p) q (scan k (map (λ (x : A). look (f x) (g b)) (a ∷ p)) s .state))))
+      (λ t. rw t (classic-map p (b ∷ q) (scan counts k (map (λ (x : B). look (f a) (g x)) (b ∷ q)) s .state)))
+      (λ t. rw t (classic-map (a ∷ p) q (scan counts k (map (λ (x : A). look (f x) (g b)) (a ∷ p)) s .state))))
 
   first-end : (a : A) (p : List A) (q : List D) (u : List A) (v : List B) (s : State)
-      → reverseOver leads look k (map f p) q (map f (a ∷ u)) (map g (take (scan k (map (λ (x : B). look (f a) (g x)) v) s .passed) v))
-      (scan k (map (λ (x : B). look (f a) (g x)) v) s .state)
-      ≡ reverseOver leads look k (map f p) q (map f (a ∷ u)) (take (scan k (map (look (f a)) (map g v)) s .passed) (map g v))
-      (scan k (map (look (f a)) (map g v)) s .state)
+      → reverseOver leads look counts k (map f p) q (map f (a ∷ u)) (map g (take (scan counts k (map (λ (x : B). look (f a) (g x)) v) s .passed) v))
+      (scan counts k (map (λ (x : B). look (f a) (g x)) v) s .state)
+      ≡ reverseOver leads look counts k (map f p) q (map f (a ∷ u)) (take (scan counts k (map (look (f a)) (map g v)) s .passed) (map g v))
+      (scan counts k (map (look (f a)) (map g v)) s .state)
   first-end a p q u v s =
-      let t = scan k (map (λ (x : B). look (f a) (g x)) v) s in
-      ap (λ (w : List D). reverseOver leads look k (map f p) q (map f (a ∷ u)) w (t .state)) (map-take g (t .passed) v)
-      ∙ ap (λ (m : List Candidate). reverseOver leads look k (map f p) q (map f (a ∷ u)) (take (scan k m s .passed) (map g v)) (scan k m s .state))
+      let t = scan counts k (map (λ (x : B). look (f a) (g x)) v) s in
+      ap (λ (w : List D). reverseOver leads look counts k (map f p) q (map f (a ∷ u)) w (t .state)) (map-take g (t .passed) v)
+      ∙ ap (λ (m : List Candidate). reverseOver leads look counts k (map f p) q (map f (a ∷ u)) (take (scan counts k m s .passed) (map g v)) (scan counts k m s .state))
       (sym (map-map (look (f a)) g v))
 
   second-end : (b : B) (p : List C) (q : List B) (u : List A) (v : List B) (s : State)
-      → reverseOver leads look k p (map g q) (map f (take (scan k (map (λ (x : A). look (f x) (g b)) u) s .passed) u)) (map g (b ∷ v))
-      (scan k (map (λ (x : A). look (f x) (g b)) u) s .state)
-      ≡ reverseOver leads look k p (map g q) (take (scan k (map (λ (c : C). look c (g b)) (map f u)) s .passed) (map f u)) (map g (b ∷ v))
-      (scan k (map (λ (c : C). look c (g b)) (map f u)) s .state)
+      → reverseOver leads look counts k p (map g q) (map f (take (scan counts k (map (λ (x : A). look (f x) (g b)) u) s .passed) u)) (map g (b ∷ v))
+      (scan counts k (map (λ (x : A). look (f x) (g b)) u) s .state)
+      ≡ reverseOver leads look counts k p (map g q) (take (scan counts k (map (λ (c : C). look c (g b)) (map f u)) s .passed) (map f u)) (map g (b ∷ v))
+      (scan counts k (map (λ (c : C). look c (g b)) (map f u)) s .state)
   second-end b p q u v s =
-      let t = scan k (map (λ (x : A). look (f x) (g b)) u) s in
-      ap (λ (w : List C). reverseOver leads look k p (map g q) w (map g (b ∷ v)) (t .state)) (map-take f (t .passed) u)
-      ∙ ap (λ (m : List Candidate). reverseOver leads look k p (map g q) (take (scan k m s .passed) (map f u)) (map g (b ∷ v)) (scan k m s .state))
+      let t = scan counts k (map (λ (x : A). look (f x) (g b)) u) s in
+      ap (λ (w : List C). reverseOver leads look counts k p (map g q) w (map g (b ∷ v)) (t .state)) (map-take f (t .passed) u)
+      ∙ ap (λ (m : List Candidate). reverseOver leads look counts k p (map g q) (take (scan counts k m s .passed) (map f u)) (map g (b ∷ v)) (scan counts k m s .state))
       (sym (map-map (λ (c : C). look c (g b)) f u))
 
   pub reverse-map : (p : List A) (q : List B) (u : List A) (v : List B) (s : State)
-      → reverseOver (λ a b. leads (f a) (g b)) (λ a b. look (f a) (g b)) k p q u v s
-      ≡ reverseOver leads look k (map f p) (map g q) (map f u) (map g v) s
+      → reverseOver (λ a b. leads (f a) (g b)) (λ a b. look (f a) (g b)) counts k p q u v s
+      ≡ reverseOver leads look counts k (map f p) (map g q) (map f u) (map g v) s
   unfolding reverseOver
   reverse-map [] [] u v s = refl
   reverse-map [] (b ∷ q) u v s =
-      let t = scan k (map (λ (x : A). look (f x) (g b)) u) s in
+      let t = scan counts k (map (λ (x : A). look (f x) (g b)) u) s in
       reverse-map [] q (take (t .passed) u) (b ∷ v) (t .state) ∙ second-end b [] q u v s
   reverse-map (a ∷ p) [] u v s =
-      let t = scan k (map (λ (x : B). look (f a) (g x)) v) s in
+      let t = scan counts k (map (λ (x : B). look (f a) (g x)) v) s in
       reverse-map p [] (a ∷ u) (take (t .passed) v) (t .state) ∙ first-end a p [] u v s
   reverse-map (a ∷ p) (b ∷ q) u v s =
-      let t = scan k (map (λ (x : B). look (f a) (g x)) v) s in
-      let w = scan k (map (λ (x : A). look (f x) (g b)) u) s in
+      let t = scan counts k (map (λ (x : B). look (f a) (g x)) v) s in
+      let w = scan counts k (map (λ (x : A). look (f x) (g b)) u) s in
       byTest (leads (f a) (g b))
       (λ h. rw h (reverse-map p (b ∷ q) (a ∷ u) (take (t .passed) v) (t .state) ∙ first-end a p (map g (b ∷ q)) u v s))
       (λ h. rw h (reverse-map (a ∷ p) q (take (w .passed) u) (b ∷ v) (w .state) ∙ second-end b (map f (a ∷ p)) q u v s))
@@ -86,19 +86,23 @@ module _ {A B C D : Type 0} (f : A → C) (g : B → D) (leads : C → D → Boo
 abbrev pub bare : Placed → Placed
 bare p = spotOf (p .site .x) (p .site .y) (p .place)
 
-look-bare : look ≡ (λ p q. look (bare p) (bare q))
-unfolding look pair
-look-bare = λ i p q.
+pub pair-bare : pair ≡ (λ p q. pair (bare p) (bare q))
+unfolding pair
+pair-bare = λ i p q.
     let s = p .site in
     let t = q .site in
-    record { gap = square (gap (s .x) (t .x)); entry = entry (numberless (s .x) (s .y) (t .x) (t .y) (s .number) (t .number) i) (p .place) (q .place) }
+    entry (numberless (s .x) (s .y) (t .x) (t .y) (s .number) (t .number) i) (p .place) (q .place)
+
+look-bare : look ≡ (λ p q. look (bare p) (bare q))
+unfolding look
+look-bare = λ i p q. record { gap = square (gap (p .site .x) (q .site .x)); entry = pair-bare i p q }
 
 pub sweep-bare : (way : Way) (k : ℕ) (p q : List Placed) (l : List Entry) → sweep way k p q l ≡ sweep way k (map bare p) (map bare q) l
 unfolding sweep leads
 sweep-bare Classic k p q l =
-    ap (λ (f : Placed → Placed → Candidate). classicOver leads f k p q (state l 0 0)) look-bare ∙ classic-map bare bare leads look k p q (state l 0 0)
+    ap (λ (f : Placed → Placed → Candidate). classicOver leads f apart k p q (state l 0 0)) look-bare ∙ classic-map bare bare leads look apart k p q (state l 0 0)
 sweep-bare ReverseRun k p q l =
-    ap (λ (f : Placed → Placed → Candidate). reverseOver leads f k p q [] [] (state l 0 0)) look-bare ∙ reverse-map bare bare leads look k p q [] [] (state l 0 0)
+    ap (λ (f : Placed → Placed → Candidate). reverseOver leads f apart k p q [] [] (state l 0 0)) look-bare ∙ reverse-map bare bare leads look apart k p q [] [] (state l 0 0)
 
 -- The sites of three columns, counted from a place, with their numbers left out.
 module _ (c : Columns) (level : Level c) where

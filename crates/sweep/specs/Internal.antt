@@ -1,5 +1,6 @@
--- Terms that only this crate's functions cite: references, tallies, and what a look and a scan ask and promise.
-use mathlib.Core.Bool.{Bool, cond, _&&_, _||_, false, true}
+-- Terms that only this crate's functions cite: references, tallies, what a look and a scan ask and promise, and runs of
+-- sites at one position.
+use mathlib.Core.Bool.{Bool, cond, not, _&&_, _||_, false, true}
 use mathlib.Core.List.{List, [], _∷_}
 use mathlib.Core.Path.{_≡_}
 use Prim.Native.Nat.{ℕ, zero, suc, _+_, _≤_, _<_, _^_}
@@ -7,16 +8,18 @@ use lib.Dec.{leb, ltb}
 use lib.IntN.{ℤ, pos}
 use lib.ListN.{getD, length}
 use lib.Signed.{leZ}
+use Rattle.order.specs.Lists.{keep}
 use Rattle.site.specs.SiteList.{site}
-use Rattle.site.specs.Site.{within}
-use Rattle.site.specs.Terms.{Coordinates}
+use Rattle.site.specs.Site.{within, siteBefore}
+use Rattle.site.specs.Terms.{positionAt, Coordinates}
 use Rattle.entry.specs.declared.Queue.{Queue}
+use Rattle.entry.specs.Entry.{apart}
 use Rattle.entry.specs.Results.{Results}
 use Rattle.entry.specs.Terms.{Within, queued, Queueing}
 use Rattle.sweep.specs.declared.Reference.{Reference}
 use Rattle.sweep.specs.declared.Tally.{Tally}
 use Rattle.sweep.specs.declared.Looked.{Looked}
-use Rattle.sweep.specs.Strip.{Placed}
+use Rattle.sweep.specs.Strip.{Placed, pair, product}
 use Rattle.sweep.specs.Scan.{Candidate, State, state, beyond, lookAt}
 use Rattle.sweep.specs.Sweep.{look}
 use Rattle.sweep.specs.Terms.{spotOf, spot}
@@ -87,4 +90,15 @@ pub record Tallied (k : ℕ) (before : Results) (old : ℕ) (s : State) (r : Res
 -- A look promises whether it stopped the scan, and the state that it leaves.
 pub record LookDone (k : ℕ) (c : Candidate) (old : Tally) (before after : Results) (l : Looked) : Type 0 where
   pub stopped : l .stopped ≡ beyond k (queued (old .queue) before) (c .gap)
-  pub tally : Tallied k before (old .queue .count) (lookAt k c (stateOf old before)) after (l .tally)
+  pub tally : Tallied k before (old .queue .count) (lookAt apart k c (stateOf old before)) after (l .tally)
+
+-- In a strip that ends at place `to`, the sites at the position of place `from` are those up to, not including, place `r`.
+pub record RunAt (xs ys : List ℤ) (from to r : ℕ) : Type 0 where
+  pub onward : from < r
+  pub inside : r ≤ to
+  pub same : (k : ℕ) → from ≤ k → k < r → positionAt xs ys k ≡ positionAt xs ys from
+  pub past : r < to → siteBefore (positionAt xs ys from) (positionAt xs ys r) ≡ true
+
+-- How many of one site each of two strips stand at one position, and so are no pairs. (02 d: co-sited cells.)
+unfoldable pub coSited : List Placed → List Placed → ℕ
+coSited p q = length (keep (λ e. not (apart e)) (product pair p q))

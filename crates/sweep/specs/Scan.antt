@@ -25,20 +25,27 @@ state entries looks distances = record { entries = entries; looks = looks; dista
 unfoldable pub beyond : ℕ → List Entry → ℕ → Bool
 beyond k l gap = eqb (length l) k && ltb (lastDistance l) gap
 
--- What a look leaves. It stops the scan, or "the distance is worked out and the pair takes its place by rank".
-abbrev pub lookAt : ℕ → Candidate → State → State
-lookAt k c s =
-    let offered = state (offer k (c .entry) (s .entries)) (suc (s .looks)) (suc (s .distances)) in
-    cond (beyond k (s .entries) (c .gap)) (state (s .entries) (suc (s .looks)) (s .distances)) offered
-
 -- The state after a scan, and how many candidates it passed before it stopped or ran out.
 pub record Scanned : Type 0 where
   pub state : State
   pub passed : ℕ
 
-unfoldable pub scan : ℕ → List Candidate → State → Scanned
-scan k [] s = record { state = s; passed = 0 }
-scan k (c ∷ l) s =
-    let r = scan k l (lookAt k c s) in
-    let on : Scanned = record { state = r .state; passed = suc (r .passed) } in
-    cond (beyond k (s .entries) (c .gap)) (record { state = lookAt k c s; passed = 0 }) on
+-- `counts`: which pairs the list takes.
+module _ (counts : Entry → Bool) (k : ℕ) where
+  -- The list with a pair "by rank, the entry past K dropping out", or as it is where the pair does not count.
+  unfoldable pub taken : Entry → List Entry → List Entry
+  taken e l = cond (counts e) (offer k e l) l
+
+  -- What a look leaves. It stops the scan, or "the distance is worked out and the pair takes its place"; one that does
+  -- not count is worked out and counted all the same.
+  abbrev pub lookAt : Candidate → State → State
+  lookAt c s =
+      let on = state (taken (c .entry) (s .entries)) (suc (s .looks)) (suc (s .distances)) in
+      cond (beyond k (s .entries) (c .gap)) (state (s .entries) (suc (s .looks)) (s .distances)) on
+
+  unfoldable pub scan : List Candidate → State → Scanned
+  scan [] s = record { state = s; passed = 0 }
+  scan (c ∷ l) s =
+      let r = scan l (lookAt c s) in
+      let on : Scanned = record { state = r .state; passed = suc (r .passed) } in
+      cond (beyond k (s .entries) (c .gap)) (record { state = lookAt c s; passed = 0 }) on

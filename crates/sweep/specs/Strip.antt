@@ -2,10 +2,11 @@
 use mathlib.Core.List.{List, [], _∷_, map, flatMap}
 use Prim.Native.Nat.{ℕ, suc, _-_}
 use lib.ListN.{take, drop}
+use Rattle.order.specs.Lists.{keep}
 use Rattle.site.specs.declared.Site.{Site}
 use Rattle.site.specs.Site.{squaredDistance}
 use Rattle.entry.specs.declared.Entry.{Entry}
-use Rattle.entry.specs.Entry.{entry}
+use Rattle.entry.specs.Entry.{entry, apart}
 
 -- "A site's place is its index from 0."
 pub record Placed : Type 0 where
@@ -32,9 +33,9 @@ pair p q = entry (squaredDistance (p .site) (q .site)) (p .place) (q .place)
 unfoldable pub product : {A B C : Type 0} → (A → B → C) → List A → List B → List C
 product f p q = flatMap (λ a. map (f a) q) p
 
--- All pairs of two strips, by first place and then second. (01: pair, a job's pairs.)
+-- All pairs of two strips, by first place and then second; co-sited cells are none. (01: pair, a job's pairs.)
 unfoldable pub pairs : List Placed → List Placed → List Entry
-pairs p q = product pair p q
+pairs p q = keep apart (product pair p q)
 
 -- All pairs of two whole lists: the one definition of the pairs there are.
 abbrev pub allPairs : List Site → List Site → List Entry

@@ -27,14 +27,16 @@ unfoldable pub rightward : List ℤ → List ℤ → ℕ → ℕ → List Placed
 rightward xs ys from zero = []
 rightward xs ys from (suc n) = spot xs ys from ∷ rightward xs ys (suc from) n
 
--- A sweep asks: lawful columns, strips inside them, and result columns ready for up to `k` entries.
+-- A strip of a lawful list, by its coordinate columns.
+pub record StripIn (xs ys : List ℤ) (from to : ℕ) : Type 0 where
+  pub lawful : Coordinates xs ys
+  pub range : from ≤ to
+  pub inside : to ≤ length xs
+
+-- A sweep asks: two strips, and result columns ready for up to `k` entries.
 pub record SweepAsked (ax ay bx by : List ℤ) (aFrom aTo bFrom bTo k count : ℕ) (r : Results) : Type 0 where
-  pub a : Coordinates ax ay
-  pub b : Coordinates bx by
-  pub a-range : aFrom ≤ aTo
-  pub a-inside : aTo ≤ length ax
-  pub b-range : bFrom ≤ bTo
-  pub b-inside : bTo ≤ length bx
+  pub a : StripIn ax ay aFrom aTo
+  pub b : StripIn bx by bFrom bTo
   pub some : 0 < k
   pub few : k ≤ 4_096
   pub ready : Ready k count r

@@ -1,8 +1,10 @@
 // The two sweeps over two strips, on a list that may already hold entries.
+mod count;
 mod look;
 mod scan;
 mod sweeps;
 
+pub use count::count_pairs;
 use entry::Queue;
 ghost use Prim.Native.Nat.{_≤_};
 ghost use Rattle.entry.specs.Results.{results, lentResults};

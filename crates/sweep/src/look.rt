@@ -63,8 +63,9 @@ fn gone_on(old: Tally, queue: Queue) -> Looked
 }
 
 // A look from a reference at the site of a place of the other list. It stops the scan where the x-difference squared is
-// past the reach; otherwise the distance is worked out, and the pair takes its place by rank. `offer` is called for each
-// side of the pair, so that it is compiled apart from the scan's loop.
+// past the reach; otherwise the distance is worked out, and the pair takes its place by rank, where it can still enter and
+// is no pair of co-sited cells. `offer` is called for each side of the pair, so that it is compiled apart from the scan's
+// loop.
 pub(super) fn look(
     reference: Reference,
     xs: &[i32],
@@ -92,7 +93,7 @@ pub(super) fn look(
     }
     tally.distances += 1;
     let squared = squared_distance_at(reference, xs, ys, i);
-    if tally.queue.reach < squared {
+    if tally.queue.reach < squared || squared == 0 {
         return Looked {
             stopped: false,
             tally,

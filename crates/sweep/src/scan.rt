@@ -5,6 +5,7 @@ use super::look;
 ghost use mathlib.Core.Path.{_≡_};
 ghost use mathlib.Core.List.{map};
 ghost use Prim.Native.Nat.{_+_, _-_};
+ghost use Rattle.entry.specs.Entry.{apart};
 ghost use Rattle.entry.specs.Results.{results, lentResults};
 ghost use Rattle.sweep.specs.Scan.{scan};
 ghost use Rattle.sweep.specs.Terms.{rightward};
@@ -29,7 +30,7 @@ pub(super) fn scan_right(
     ensures { λ r.
         let l = lentResults distance first second in
         let run = rightward (now (xs .entry)) (now (ys .entry)) from (to - from) in
-        let scanned = scan k (map (lookFrom reference) run) (stateOf old (l .entry)) in
+        let scanned = scan apart k (map (lookFrom reference) run) (stateOf old (l .entry)) in
         ⌜ Tallied k (l .entry) (old .queue .count) (scanned .state) (l .exit) r ⌝ }
 {
     let mut at = from;
@@ -65,7 +66,7 @@ pub(super) fn scan_left(
     ensures { λ r.
         let l = lentResults distance first second in
         let run = leftward (now (xs .entry)) (now (ys .entry)) limit (taken - limit) in
-        let scanned = scan k (map (lookFrom reference) run) (stateOf old (l .entry)) in
+        let scanned = scan apart k (map (lookFrom reference) run) (stateOf old (l .entry)) in
         ⌜ Tallied k (l .entry) (old .queue .count) (scanned .state) (l .exit) r × (r .at + scanned .passed ≡ taken) ⌝ }
 {
     let mut at = taken;

@@ -1,6 +1,6 @@
 -- `campaign::ends::from` meets its contract.
 use borrow.Author.Needs.{needs}
-use Rattle.campaign.proofs.Cuts.{starts-at-first, starts-at-end}
+use Rattle.campaign.proofs.LawfulEnds.{starts-at-first, starts-at-end}
 use Rattle.campaign.proofs.ends.from.Statement.{statement}
 use Rattle.campaign.proofs.ends.from.Tie as tie
 

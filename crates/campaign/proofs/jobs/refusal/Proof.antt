@@ -3,7 +3,7 @@ use borrow.Author.Needs.{needs}
 use mathlib.Core.Path.{_≡_, sym, _∙_}
 use native.Mathlib.Omega.{arith}
 use lib.ListN.{length}
-use Rattle.campaign.proofs.SoundCampaign.{sound-campaign, campaign-plan}
+use Rattle.campaign.proofs.SoundCampaign.{sound-campaign, campaign-parts}
 use Rattle.campaign.proofs.JobRefusal.{refuses-campaign, past-rows, past-cols, mark-decides}
 use Rattle.campaign.proofs.jobs.refusal.Statement.{statement}
 use Rattle.campaign.proofs.jobs.refusal.Tie as tie
@@ -33,7 +33,7 @@ is-settled-requires c κs =
     let g = c .before .before in
     let f = g .before .before in
     let e = f .before .before in
-    let p = campaign-plan _ _ _ _ (sound-campaign _ _ _ _ (e .before .refusal .ensures) (e .if1 .left)) in
+    let p = campaign-parts _ _ _ _ (sound-campaign _ _ _ _ (e .before .refusal .ensures) (e .if1 .left)) in
     (omega (arith, p .rows, f .if2 .left), omega (arith, p .cols, g .if3 .left))
 
 returns-4 : tie.Need-returns-4

@@ -3,8 +3,8 @@ use borrow.Author.Needs.{needs}
 use mathlib.Core.Path.{_≡_}
 use native.Mathlib.Omega.{arith}
 use lib.ListN.{length}
-use Rattle.campaign.proofs.SoundPlan.{asked-parts, some-k}
-use Rattle.campaign.proofs.JobAnswer.{places, not-full, gap-decides}
+use Rattle.campaign.proofs.SoundPlan.{asked-parts, some-k, places}
+use Rattle.campaign.proofs.JobAnswer.{not-full, gap-decides}
 use Rattle.campaign.proofs.jobs.skips.Statement.{statement}
 use Rattle.campaign.proofs.jobs.skips.Tie as tie
 

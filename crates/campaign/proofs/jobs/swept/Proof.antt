@@ -1,10 +1,9 @@
 -- `campaign::jobs::swept` meets its contract.
 use borrow.Author.Needs.{needs}
 use mathlib.Core.Path.{_≡_}
-use native.Mathlib.Omega.{arith}
 use lib.ListN.{length}
-use Rattle.campaign.proofs.SoundPlan.{asked-parts, some-k}
-use Rattle.campaign.proofs.JobAnswer.{places, by-number}
+use Rattle.campaign.proofs.SoundPlan.{asked-parts, some-k, strips-in}
+use Rattle.campaign.proofs.JobAnswer.{by-number}
 use Rattle.campaign.proofs.jobs.swept.Statement.{statement}
 use Rattle.campaign.proofs.jobs.swept.Tie as tie
 
@@ -24,15 +23,11 @@ run-requires c κs =
     let s = c .before .before .before .before .before .before .before .before .before .before .before .before in
     let asked = s .pre .1 .0 in
     let w =
-    places (s .args .c) (c .before .before .before .before .before .before .strip .ensures)
-    (c .before .before .before .before .before .strip2 .ensures) asked (long s .0) (long s .1) in
+    strips-in (s .args .c) (c .before .before .before .before .before .before .strip .ensures)
+    (c .before .before .before .before .before .strip2 .ensures) (s .pre .0 .0) (s .pre .0 .1) asked (long s .0) (long s .1) in
     record {
-      a = s .pre .0 .0;
-      b = s .pre .0 .1;
-      a-range = omega (arith, w .0);
-      a-inside = w .1;
-      b-range = omega (arith, w .2);
-      b-inside = w .3;
+      a = w .0;
+      b = w .1;
       some = some-k asked .0;
       few = some-k asked .1;
       ready = s .pre .1 .1;

@@ -61,16 +61,16 @@ abbrev begun : tie.Else1 → tie.Start
 begun c = start (c .before .before .before .before .before)
 
 array-share-prefix-first-ends : tie.Need-array-share-prefix-first-ends
-array-share-prefix-first-ends c = omega (arith, long (begun c), begun c .pre .1 .0 .rows)
+array-share-prefix-first-ends c = omega (arith, long (begun c), begun c .pre .1 .0 .0)
 
 slice-aggregate-all-sound : tie.Need-slice-aggregate-all-sound
-slice-aggregate-all-sound c = let s = begun (c .before) in in-use _ _ (long s .0) (s .pre .1 .0 .rows)
+slice-aggregate-all-sound c = let s = begun (c .before) in in-use _ _ (long s .0) (s .pre .1 .0 .0)
 
 array-share-prefix-second-ends : tie.Need-array-share-prefix-second-ends
-array-share-prefix-second-ends c = omega (arith, long (begun (c .before)), begun (c .before) .pre .1 .0 .cols)
+array-share-prefix-second-ends c = omega (arith, long (begun (c .before)), begun (c .before) .pre .1 .0 .1)
 
 slice-aggregate-all-sound-2 : tie.Need-slice-aggregate-all-sound-2
-slice-aggregate-all-sound-2 c = let s = begun (c .before .before) in in-use _ _ (long s .1) (s .pre .1 .0 .cols)
+slice-aggregate-all-sound-2 c = let s = begun (c .before .before) in in-use _ _ (long s .1) (s .pre .1 .0 .1)
 
 slice-aggregate-all-sound-3 : tie.Need-slice-aggregate-all-sound-3
 slice-aggregate-all-sound-3 c = sym (long (begun (c .before .before .before)) .2)
@@ -79,10 +79,10 @@ all-sound-requires : tie.Need-all-sound-requires
 all-sound-requires c κs =
     let s = begun (c .before .before .before) in
     let p = s .pre .1 .0 in
-    let rows = in-use (s .args .c .«first_ends») (s .args .c .«first_strips») (long s .0) (p .rows) in
-    let cols = in-use (s .args .c .«second_ends») (s .args .c .«second_strips») (long s .1) (p .cols) in
+    let rows = in-use (s .args .c .«first_ends») (s .args .c .«first_strips») (long s .0) (p .0) in
+    let cols = in-use (s .args .c .«second_ends») (s .args .c .«second_strips») (long s .1) (p .1) in
     let room = room-first (s .args .c .k) (s .args .c .entries) (lent s) (s .pre .1 .1 .room) (s .pre .1 .1 .most) in
-    (room, (s .pre .0, (omega (arith, rows, p .rows), omega (arith, cols, p .cols))))
+    (room, (s .pre .0, (omega (arith, rows, p .0), omega (arith, cols, p .1))))
 
 returns-2 : tie.Need-returns-2
 returns-2 c =

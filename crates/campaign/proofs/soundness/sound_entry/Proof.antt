@@ -4,7 +4,7 @@ use Rattle.site.specs.SiteList.{Columns, columns}
 use Prim.Native.Nat.{ℕ}
 use mathlib.Core.List.{List}
 use native.Mathlib.Omega.{arith}
-use Rattle.campaign.proofs.SoundEntry.{holding-few, first-outside, second-outside, wrong-distance, its-job}
+use Rattle.campaign.proofs.SoundEntry.{holding-few, first-outside, second-outside, co-sited, wrong-distance, its-job}
 use Rattle.campaign.proofs.soundness.sound_entry.Statement.{statement}
 use Rattle.campaign.proofs.soundness.sound_entry.Tie as tie
 
@@ -30,30 +30,45 @@ returns-2 c =
 
 returns-3 : tie.Need-returns-3
 returns-3 c =
-    let s = c .before .before .before .before .before .before .before .before .before .before in
+    let e = c .before .before in
+    let s = e .before .before .before .before .before .before .before in
     record {
       numbered = λ an bn la lb.
-          wrong-distance _ _ _ (first s an) (second s bn) la lb (s .args .e)
-          (c .before .before .before .before .if1 .left) (c .before .before .before .if2 .left)
-          (c .before .before .distance-at .ensures .numbered an bn la lb) (c .if3 .taken);
+          co-sited _ _ _ (first s an) (second s bn) la lb (s .args .e) (e .before .if1 .left) (e .if2 .left) (c .if3 .taken);
+    }
+
+-- What is known past the test of the distance 0.
+abbrev begun : tie.Else3 → tie.Start
+begun c = c .before .before .before .before .before .before .before .before .before
+
+returns-4 : tie.Need-returns-4
+returns-4 c =
+    let d = c .before .before in
+    let e = d .before .before .before in
+    let s = begun (d .before) in
+    record {
+      numbered = λ an bn la lb.
+          wrong-distance _ _ _ (first s an) (second s bn) la lb (s .args .e) (e .before .if1 .left) (e .if2 .left)
+          (d .before .if3 .left) (d .distance-at .ensures .numbered an bn la lb) (c .if4 .taken);
     }
 
 is-settled-requires : tie.Need-is-settled-requires
 is-settled-requires c κs =
-    let s = c .before .before .before .before .before .before .before .before .before .before .before .before in (
+    let s = begun (c .before .before .before .before .before) in (
       omega (arith, c .before .holding .ensures, s .pre .1, holding-few (s .args .first-ends .now) (s .args .e .first)),
       omega (arith, c .holding2 .ensures, s .pre .1, holding-few (s .args .second-ends .now) (s .args .e .second)),
     )
 
-returns-4 : tie.Need-returns-4
-returns-4 c =
-    let s = c .before .before .before .before .before .before .before .before .before .before .before .before .before in
-    let d = c .before .before .before in
+returns-5 : tie.Need-returns-5
+returns-5 c =
+    let f = c .before .before .before in
+    let d = f .before .before in
+    let e = d .before .before .before in
+    let s = begun (d .before) in
     record {
       numbered = λ an bn la lb.
-          its-job _ _ _ (first s an) (second s bn) la lb (s .args .e) (d .before .before .before .before .if1 .left)
-          (d .before .before .before .if2 .left)
-          (d .before .before .distance-at .ensures .numbered an bn la lb) (d .if3 .left)
+          its-job _ _ _ (first s an) (second s bn) la lb (s .args .e) (e .before .if1 .left) (e .if2 .left)
+          (d .before .if3 .left) (d .distance-at .ensures .numbered an bn la lb) (f .if4 .left)
           (c .before .before .holding .ensures) (c .before .holding2 .ensures) (c .is-settled .ensures);
     }
 
@@ -65,9 +80,10 @@ sound-entry-spec =
     (λ c. search needs)
     returns
     returns-2
-    (λ c κs. search needs)
     returns-3
+    (λ c κs. search needs)
+    returns-4
     (λ c κs. search needs)
     (λ c κs. search needs)
     is-settled-requires
-    returns-4)
+    returns-5)

@@ -8,6 +8,7 @@ use lib.ListN.{length}
 use mir.Facts.{toZ-ofZ}
 use Rattle.entry.specs.declared.Entry.{Entry}
 use Rattle.pairs.specs.Internal.{nearPairs}
+use Rattle.pairs.proofs.Offset.{rising}
 use Rattle.pairs.proofs.NearPairs.{pairs-none, pairs-few, row-asks, row-counted, Ready, ready-starts, ready-more}
 use Rattle.pairs.proofs.nearby.count_all.Statement.{statement}
 use Rattle.pairs.proofs.nearby.count_all.Tie as tie
@@ -33,11 +34,11 @@ loop-holds c = (ready-starts, omega arith)
 next-run-requires : tie.Need-next-run-requires Inv-loop μ-loop
 next-run-requires c κs =
     let h = c .loop-test .taken in
-    (h, started (c .before) .pre .1 .rising, c .before .loop .inv .0 .behind h)
+    (h, rising (started (c .before) .pre .1), c .before .loop .inv .0 .behind h)
 
 shared-slice-copy-out-count-row-2 : tie.Need-shared-slice-copy-out-count-row-2 Inv-loop μ-loop
 shared-slice-copy-out-count-row-2 c =
-    omega (arith, c .before .before .loop-test .taken, started (c .before .before .before) .pre .0 .coordinates .equal)
+    omega (arith, c .before .before .loop-test .taken, started (c .before .before .before) .pre .0 .equal)
 
 count-row-requires : tie.Need-count-row-requires Inv-loop μ-loop
 count-row-requires c κs =
@@ -68,7 +69,7 @@ add-count c =
 add-i : tie.Need-add-i Inv-loop μ-loop
 add-i c =
     let n = c .before .before .before .before in
-    omega (arith, n .loop-test .taken, started (n .before) .pre .0 .coordinates .few)
+    omega (arith, n .loop-test .taken, started (n .before) .pre .0 .few)
 
 loop-less : tie.Need-loop-less Inv-loop μ-loop
 loop-less c = omega (arith, c .before .before .before .before .loop-test .taken)
@@ -77,7 +78,7 @@ loop-again : tie.Need-loop-again Inv-loop μ-loop
 loop-again c =
     let n = c .before .before .before in
     let l = n .before .before in (
-      ready-more (started l .pre .0 .rising) (n .before .loop-test .taken) (n .next-run .ensures),
+      ready-more (rising (started l .pre .0)) (n .before .loop-test .taken) (n .next-run .ensures),
       omega (arith, more c, l .loop .inv),
     )
 

@@ -2,7 +2,7 @@
 use mathlib.Core.Path.{sym, _∙_}
 use native.Mathlib.Omega.{arith}
 use borrow.Author.Needs.{needs}
-use Rattle.pairs.proofs.DistanceList.{both-in-order, lists-refused, too-short, room}
+use Rattle.pairs.proofs.DistanceList.{both-coordinates, lists-refused, too-short, room}
 use Rattle.pairs.proofs.nearby.distance_refusal.Statement.{statement}
 use Rattle.pairs.proofs.nearby.distance_refusal.Tie as tie
 
@@ -10,7 +10,7 @@ returns : tie.Need-returns
 returns c = lists-refused _ _ _ _ _ (c .before .lists-refusal .ensures) (c .if1 .taken)
 
 count-all-requires : tie.Need-count-all-requires
-count-all-requires c κs = both-in-order _ _ (sym (c .before .lists-refusal .ensures) ∙ c .if1 .left)
+count-all-requires c κs = both-coordinates _ _ (sym (c .before .lists-refusal .ensures) ∙ c .if1 .left)
 
 returns-2 : tie.Need-returns-2
 returns-2 c =

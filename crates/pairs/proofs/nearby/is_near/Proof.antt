@@ -1,14 +1,14 @@
 -- `pairs::is_near` meets its contract.
-use mathlib.Core.Path.{sym, ap}
-use Prim.Native.Nat.{ℕ, _*_}
+use mathlib.Core.Path.{_≡_, sym}
 use borrow.Author.Needs.{needs, sfits-of}
-use lib.Dec.{leb}
+use borrow.Author.Tests.{le-leb, lt-leb}
 use lib.IntN.{ℤ}
 use mir.Facts.{toZ-ofZ}
 use Rattle.site.specs.Site.{squaredDistance}
 use Rattle.site.specs.SiteList.{site}
+use Rattle.site.specs.Terms.{positionAt}
 use Rattle.site.proofs.Signed.{at₁, at₄}
-use Rattle.pairs.specs.Internal.{offset, siteOf, near}
+use Rattle.pairs.specs.Internal.{offset, near}
 use Rattle.pairs.proofs.Offset.{far-y, square-fits}
 use Rattle.pairs.proofs.nearby.is_near.Statement.{statement}
 use Rattle.pairs.proofs.nearby.is_near.Tie as tie
@@ -23,7 +23,7 @@ returns c =
     let s = started w in
     let a = s .args in
     sym
-    (far-y (a .x) (a .y) (siteOf (a .bx .now) (a .by .now) (a .j)) (a .e)
+    (far-y (a .x) (a .y) (positionAt (a .bx .now) (a .by .now) (a .j)) (a .e)
     (s .pre .1) (s .pre .5) (s .fits .e .fits) (w .wrapping-sub-u64 .ok)
     (at₁ offset (toZ-ofZ (sfits-of (o .before .offset-arg .given))) (o .offset .ensures .0)) (o .offset .ensures .1)
     (at₁ offset (toZ-ofZ (s .fits .y)) (w .before .offset2 .ensures .0)) (w .before .offset2 .ensures .1)
@@ -38,18 +38,27 @@ squared-distance-requires c κs =
       rw (toZ-ofZ (sfits-of (c .squared-distance-arg2 .given))) (s .pre .5),
     )
 
-mul-result : tie.Need-mul-result
-mul-result c = square-fits (started (c .before .before .before .before) .fits .e)
+mul-if2 : tie.Need-mul-if2
+mul-if2 c = square-fits (started (c .before .before .before .before) .fits .e)
+
+-- The squared distance, of the position as it was given.
+squared : (c : tie.After-squared-distance)
+    → let a = started (c .before .before .before .before) .args in
+    c .squared-distance .result ≡ squaredDistance (site (a .x) (a .y) 0) (positionAt (a .bx .now) (a .by .now) (a .j))
+squared c =
+    let s = started (c .before .before .before .before) in
+    at₄ (λ (x y u v : ℤ). squaredDistance (site x y 0) (site u v 0)) (toZ-ofZ (s .fits .x)) (toZ-ofZ (s .fits .y))
+    (toZ-ofZ (sfits-of (c .before .before .squared-distance-arg .given)))
+    (toZ-ofZ (sfits-of (c .before .squared-distance-arg2 .given)))
+    (c .squared-distance .ensures)
 
 returns-2 : tie.Need-returns-2
 unfolding near
-returns-2 c =
-    let s = started (c .before .before .before .before) in
-    ap (λ (n : ℕ). leb n (s .args .e * s .args .e))
-    (at₄ (λ (x y u v : ℤ). squaredDistance (site x y 0) (site u v 0)) (toZ-ofZ (s .fits .x)) (toZ-ofZ (s .fits .y))
-    (toZ-ofZ (sfits-of (c .before .before .squared-distance-arg .given)))
-    (toZ-ofZ (sfits-of (c .before .squared-distance-arg2 .given)))
-    (c .squared-distance .ensures))
+returns-2 c = rw (← squared (c .before), le-leb _ _ (c .if2 .taken))
+
+returns-3 : tie.Need-returns-3
+unfolding near
+returns-3 c = rw (← squared (c .before), lt-leb _ _ (c .if2 .left))
 
 pub is-near-spec : {M : Type 1} → statement M
 is-near-spec =
@@ -68,5 +77,6 @@ is-near-spec =
     (λ c. search needs)
     (λ c. search needs)
     squared-distance-requires
-    mul-result
-    returns-2)
+    mul-if2
+    returns-2
+    returns-3)

@@ -5,6 +5,7 @@ use borrow.Author.Needs.{needs, sfits-of}
 use lib.ListN.{length}
 use mir.Facts.{toZ-ofZ}
 use Rattle.pairs.specs.Internal.{nearPairs}
+use Rattle.pairs.proofs.Offset.{rising}
 use Rattle.pairs.proofs.NearPairs.{pairs-none, row-asks, row-first, Ready, ready-starts, ready-more}
 use Rattle.pairs.proofs.Written.{Writing, writing-starts, writing-room, writing-more, writing-ends}
 use Rattle.pairs.proofs.nearby.write_all.Statement.{statement}
@@ -27,16 +28,16 @@ loop-holds c = (ready-starts, writing-starts (c .before .before .pre .2))
 next-run-requires : tie.Need-next-run-requires Inv-loop μ-loop
 next-run-requires c κs =
     let h = c .loop-test .taken in
-    (h, started (c .before) .pre .1 .rising, c .before .loop .inv .0 .behind h)
+    (h, rising (started (c .before) .pre .1), c .before .loop .inv .0 .behind h)
 
 shared-slice-copy-out-write-row-2 : tie.Need-shared-slice-copy-out-write-row-2 Inv-loop μ-loop
 shared-slice-copy-out-write-row-2 c =
-    omega (arith, c .before .before .loop-test .taken, started (c .before .before .before) .pre .0 .coordinates .equal)
+    omega (arith, c .before .before .loop-test .taken, started (c .before .before .before) .pre .0 .equal)
 
 cast-write-row : tie.Need-cast-write-row Inv-loop μ-loop
 cast-write-row c =
     let n = c .before .before .before in
-    omega (arith, n .loop-test .taken, started (n .before) .pre .0 .coordinates .few)
+    omega (arith, n .loop-test .taken, started (n .before) .pre .0 .few)
 
 write-row-requires : tie.Need-write-row-requires Inv-loop μ-loop
 write-row-requires c κs =
@@ -56,7 +57,7 @@ turned c = c .before .before .before .before .before
 add-i : tie.Need-add-i Inv-loop μ-loop
 add-i c =
     let n = turned (c .before .before .before .before) in
-    omega (arith, n .before .loop-test .taken, started (n .before .before) .pre .0 .coordinates .few)
+    omega (arith, n .before .loop-test .taken, started (n .before .before) .pre .0 .few)
 
 loop-less : tie.Need-loop-less Inv-loop μ-loop
 loop-less c = omega (arith, turned (c .before .before .before .before) .before .loop-test .taken)
@@ -70,7 +71,7 @@ loop-again c =
     let h = n .before .loop-test .taken in
     let p = toZ-ofZ (sfits-of (r .before .before .before .before .write-row-arg .given)) in
     let q = toZ-ofZ (sfits-of (r .before .before .before .write-row-arg2 .given)) in (
-      ready-more (s .pre .0 .rising) h (n .next-run .ensures),
+      ready-more (rising (s .pre .0)) h (n .next-run .ensures),
       writing-more (l .loop .inv .1) _ _ (row-first _ _ _ _ _ (s .pre .0) (s .pre .1) h (n .next-run .ensures) p q)
           (r .write-row .ensures),
     )

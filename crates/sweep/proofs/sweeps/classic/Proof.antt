@@ -28,13 +28,13 @@ below : (u : tie.Then1 Inv-loop μ-loop) → u .before .before .loop .j < u .bef
 below u = ltb-true _ _ (u .if1 .taken)
 
 first-next-requires : tie.Need-first-next-requires Inv-loop μ-loop
-first-next-requires c κs = let s = c .before .before .before .before .before .before .before .before .pre in (s .a-inside, s .b-inside)
+first-next-requires c κs = let s = c .before .before .before .before .before .before .before .before .pre in (s .a .inside, s .b .inside)
 
 reference-at-requires : tie.Need-reference-at-requires Inv-loop μ-loop
 reference-at-requires c κs =
     let t = c .before .before .before in
     let s = t .before .before .before .before .before .before .before .pre in
-    (s .a, omega (arith, t .loop-test .taken, s .a-inside))
+    (s .a .lawful, omega (arith, t .loop-test .taken, s .a .inside))
 
 scan-right-requires : tie.Need-scan-right-requires Inv-loop μ-loop
 scan-right-requires c κs =
@@ -67,7 +67,7 @@ reference-at-requires-2 : tie.Need-reference-at-requires-2 Inv-loop μ-loop
 reference-at-requires-2 c κs =
     let u = c .before .before in
     let s = u .before .before .before .before .before .before .before .before .pre in
-    (s .b, omega (arith, below u, s .b-inside))
+    (s .b .lawful, omega (arith, below u, s .b .inside))
 
 scan-right-requires-2 : tie.Need-scan-right-requires-2 Inv-loop μ-loop
 scan-right-requires-2 c κs =

@@ -22,7 +22,7 @@ references-holds c =
     (search needs, invariant-start (c .before .before .before .before .before .pre) (c .start .ensures))
 
 first-next-requires : tie.Need-first-next-requires Inv-references μ-references
-first-next-requires c κs = let s = c .before .before .before .before .before .before .pre in (s .a-inside, s .b-inside)
+first-next-requires c κs = let s = c .before .before .before .before .before .before .pre in (s .a .inside, s .b .inside)
 
 in-first : (w : tie.Then1 Inv-references μ-references) → w .before .before .references .i < w .before .before .before .before .before .before .before .before .args .a-to
 in-first w = let l = w .before .before in invariant-in (l .before .before .before .before .before .before .pre) (l .references .inv .1) (w .before .first-next .ensures) (w .if1 .taken)
@@ -30,7 +30,7 @@ in-first w = let l = w .before .before in invariant-in (l .before .before .befor
 reference-at-requires : tie.Need-reference-at-requires Inv-references μ-references
 reference-at-requires c κs =
     let s = c .before .before .before .before .before .before .before .before .pre in
-    (s .a, omega (arith, in-first c, s .a-inside))
+    (s .a .lawful, omega (arith, in-first c, s .a .inside))
 
 scan-left-requires : tie.Need-scan-left-requires Inv-references μ-references
 scan-left-requires c κs =
@@ -58,7 +58,7 @@ references-again c =
 reference-at-requires-2 : tie.Need-reference-at-requires-2 Inv-references μ-references
 reference-at-requires-2 c κs =
     let s = c .before .before .before .before .before .before .before .before .before .pre in
-    (s .b, omega (arith, c .if2 .left, s .b-inside))
+    (s .b .lawful, omega (arith, c .if2 .left, s .b .inside))
 
 scan-left-requires-2 : tie.Need-scan-left-requires-2 Inv-references μ-references
 scan-left-requires-2 c κs =

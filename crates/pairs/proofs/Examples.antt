@@ -1,0 +1,22 @@
+-- Examples of the two lists: what M1 to M10 do not tell apart.
+use mathlib.Core.Path.{_≡_, refl}
+use mathlib.Core.List.{[], _∷_, flatMap}
+use lib.IntN.{pos}
+use Rattle.order.specs.Lists.{keep, sum}
+use Rattle.order.specs.Order.{lex}
+use Rattle.order.specs.Sort.{insert, sort}
+use Rattle.site.specs.Site.{gap, square, squaredDistance}
+use Rattle.site.specs.SiteList.{site}
+use Rattle.entry.specs.Entry.{entry, rankBefore, apart, bestK}
+use Rattle.sweep.specs.Strip.{placedFrom, whole, pair, product, pairs}
+use Rattle.pairs.specs.KList.{kList}
+use Rattle.pairs.specs.DistanceList.{distanceList}
+
+-- Co-sited cells are in neither list, whatever K and the limit.
+co-sited : (kList 2 (site (pos 0) (pos 0) 1 ∷ []) (site (pos 0) (pos 0) 2 ∷ site (pos 3) (pos 4) 3 ∷ []) ≡ entry 25 0 1 ∷ [])
+    × (distanceList 5 (site (pos 0) (pos 0) 1 ∷ []) (site (pos 0) (pos 0) 2 ∷ site (pos 3) (pos 4) 3 ∷ []) ≡ entry 25 0 1 ∷ [])
+    × (distanceList 0 (site (pos 0) (pos 0) 1 ∷ []) (site (pos 0) (pos 0) 2 ∷ site (pos 3) (pos 4) 3 ∷ []) ≡ [])
+unfolding
+    keep sum lex insert sort gap square squaredDistance rankBefore apart bestK placedFrom whole pair product flatMap pairs
+    kList distanceList
+co-sited = (refl, refl, refl)
