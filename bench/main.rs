@@ -40,9 +40,14 @@ impl Columns {
 }
 
 /// Sites spread evenly over the whole range.
-fn even(r: &mut Random) -> Columns {
+fn even(r: &mut Random, sites: usize) -> Columns {
     let c = |r: &mut Random| r.from_to(-1_000_000_000, 1_000_000_000) as i32;
-    Columns::of((0..SITES).map(|i| (c(r), c(r), i as u32)).collect())
+    Columns::of((0..sites).map(|i| (c(r), c(r), i as u32)).collect())
+}
+
+/// Sites at one position.
+fn stacked(sites: usize) -> Columns {
+    Columns::of((0..sites).map(|i| (7, 7, i as u32)).collect())
 }
 
 /// Sites in 100 clusters, dense at their centres. The centres are those of both lists.
@@ -210,22 +215,35 @@ struct Campaign {
     marks: [u8; 1024],
 }
 
-/// An opening and all 256 jobs of 16 strips a list by mark, one call a job: looks, and jobs skipped.
-fn all_jobs(a: &Columns, b: &Columns, k: usize, c: &mut Campaign, r: &mut Results) -> (u64, u32) {
-    let cuts: Vec<u32> = (1..=16).map(|s| (SITES * s / 16) as u32).collect();
+impl Campaign {
+    fn new() -> Campaign {
+        Campaign { numbers: [0; 4], first_ends: [0; 32], second_ends: [0; 32], marks: [0; 1024] }
+    }
+}
+
+/// An opening, with this many strips a list.
+fn opened(a: &Columns, b: &Columns, k: usize, strips: usize, c: &mut Campaign, r: &Results) {
+    let cuts = |l: &Columns| (1..=strips).map(|s| (l.x.len() * s / strips) as u32).collect::<Vec<_>>();
+    let (first, second) = (cuts(a), cuts(b));
     let [ck, ce, fs, ss] = &mut c.numbers;
     let number = unsafe {
         raw::vumlintel_open(
             a.x.as_ptr(), a.x.len(), a.y.as_ptr(), a.y.len(), a.number.as_ptr(), a.number.len(),
             b.x.as_ptr(), b.x.len(), b.y.as_ptr(), b.y.len(), b.number.as_ptr(), b.number.len(),
-            k as u32, cuts.as_ptr(), 16, cuts.as_ptr(), 16,
+            k as u32, first.as_ptr(), strips, second.as_ptr(), strips,
             r.distance.as_ptr(), k, r.first.as_ptr(), k, r.second.as_ptr(), k,
             ck, ce, fs, ss, &mut c.first_ends, &mut c.second_ends, &mut c.marks,
         )
     };
     assert_eq!(number, 0);
+}
+
+/// An opening and all jobs by mark, one call a job: looks, and jobs skipped.
+fn all_jobs(a: &Columns, b: &Columns, k: usize, strips: usize, c: &mut Campaign, r: &mut Results) -> (u64, u32) {
+    opened(a, b, k, strips, c, r);
+    let [ck, ce, fs, ss] = &mut c.numbers;
     let (mut looks, mut skips) = (0, 0);
-    for job in 0..256 {
+    for job in 0..(strips * strips) as u32 {
         let (mut swept, mut seen, mut distances) = (0, 0, 0);
         let number = unsafe {
             raw::vumlintel_job_classic(
@@ -233,7 +251,7 @@ fn all_jobs(a: &Columns, b: &Columns, k: usize, c: &mut Campaign, r: &mut Result
                 a.x.as_ptr(), a.x.len(), a.y.as_ptr(), a.y.len(), a.number.as_ptr(), a.number.len(),
                 b.x.as_ptr(), b.x.len(), b.y.as_ptr(), b.y.len(), b.number.as_ptr(), b.number.len(),
                 r.distance.as_mut_ptr(), k, r.first.as_mut_ptr(), k, r.second.as_mut_ptr(), k,
-                job / 16, job % 16,
+                job / strips as u32, job % strips as u32,
                 &mut swept, &mut seen, &mut distances,
             )
         };
@@ -244,8 +262,8 @@ fn all_jobs(a: &Columns, b: &Columns, k: usize, c: &mut Campaign, r: &mut Result
     (looks, skips)
 }
 
-/// A status: the tests of both lists and refusal 7.
-fn status(a: &Columns, b: &Columns, k: usize, c: &Campaign, r: &Results) {
+/// A status of a campaign with all jobs settled: the tests of both lists and refusal 7.
+fn status(a: &Columns, b: &Columns, k: usize, strips: usize, c: &Campaign, r: &Results) {
     let (mut settled, mut jobs, mut entries, mut got) = (0, 0, 0, 0);
     let [ck, ce, fs, ss] = &c.numbers;
     let number = unsafe {
@@ -257,7 +275,8 @@ fn status(a: &Columns, b: &Columns, k: usize, c: &Campaign, r: &Results) {
             &mut settled, &mut jobs, &mut entries, &mut got,
         )
     };
-    assert_eq!((number, settled, jobs, got), (0, 256, 256, k as u32));
+    let all = (strips * strips) as u32;
+    assert_eq!((number, settled, jobs, got), (0, all, all, k as u32));
 }
 
 /// All 256 jobs in ordinary Rust, on lists that `keep` makes: looks, jobs skipped, and the entries.
@@ -277,12 +296,12 @@ fn plain_jobs<L: KList>(a: List, b: List, k: usize, keep: impl Fn(usize, Vec<Ent
 /// A campaign beside the same in ordinary Rust and beside one classic sweep, and where its time goes.
 fn campaign(name: &str, a: &Columns, b: &Columns, k: usize) {
     let mut r = Results::new(k);
-    let mut c = Campaign { numbers: [0; 4], first_ends: [0; 32], second_ends: [0; 32], marks: [0; 1024] };
+    let mut c = Campaign::new();
     let (mut told, mut whole) = ((0, 0), None);
     let (mut sorted, mut heaped, mut buffered) = (None, None, None);
     let (la, lb) = (a.lent(), b.lent());
     let [jobs, by_sorting, by_heap, by_buffer, sweep] = least([
-        &mut || told = all_jobs(a, b, k, &mut c, &mut r),
+        &mut || told = all_jobs(a, b, k, 16, &mut c, &mut r),
         &mut || sorted = Some(plain_jobs(la, lb, k, Sorted::new)),
         &mut || heaped = Some(plain_jobs(la, lb, k, Heap::new)),
         &mut || buffered = Some(plain_jobs(la, lb, k, Buffered::new)),
@@ -292,7 +311,7 @@ fn campaign(name: &str, a: &Columns, b: &Columns, k: usize) {
     assert!([sorted, heaped, buffered].iter().all(|l| *l == answer), "the answers differ");
     assert!(Some(r.entries()) == whole.map(|w| w.0), "the answers differ");
     let [statuses, checks] = least([
-        &mut || (0..256).for_each(|_| status(a, b, k, &c, &r)),
+        &mut || (0..256).for_each(|_| status(a, b, k, 16, &c, &r)),
         &mut || (0..256).for_each(|_| [a, b].into_iter().for_each(checked)),
     ]);
     println!(
@@ -308,13 +327,35 @@ fn campaign(name: &str, a: &Columns, b: &Columns, k: usize) {
     );
 }
 
+/// Statuses of a campaign on even lists of 65,535 sites, and of one on lists of that length at one position, each with all
+/// jobs settled. There the jobs are settled by hand: doing them takes 65,535 times 65,535 looks.
+fn one_position(r: &mut Random, k: usize, strips: usize) {
+    let most = 65_535;
+    let (a, b) = (even(r, most), even(r, most));
+    let (p, q) = (stacked(most), stacked(most));
+    let (mut held, mut none) = (Results::new(k), Results::new(k));
+    let (mut c, mut d) = (Campaign::new(), Campaign::new());
+    all_jobs(&a, &b, k, strips, &mut c, &mut held);
+    opened(&p, &q, k, strips, &mut d, &mut none);
+    d.marks = c.marks;
+    let [spread, stacked] = least([
+        &mut || (0..100).for_each(|_| status(&a, &b, k, strips, &c, &held)),
+        &mut || (0..100).for_each(|_| status(&p, &q, k, strips, &d, &none)),
+    ]);
+    println!(
+        "100 statuses, {strips} strips a list, K {k}: even lists of {most} sites {spread:.2} ms, at one position \
+         {stacked:.2} ms, ratio {:.2}",
+        stacked / spread,
+    );
+}
+
 fn main() {
     let r = &mut Random::new(1);
     let centres: Vec<(i64, i64)> = (0..100)
         .map(|_| (r.from_to(-990_000_000, 990_000_000), r.from_to(-990_000_000, 990_000_000)))
         .collect();
     let kinds = [
-        ("even", even(r), even(r)),
+        ("even", even(r, SITES), even(r, SITES)),
         ("clustered", clustered(r, &centres), clustered(r, &centres)),
     ];
     for (name, a, _) in &kinds {
@@ -323,6 +364,11 @@ fn main() {
     k_lists(&kinds);
     distance_lists(&kinds);
     campaigns(&kinds);
+    for strips in [1, 32] {
+        for k in [1, 4_096] {
+            one_position(r, k, strips);
+        }
+    }
 }
 
 fn k_lists(kinds: &[(&str, Columns, Columns)]) {

@@ -1,6 +1,7 @@
 //! The same work in ordinary optimised Rust: what the proved calls are measured against.
 
 use crate::keepers::{Entry, KList};
+use std::cmp::Ordering;
 
 /// A list as it is lent.
 #[derive(Clone, Copy)]
@@ -53,7 +54,7 @@ fn scan(
         counters.distances += 1;
         let dy = y - other.y[j] as i64;
         let distance = dx2 + (dy * dy) as u64;
-        if distance <= bound {
+        if distance != 0 && distance <= bound {
             let (first, second) = if first_is_reference { (i, j) } else { (j, i) };
             list.offer(Entry { distance, first: first as u32, second: second as u32 });
         }
@@ -114,7 +115,8 @@ pub fn distance_pairs(a: List, b: List, e: u32) -> Vec<(u32, u32)> {
                 break;
             }
             let dy = b.y[j] as i64 - y;
-            if (dx * dx) as u64 + (dy * dy) as u64 <= limit {
+            let distance = (dx * dx) as u64 + (dy * dy) as u64;
+            if distance != 0 && distance <= limit {
                 pairs.push((i as u32, j as u32));
             }
         }
@@ -151,6 +153,26 @@ fn range(ends: &[usize], s: usize) -> (usize, usize) {
     (if s == 0 { 0 } else { ends[s - 1] }, ends[s])
 }
 
+/// How many pairs two strips have: all but those at one position, which are counted by runs.
+fn pair_count(a: List, b: List, p: (usize, usize), q: (usize, usize)) -> usize {
+    let at = |l: List, i: usize| (l.x[i], l.y[i]);
+    let run_end = |l: List, i: usize, to: usize| (i..to).find(|j| at(l, *j) != at(l, i)).unwrap_or(to);
+    let mut pairs = (p.1 - p.0) * (q.1 - q.0);
+    let (mut i, mut j) = (p.0, q.0);
+    while i < p.1 && j < q.1 {
+        match at(a, i).cmp(&at(b, j)) {
+            Ordering::Less => i += 1,
+            Ordering::Greater => j += 1,
+            Ordering::Equal => {
+                let (m, n) = (run_end(a, i, p.1), run_end(b, j, q.1));
+                pairs -= (m - i) * (n - j);
+                (i, j) = (m, n);
+            }
+        }
+    }
+    pairs
+}
+
 impl Campaign {
     /// Cut ends of each list, none of them empty.
     pub fn new(k: usize, ends: [Vec<usize>; 2]) -> Campaign {
@@ -166,21 +188,25 @@ impl Campaign {
     fn sound(&self, a: List, b: List) -> bool {
         let strips = |l: usize| (0..self.ends[l].len()).map(move |s| range(&self.ends[l], s));
         let settled = strips(0).enumerate().flat_map(|(s, p)| strips(1).enumerate().map(move |(t, q)| (s, p, t, q)));
-        let pairs: usize = settled
-            .filter(|(s, _, t, _)| self.settled[self.job(*s, *t)])
-            .map(|(_, p, _, q)| (p.1 - p.0) * (q.1 - q.0))
-            .sum();
+        let total = || -> usize {
+            settled
+                .filter(|(s, _, t, _)| self.settled[self.job(*s, *t)])
+                .map(|(_, p, _, q)| pair_count(a, b, p, q))
+                .sum()
+        };
         let fits = |e: &Entry| {
             let (i, j) = (e.first as usize, e.second as usize);
             i < a.x.len() && j < b.x.len() && {
                 let (dx, dy) = (a.x[i] as i64 - b.x[j] as i64, a.y[i] as i64 - b.y[j] as i64);
-                (dx * dx) as u64 + (dy * dy) as u64 == e.distance
+                e.distance != 0
+                    && (dx * dx) as u64 + (dy * dy) as u64 == e.distance
                     && self.settled[self.job(strip_of(&self.ends[0], i), strip_of(&self.ends[1], j))]
             }
         };
-        self.entries.len() == self.k.min(pairs)
+        self.entries.len() <= self.k
             && self.entries.windows(2).all(|e| e[0] < e[1])
             && self.entries.iter().all(fits)
+            && (self.entries.len() == self.k || self.entries.len() == total())
     }
 
     /// A job by the classic sweep, on a list that `keep` makes of K and the entries: both lists and the campaign are
