@@ -11,7 +11,8 @@
  *   VUMLINTEL_CUT_ENDS        5  cut ends unlawful: at most 32, strictly ascending, each above 0, the last the list's length
  *   VUMLINTEL_ROOM            6  a result column shorter than K, too few elements for the pairs found, a buffer shorter than
  *                                the file, or no room for one more site
- *   VUMLINTEL_CAMPAIGN        7  the campaign or its result columns do not fit each other or the lists
+ *   VUMLINTEL_CAMPAIGN        7  the campaign or its result columns do not fit each other or the lists; an entry of co-sited
+ *                                cells is such a fault
  *   VUMLINTEL_RANGE           8  a strip number not below the strip count, or a place not below the list's count
  *   VUMLINTEL_SETTLED         9  the job is settled already
  *   VUMLINTEL_FILE           10  the file's contents or length are wrong
@@ -21,7 +22,8 @@
  * list. A file below 16 bytes gets 10; any other is tested for 1 (counts), then 10, then its lists for 2 and 3.
  *
  * A list is three columns: x, y and number, each a pointer and an element count. A site's place is its index from 0. A pair is
- * a place in the first list and a place in the second. Pairs are ranked by squared distance, then first place, then second.
+ * a place in the first list and a place in the second whose sites do not stand at the same x and y: co-sited cells are no
+ * pair. Pairs are ranked by squared distance, then first place, then second.
  *
  * What the caller owes: each pointer is aligned and not null, also with a count of 0, and leads to as many elements as its
  * count says; what a call writes overlaps nothing else that it is lent; nobody else writes what is lent until the call is back.
