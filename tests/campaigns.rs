@@ -3,7 +3,7 @@
 use crate::calls;
 use crate::harness::{Harness, progress};
 use crate::lists::{MAX, damaged, even, f, lawful, stacked};
-use crate::model::{self, Book, Campaign, Columns, Counters, Results, Status, WAYS, Way, site};
+use crate::model::{self, Book, Campaign, Columns, Counters, Results, Status, Strip, WAYS, Way, site};
 use crate::random::Random;
 use std::collections::BTreeMap;
 
@@ -243,13 +243,15 @@ fn tamper(r: &mut Random, bench: &mut Bench) {
     }
 }
 
-/// What a history showed: refusals, faults of refusal 7, and tampered campaigns that passed.
+/// What a history showed: refusals, faults of refusal 7, jobs swept, skipped, and skipped though the x gap alone would not
+/// do, and tampered campaigns that passed.
 #[derive(Default)]
 struct Seen {
     refusals: BTreeMap<u32, u32>,
     faults: BTreeMap<&'static str, u32>,
     swept: u32,
     skipped: u32,
+    by_y: u32,
     passed: u32,
     complete: u32,
 }
@@ -280,6 +282,17 @@ fn tampered_calls(r: &mut Random, bench: &Bench, seen: &mut Seen) {
     }
 }
 
+/// Whether a job that is skipped would be swept by the x gap alone.
+fn by_y(bench: &Bench, s: u32, t: u32) -> bool {
+    let (a, b) = model::lists(&bench.a, &bench.b).unwrap();
+    let strip = |(from, to), sites| Strip { sites, from, to };
+    let gaps = model::squared_gaps(
+        strip(model::strip_range(&bench.c.first_ends, s as usize), &a),
+        strip(model::strip_range(&bench.c.second_ends, t as usize), &b),
+    );
+    gaps[0] <= bench.r.distance[bench.c.k as usize - 1] as i128
+}
+
 /// One history: an opening, then calls of every kind, each held to the brute force and to the book.
 fn history(r: &mut Random, kind: usize, seen: &mut Seen) {
     let (n, m) = ([0, 1, 3, 10, 40][r.below(5)], [1, 2, 3, 10, 40][r.below(5)]);
@@ -304,11 +317,15 @@ fn history(r: &mut Random, kind: usize, seen: &mut Seen) {
             }
             _ => {
                 let (s, t) = (strip_number(r, first.len()), strip_number(r, second.len()));
+                let before = bench.clone();
                 let answer = same_job(WAYS[r.below(2)], &mut bench, s, t);
                 assert_eq!(answer.err().unwrap_or(0), book.job(s, t), "the book answers otherwise");
                 match answer {
                     Ok(true) => seen.swept += 1,
-                    Ok(false) => seen.skipped += 1,
+                    Ok(false) => {
+                        seen.skipped += 1;
+                        seen.by_y += by_y(&before, s, t) as u32;
+                    }
                     Err(_) => {}
                 }
                 seen.told(answer);
@@ -330,7 +347,7 @@ fn history(r: &mut Random, kind: usize, seen: &mut Seen) {
 
 fn histories(r: &mut Random) {
     let mut seen = Seen::default();
-    let rounds = 2_500;
+    let rounds = 3_500;
     for round in 0..rounds {
         progress(round, rounds);
         history(r, round, &mut seen);
@@ -345,7 +362,7 @@ fn histories(r: &mut Random) {
     for fault in faults {
         assert!(seen.faults.get(fault).is_some_and(|n| *n > 5), "{fault}: {:?}", seen.faults);
     }
-    assert!(seen.swept > 1_000 && seen.skipped > 1_000 && seen.passed > 50 && seen.complete > 50);
+    assert!(seen.swept > 1_000 && seen.skipped > 1_000 && seen.by_y > 100 && seen.passed > 50 && seen.complete > 50);
 }
 
 /// The full grid of 32 strips a list, all 1,024 jobs in a random sequence.
@@ -440,10 +457,41 @@ fn skips_at_the_limit() {
     }
 }
 
+/// The gap squared is that of the strips' boxes, a sum of squares. The first job leaves a pair that is `dx` and `dy` apart;
+/// the second is of two strips whose boxes are `x` and `y` apart, with their edges at sites in the middle.
+fn skips_by_boxes() {
+    let r = &mut Random::new(57);
+    let cases = [
+        ((1, 0), (0, 50), false), // by x alone it is swept
+        ((1, 0), (0, 1), true),
+        ((5, 0), (3, 4), true), // equal is swept
+        ((5, 0), (3, 5), false),
+        ((5, 1), (4, 3), true), // the square of 4 + 3 would be 49
+        ((4, 2), (4, 3), false),
+        ((5, 0), (5, 0), true),
+        ((5, 0), (0, 6), false),
+    ];
+    for ((dx, dy), (x, y), swept) in cases {
+        let mut lists = [
+            [site(-4_000, 0, 0), site(-2_100, -7, 0), site(-2_050, 0, 0), site(-2_000, -90, 0)],
+            [site(-4_000 + dx, dy, 0), site(-2_000 + x, y + 40, 0), site(-1_900 + x, y, 0), site(-1_890 + x, y + 9, 0)],
+        ];
+        for _ in 0..2 {
+            lists.swap(0, 1);
+            let [a, b] = [0, 1].map(|l| Columns::of(&lists[l]));
+            let mut bench = Bench { a, b, r: results(r, [1, 1, 1]), c: anything(r) };
+            same_open(&mut bench, 1, &[1, 4], &[1, 4]).unwrap();
+            assert_eq!(same_job(Way::Classic, &mut bench, 0, 0), Ok(true));
+            assert_eq!(same_job(Way::Classic, &mut bench, 1, 1), Ok(swept), "{dx} {dy} {x} {y}");
+        }
+    }
+}
+
 pub fn run(h: &mut Harness) {
     h.test("campaign: the fixed example", fixed_example);
     h.test("campaign: refused openings in their order", opening_refusals);
     h.test("campaign: a skip at the limit", skips_at_the_limit);
+    h.test("campaign: skips by the strips' boxes", skips_by_boxes);
     h.test("campaign: random histories beside the book, with tampering", || histories(&mut Random::new(52)));
     h.test("campaign: all 1,024 jobs", || full_grid(&mut Random::new(53)));
     h.test("campaign: 65,535 sites of each list at one position", || one_position(&mut Random::new(55)));

@@ -18,15 +18,23 @@ fn coordinate(r: &mut Random, kind: usize) -> i32 {
     }
 }
 
-pub const KINDS: usize = 6;
+/// A position along a road that is long in y: y follows x, a thousand times as far.
+fn along_road(r: &mut Random) -> (i32, i32) {
+    let x = r.from_to(-1_000_000, 1_000_000);
+    let y = 1_000 * x + r.from_to(-20_000_000, 20_000_000);
+    (x as i32, y.clamp(MIN as i64, MAX as i64) as i32)
+}
 
-/// A lawful list of at most `most` sites of a kind.
+pub const KINDS: usize = 7;
+
+/// A lawful list of at most `most` sites of a kind: one of the kinds of coordinates, or along a road.
 pub fn lawful(r: &mut Random, kind: usize, most: usize) -> Vec<Site> {
     let kind = kind % KINDS;
     let mut sites: Vec<Site> = (0..most)
         .map(|_| {
             let number = if r.once_in(2) { r.below(4) as u32 } else { r.next() as u32 };
-            site(coordinate(r, kind), coordinate(r, kind), number)
+            let (x, y) = if kind == 6 { along_road(r) } else { (coordinate(r, kind), coordinate(r, kind)) };
+            site(x, y, number)
         })
         .collect();
     sites.sort();

@@ -413,14 +413,18 @@ fn strip_of(ends: &[u32], place: usize) -> usize {
     (0..ends.len()).find(|s| place < ends[*s] as usize).unwrap()
 }
 
-/// "the x-difference between them, 0 where their x ranges touch or overlap."
-pub fn strip_gap(a: Strip, b: Strip) -> i64 {
-    let range = |s: Strip| {
-        let xs = s.sites[s.from..s.to].iter().map(|t| t.x as i64);
-        (xs.clone().min().unwrap(), xs.max().unwrap())
-    };
-    let (p, q) = (range(a), range(b));
-    (q.0 - p.1).max(p.0 - q.1).max(0)
+/// The squares of "the x gap and the y gap, either being 0 where the ranges touch or overlap": the strips' boxes are those
+/// of their own sites.
+pub fn squared_gaps(a: Strip, b: Strip) -> [i128; 2] {
+    [|s: &Site| s.x, |s: &Site| s.y].map(|coordinate| {
+        let edges = |s: Strip| {
+            let all = s.sites[s.from..s.to].iter().map(|t| coordinate(t) as i128);
+            (all.clone().min().unwrap(), all.max().unwrap())
+        };
+        let (p, q) = (edges(a), edges(b));
+        let gap = (q.0 - p.1).max(p.0 - q.1).max(0);
+        gap * gap
+    })
 }
 
 impl Campaign {
@@ -529,9 +533,9 @@ pub fn job(
     let p = Strip { sites: &a, from: p.0, to: p.1 };
     let q = Strip { sites: &b, from: q.0, to: q.1 };
     let old = r.entries(c.entries as usize);
-    let gap = strip_gap(p, q) as i128;
+    let gap: i128 = squared_gaps(p, q).iter().sum();
     let full = old.len() == c.k as usize;
-    let skipped = full && gap * gap > old[old.len() - 1].distance as i128;
+    let skipped = full && gap > old[old.len() - 1].distance as i128;
     let counters = if skipped { Counters::default() } else { sweep(way, c.k, p, q, old.clone()).1 };
     let mut all = old;
     all.extend(pairs(p, q));

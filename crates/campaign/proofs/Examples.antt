@@ -3,7 +3,7 @@ use mathlib.Core.Path.{_≡_, refl}
 use mathlib.Core.List.{List, [], _∷_, flatMap, zipWith}
 use Prim.Native.Nat.{ℕ, _*_, _-_}
 use lib.IntN.{pos}
-use Rattle.order.specs.Order.{lex, ascending}
+use Rattle.order.specs.Order.{lex, ascending, firstOf, foremost}
 use Rattle.order.specs.Sort.{insert, sort}
 use Rattle.order.specs.Lists.{all, keep, last, sum}
 use Rattle.column.specs.Column.{overwritten}
@@ -13,6 +13,7 @@ use Rattle.site.specs.SiteList.{Columns, columns, sites, siteAt}
 use Rattle.site.specs.Refusal.{equalLengths, sizeFault, contentRefusal, listRefusal, listsRefusal}
 use Rattle.entry.specs.Entry.{rankBefore, apart, lawfulK, bestK, offer, lastDistance}
 use Rattle.entry.specs.Results.{Results, results, entriesOf, holding, roomFor}
+use Rattle.boxes.specs.Box.{edges, boxAround, boxOf, rangeGap, gaps, squaredBoxGap}
 use Rattle.sweep.specs.declared.Way.the-variants.{Classic}
 use Rattle.sweep.specs.Strip.{whole, placedFrom, strip, pair, product, pairs}
 use Rattle.sweep.specs.Scan.{beyond, taken, scan}
@@ -32,7 +33,6 @@ use Rattle.campaign.specs.Grid.{
   lawfulMarks,
   jobPairs,
   jobsPairs,
-  rangeGap,
   squaredStripGap,
 }
 use Rattle.campaign.specs.Soundness.{firstEnds, secondEnds, soundEntry, sound, campaignRefusal}
@@ -70,6 +70,14 @@ ownRanges =
     (newCampaign 1 (1 ∷ 2 ∷ []) (1 ∷ 2 ∷ [])) one
     (jobOf 0 0 ∷ jobOf 0 1 ∷ jobOf 1 0 ∷ jobOf 1 1 ∷ [])
 
+-- The gap is that of boxes: strips whose x ranges touch, 50 apart in y, are skipped behind a pair at 1.
+apartInY : List ℕ
+apartInY =
+    answersOf (columns (pos 0 ∷ pos 10 ∷ []) (pos 0 ∷ pos 0 ∷ []) (1 ∷ 2 ∷ []))
+    (columns (pos 1 ∷ pos 10 ∷ []) (pos 0 ∷ pos 50 ∷ []) (3 ∷ 4 ∷ []))
+    (newCampaign 1 (1 ∷ 2 ∷ []) (1 ∷ 2 ∷ [])) one
+    (jobOf 0 0 ∷ jobOf 1 1 ∷ [])
+
 -- Refusal 7 comes before 8: a mark outside the jobs, and a strip past the count.
 soundnessFirst : List ℕ
 soundnessFirst =
@@ -100,15 +108,16 @@ onePosition : List ℕ
 onePosition = answersOf origin origin (afterJob (newCampaign 1 (1 ∷ []) (1 ∷ [])) 0 (jobOf 0 0)) one (jobOf 0 0 ∷ [])
 
 answers :
-    equalGap ∷ ownRanges ∷ soundnessFirst ∷ coSited ∷ settledWith 1 ∷ settledWith 0 ∷ onePosition ∷ []
-    ≡ (100 ∷ 100 ∷ 9 ∷ 8 ∷ 8 ∷ []) ∷ (100 ∷ 200 ∷ 200 ∷ 200 ∷ []) ∷ (7 ∷ 7 ∷ []) ∷ (100 ∷ 9 ∷ [])
+    equalGap ∷ ownRanges ∷ apartInY ∷ soundnessFirst ∷ coSited ∷ settledWith 1 ∷ settledWith 0 ∷ onePosition ∷ []
+    ≡ (100 ∷ 100 ∷ 9 ∷ 8 ∷ 8 ∷ []) ∷ (100 ∷ 200 ∷ 200 ∷ 200 ∷ []) ∷ (100 ∷ 200 ∷ []) ∷ (7 ∷ 7 ∷ []) ∷ (100 ∷ 9 ∷ [])
     ∷ (7 ∷ []) ∷ (7 ∷ []) ∷ (9 ∷ []) ∷ []
 unfolding
-    afterJob afterwards all answerAs answersOf answerUnless apart ascending bestK beyond campaignRefusal classicOver
-    contentRefusal coSited countFrom entriesOf equalGap equalLengths firstEnds flatMap gap holding insert jobAnswer
+    afterJob afterwards all answerAs answersOf answerUnless apart apartInY ascending bestK beyond boxAround boxOf
+    campaignRefusal classicOver contentRefusal coSited countFrom edges entriesOf equalGap equalLengths firstEnds firstOf
+    flatMap foremost gap gaps holding insert jobAnswer
     jobEntries jobPairs jobRefusal jobs jobsPairs keep last lastDistance lawfulEnds lawfulK lawfulMarks lawfulSite leads
     lex listRefusal listsRefusal look markOf newCampaign offer one onePosition orElse origin overwritten ownRanges pair
     pairs placedFrom product rangeGap rankBefore roomFor scan secondEnds settled settledJobs settledWith siteAt siteBefore sites
-    sizeFault skips slots sort sound soundEntry soundnessFirst square squaredDistance squaredStripGap strip stripAt
+    sizeFault skips slots sort sound soundEntry soundnessFirst square squaredBoxGap squaredDistance squaredStripGap strip stripAt
     stripHolding sum sweep taken twoSites whole within zipWith
 answers = refl

@@ -121,7 +121,7 @@ module _ (way : Way) (c : Campaign) (a b : Columns) (r : Results) (s t : ℕ) wh
     skipped-entries h =
         beyond-under (c .k) (squaredStripGap firstStrip secondStrip) entries (pairs firstStrip secondStrip)
         (rw own-best h)
-        (pairs-far firstStrip secondStrip first-sorted second-sorted)
+        (pairs-far firstStrip secondStrip)
         ∙ own-best
 
     -- A sweep leaves the best of the entries and all pairs.

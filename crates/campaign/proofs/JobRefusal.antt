@@ -67,16 +67,16 @@ module _ (c : Campaign) (a b : Columns) (r : Results) (s t : ℕ) where
     pub job-few : (s < 32) × (t < 32)
     job-few = let p = asked-parts job-asked in (omega (arith, job-row, p .rows), omega (arith, job-col, p .cols))
 
-    pub skip-asked : JobAsked c (length (a .x)) (length (b .x)) (jobOf s t) ×
-        ((c .entries ≤ c .k) × (c .k ≤ length (r .distance)))
-    skip-asked = (job-asked, (job-sound .most, room-lengths (c .k) r (job-sound .room) .0))
+    both-coordinates : Coordinates (a .x) (a .y) × Coordinates (b .x) (b .y)
+    both-coordinates = (accepted-coordinates a (job-sound .lists .0), accepted-coordinates b (job-sound .lists .1))
+
+    pub skip-asked : (Coordinates (a .x) (a .y) × Coordinates (b .x) (b .y)) ×
+        (JobAsked c (length (a .x)) (length (b .x)) (jobOf s t) × ((c .entries ≤ c .k) × (c .k ≤ length (r .distance))))
+    skip-asked = (both-coordinates, (job-asked, (job-sound .most, room-lengths (c .k) r (job-sound .room) .0)))
 
     pub sweep-asked : (Coordinates (a .x) (a .y) × Coordinates (b .x) (b .y)) ×
         (JobAsked c (length (a .x)) (length (b .x)) (jobOf s t) × Ready (c .k) (c .entries) r)
-    sweep-asked = (
-      (accepted-coordinates a (job-sound .lists .0), accepted-coordinates b (job-sound .lists .1)),
-      (job-asked, campaign-ready c a b r job-sound),
-    )
+    sweep-asked = (both-coordinates, (job-asked, campaign-ready c a b r job-sound))
 
     pub job-levels : Level a × Level b
     job-levels = (accepted-level a (job-sound .lists .0), accepted-level b (job-sound .lists .1))

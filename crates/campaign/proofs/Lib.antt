@@ -16,7 +16,6 @@ pub mod SoundCampaign
 pub mod OpenAnswer
 pub mod StatusAnswer
 pub mod SquaredStripGap
-pub mod StripRange
 pub mod JobRefusal
 pub mod JobAnswer
 pub mod Examples

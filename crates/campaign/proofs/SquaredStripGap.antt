@@ -1,111 +1,86 @@
--- The squared gap of two strips bounds the squared distance of each of their pairs.
-use mathlib.Core.Path.{_≡_, refl}
-use mathlib.Core.Bool.{true, false}
-use mathlib.Core.List.{List, [], _∷_, map}
-use Prim.Native.Nat.{_≤_}
-use native.Mathlib.Nat.{le-trans}
-use native.Mathlib.Omega.{arith}
-use lib.IntN.{ℤ, pos}
-use lib.Signed.{ltZ, leZ}
-use lib.ListN.{getD}
-use Rattle.order.specs.Lists.{All, last}
+-- The squared gap of two strips: by the columns, and that it bounds the squared distance of each of their pairs.
+use mathlib.Core.Path.{_≡_, refl, sym, ap, ap₂, _∙_}
+use mathlib.Core.Bool.{true}
+use mathlib.Core.List.{List, [], _∷_, map, List·Memᴰ, Memᴰ·map}
+use Prim.Native.Nat.{ℕ, _-_, _≤_}
+use lib.IntN.{ℤ}
+use lib.Signed.{ltZ}
+use lib.ListN.{take, drop}
+use Rattle.order.specs.Lists.{all, All}
 use Rattle.order.specs.Terms.{Sorted}
-use Rattle.order.proofs.Order.{byTest}
-use Rattle.order.proofs.Lists.{all-weaken, all-keep}
-use Rattle.site.specs.Site.{gap, square}
-use Rattle.site.proofs.Integers.{lt-le, le-refl, le-trans as leZ-trans}
-use Rattle.site.proofs.Distance.{gap-sym, gap-grows, gap-shrinks, square-le, squared-gap-x}
+use Rattle.order.proofs.Lists.{mem-all, all-keep, all-part, map-take, map-drop}
+use Rattle.order.proofs.Sorted.{sorted-take, sorted-drop}
+use Rattle.site.specs.declared.Site.{Site}
+use Rattle.site.specs.Site.{within}
+use Rattle.site.specs.SiteList.{Columns, columnsOf, sites}
+use Rattle.site.specs.Terms.{Level}
+use Rattle.site.proofs.PositionOrder.{coordinates-sorted}
+use Rattle.site.proofs.SiteList.{sites-columns}
+use Rattle.entry.specs.declared.Entry.{Entry}
 use Rattle.entry.specs.Entry.{apart}
-use Rattle.sweep.specs.Strip.{Placed, pair, product, pairs}
-use Rattle.sweep.proofs.Geometry.{not-left}
-use Rattle.sweep.proofs.LeftOf.{leftOf}
-use Rattle.sweep.proofs.ProductLaws.{all-product}
-use Rattle.campaign.specs.Grid.{rangeGap, squaredStripGap}
+use Rattle.boxes.specs.Box.{boxAround, boxOf, squaredBoxGap}
+use Rattle.boxes.proofs.Box.{box-within, box-gap-under}
+use Rattle.sweep.specs.Strip.{Placed, strip, pair, product, pairs}
+use Rattle.sweep.specs.Terms.{StripIn}
+use Rattle.sweep.proofs.Strip.{strip-sites}
+use Rattle.sweep.proofs.ProductLaws.{mem-product}
+use Rattle.campaign.specs.declared.Strip.{Strip}
+use Rattle.campaign.specs.Grid.{squaredStripGap}
+use Rattle.campaign.specs.Internal.{part}
 
--- ---- a strip's x range
+-- ---- a strip's columns
 
--- The x of its first site, and of its last.
-unfoldable pub firstX : List Placed → ℤ
-firstX p = getD (map (λ q. q .site .x) p) 0 (pos 0)
+module _ {xs ys : List ℤ} (s : Strip) (h : StripIn xs ys (s .from) (s .to)) where
+  pub part-sorted : Sorted ltZ (part s xs)
+  part-sorted =
+      sorted-take ltZ (s .to - s .from) (drop (s .from) xs)
+      (sorted-drop ltZ (s .from) xs (coordinates-sorted (h .lawful)))
 
-unfoldable pub lastX : List Placed → ℤ
-lastX p = last (pos 0) (map (λ q. q .site .x) p)
+  part-inside : (l : List ℤ) → all within l ≡ true → all within (part s l) ≡ true
+  part-inside l g = all-part within (s .to - s .from) (s .from) l g
 
-pub gap-by-x : (p q : List Placed) → squaredStripGap p q ≡ square (rangeGap (firstX p) (lastX p) (firstX q) (lastX q))
-unfolding squaredStripGap firstX lastX
-gap-by-x p q = refl
+  -- The edges of its box are inside the limits.
+  pub part-within : {r : List ℤ} → r ≡ boxAround (part s xs ∷ part s ys ∷ []) → all within r ≡ true
+  unfolding All
+  part-within e =
+      rw e
+      (box-within (part s xs ∷ part s ys ∷ [])
+      (part-inside xs (h .lawful .xs-within), (part-inside ys (h .lawful .ys-within), tt)))
 
-pub from-first : (p : List Placed) → Sorted leftOf p → All (λ q. leZ (firstX p) (q .site .x) ≡ true) p
-unfolding Sorted All firstX
-from-first [] s = tt
-from-first (a ∷ p) s = (
-  le-refl (a .site .x),
-  all-weaken (λ q. ltZ (q .site .x) (a .site .x) ≡ false) (λ q. leZ (a .site .x) (q .site .x) ≡ true) (λ q h. not-left (a .site .x) (q .site .x) h) p (s .0),
-)
+-- The box of a strip by the columns.
+part-sites : (s : Strip) (c : Columns) → Level c → (f : Site → ℤ) (g : Columns → List ℤ) → ((l : List Site) → map f l ≡ g (columnsOf l))
+    → map f (map (λ p. p .site) (strip (s .from) (s .to) (sites c))) ≡ part s (g c)
+part-sites s c level f g is =
+    ap (map f) (strip-sites (s .from) (s .to) (sites c))
+    ∙ map-take f (s .to - s .from) (drop (s .from) (sites c))
+    ∙ ap (take (s .to - s .from)) (map-drop f (s .from) (sites c))
+    ∙ ap (part s) (is (sites c) ∙ ap g (sites-columns c level))
 
--- The first of some sites is at most the last.
-last-greatest : (a : Placed) (p : List Placed) → Sorted leftOf (a ∷ p) → All
-    (λ q. leZ (q .site .x) (last (a .site .x) (map (λ r. r .site .x) p)) ≡ true) (a ∷ p)
-unfolding Sorted All last
-last-greatest a [] s = (le-refl (a .site .x), tt)
-last-greatest a (b ∷ p) s =
-    let r = last-greatest b p (s .1) in (
-      leZ-trans (a .site .x) (b .site .x) (last (b .site .x) (map (λ q. q .site .x) p))
-          (not-left (a .site .x) (b .site .x) (s .0 .0)) (r .0),
-      r,
-    )
+pub strip-box : (s : Strip) (c : Columns) → Level c
+    → boxAround (part s (c .x) ∷ part s (c .y) ∷ []) ≡ boxOf (map (λ p. p .site) (strip (s .from) (s .to) (sites c)))
+unfolding boxOf columnsOf
+strip-box s c level =
+    sym
+    (ap₂ (λ (x y : List ℤ). boxAround (x ∷ y ∷ [])) (part-sites s c level (λ t. t .x) (λ l. l .x) (λ l. refl))
+    (part-sites s c level (λ t. t .y) (λ l. l .y) (λ l. refl)))
 
-pub to-last : (p : List Placed) → Sorted leftOf p → All (λ q. leZ (q .site .x) (lastX p) ≡ true) p
-unfolding All lastX last
-to-last [] s = tt
-to-last (a ∷ p) s = last-greatest a p s
-
--- ---- the gap of two ranges
-
-module _ (from to from' to' x y : ℤ) (low : leZ from x ≡ true) (high : leZ x to ≡ true) (low' : leZ from' y ≡ true) (high' : leZ y to' ≡ true) where
-  before : ltZ to from' ≡ true → gap to from' ≤ gap x y
-  before h =
-      let mid : leZ to from' ≡ true = lt-le to from' h in
-      le-trans (gap-grows to from' y mid low') (gap-shrinks x to y high (leZ-trans to from' y mid low'))
-
-  after : ltZ to' from ≡ true → gap to' from ≤ gap x y
-  after h =
-      let mid : leZ to' from ≡ true = lt-le to' from h in
-      let other : gap to' from ≤ gap y x = le-trans (gap-grows to' from x mid low) (gap-shrinks y to' x high' (leZ-trans to' from x mid low)) in
-      rw (gap-sym x y) other
-
-  pub range-under : rangeGap from to from' to' ≤ gap x y
-  unfolding rangeGap
-  range-under =
-      byTest (ltZ to from') (λ h. rw h (before h))
-      (λ h. rw h (byTest (ltZ to' from) (λ g. rw g (after g)) (λ g. rw g (omega arith))))
+pub strips-gap : (p q : Strip) (a b : Columns) → Level a → Level b → {r r' : List ℤ} {n : ℕ}
+    → r ≡ boxAround (part p (a .x) ∷ part p (a .y) ∷ []) → r' ≡ boxAround (part q (b .x) ∷ part q (b .y) ∷ [])
+    → n ≡ squaredBoxGap r r'
+    → n ≡ squaredStripGap (strip (p .from) (p .to) (sites a)) (strip (q .from) (q .to) (sites b))
+unfolding squaredStripGap
+strips-gap p q a b la lb e e' w = w ∙ ap₂ squaredBoxGap (e ∙ strip-box p a la) (e' ∙ strip-box q b lb)
 
 -- ---- the pairs of two strips
 
-module _ (p q : List Placed) where
-  pair-far : (a b : Placed) → leZ (firstX p) (a .site .x) ≡ true → leZ (a .site .x) (lastX p) ≡ true
-      → leZ (firstX q) (b .site .x) ≡ true → leZ (b .site .x) (lastX q) ≡ true
-      → squaredStripGap p q ≤ pair a b .distance
-  unfolding pair
-  pair-far a b h g i j =
-      rw (gap-by-x p q)
-      (le-trans (square-le (range-under (firstX p) (lastX p) (firstX q) (lastX q) (a .site .x) (b .site .x) h g i j)) (squared-gap-x (a .site) (b .site)))
+pair-far : (p q : List Placed) (e : Entry) → List·Memᴰ e (product pair p q) → squaredStripGap p q ≤ e .distance
+unfolding squaredStripGap pair
+pair-far p q e m =
+    let w = mem-product pair p q m in
+    rw (w .4) (box-gap-under (map (λ s. s .site) p) (map (λ s. s .site) q) (Memᴰ·map (λ s. s .site) (w .2)) (Memᴰ·map (λ s. s .site) (w .3)))
 
-  row-far : (a : Placed) → leZ (firstX p) (a .site .x) ≡ true → leZ (a .site .x) (lastX p) ≡ true → (l : List Placed)
-      → All (λ b. leZ (firstX q) (b .site .x) ≡ true) l → All (λ b. leZ (b .site .x) (lastX q) ≡ true) l → All
-      (λ b. squaredStripGap p q ≤ pair a b .distance) l
-  unfolding All
-  row-far a h g [] i j = tt
-  row-far a h g (b ∷ l) i j = (pair-far a b h g (i .0) (j .0), row-far a h g l (i .1) (j .1))
-
-  rows-far : Sorted leftOf q → (l : List Placed) → All (λ a. leZ (firstX p) (a .site .x) ≡ true) l → All (λ a. leZ (a .site .x) (lastX p) ≡ true) l
-      → All (λ a. All (λ b. squaredStripGap p q ≤ pair a b .distance) q) l
-  unfolding All
-  rows-far sq [] i j = tt
-  rows-far sq (a ∷ l) i j = (row-far a (i .0) (j .0) q (from-first q sq) (to-last q sq), rows-far sq l (i .1) (j .1))
-
-  pub pairs-far : Sorted leftOf p → Sorted leftOf q → All (λ e. squaredStripGap p q ≤ e .distance) (pairs p q)
-  unfolding pairs
-  pairs-far sp sq =
-      all-keep apart (λ e. squaredStripGap p q ≤ e .distance) (product pair p q)
-      (all-product pair (λ e. squaredStripGap p q ≤ e .distance) p q (rows-far sq p (from-first p sp) (to-last p sp)))
+pub pairs-far : (p q : List Placed) → All (λ e. squaredStripGap p q ≤ e .distance) (pairs p q)
+unfolding pairs
+pairs-far p q =
+    let far : Entry → Type 0 = λ e. squaredStripGap p q ≤ e .distance in
+    all-keep apart far (product pair p q) (mem-all far (product pair p q) (pair-far p q))

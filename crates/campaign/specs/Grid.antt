@@ -1,16 +1,14 @@
 -- Cut ends, strips, jobs and marks.
-use mathlib.Core.Bool.{Bool, true, cond, _&&_, _||_}
+use mathlib.Core.Bool.{Bool, true, _&&_, _||_}
 use mathlib.Core.List.{List, [], _∷_, map, flatMap}
 use Prim.Native.Nat.{ℕ, zero, suc, _+_, _*_, _/_, _%_}
 use lib.Dec.{leb, ltb, eqb}
-use lib.IntN.{ℤ, pos}
-use lib.Signed.{ltZ}
 use lib.ListN.{length, getD, set}
 use Rattle.order.specs.Order.{ascending}
 use Rattle.order.specs.Lists.{keep, last}
 use Rattle.site.specs.declared.Site.{Site}
-use Rattle.site.specs.Site.{gap, square}
 use Rattle.entry.specs.declared.Entry.{Entry}
+use Rattle.boxes.specs.Box.{boxOf, squaredBoxGap}
 use Rattle.sweep.specs.Strip.{Placed, strip, product, pairs}
 use Rattle.campaign.specs.declared.Campaign.{Campaign}
 
@@ -72,13 +70,6 @@ jobPairs ends ends' a b j = pairs (stripAt ends a (j .first)) (stripAt ends' b (
 unfoldable pub jobsPairs : List ℕ → List ℕ → List Site → List Site → List Job → List Entry
 jobsPairs ends ends' a b l = flatMap (jobPairs ends ends' a b) l
 
--- The difference of two ranges of x, 0 where they touch or overlap.
-unfoldable pub rangeGap : ℤ → ℤ → ℤ → ℤ → ℕ
-rangeGap from to from' to' = cond (ltZ to from') (gap to from') (cond (ltZ to' from) (gap to' from) 0)
-
--- "The gap of two strips is the x-difference between them", each from its first site's x to its last's; squared.
+-- "The gap of two strips should come from the strips' boxes", each around the strip's own sites; squared. (02 a.)
 unfoldable pub squaredStripGap : List Placed → List Placed → ℕ
-squaredStripGap p q =
-    let xs = map (λ s. s .site .x) p in
-    let xs' = map (λ s. s .site .x) q in
-    square (rangeGap (getD xs 0 (pos 0)) (last (pos 0) xs) (getD xs' 0 (pos 0)) (last (pos 0) xs'))
+squaredStripGap p q = squaredBoxGap (boxOf (map (λ s. s .site) p)) (boxOf (map (λ s. s .site) q))

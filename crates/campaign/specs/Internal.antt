@@ -2,9 +2,9 @@
 use mathlib.Core.Path.{_≡_}
 use mathlib.Core.Bool.{true, Bool, _&&_, _||_}
 use mathlib.Core.List.{List, _∷_}
-use Prim.Native.Nat.{ℕ, _/_, _%_, _≤_, _<_}
+use Prim.Native.Nat.{ℕ, _-_, _/_, _%_, _≤_, _<_}
 use lib.Dec.{leb, ltb, eqb}
-use lib.ListN.{getD, take}
+use lib.ListN.{getD, take, drop}
 use lib.IntN.{ℤ}
 use denote.Ref.{RefT}
 use Rattle.order.specs.Order.{ascending}
@@ -41,9 +41,9 @@ pub record StripOf (ends : List ℕ) (s : ℕ) (r : Strip) : Type 0 where
   pub from : r .from ≡ stripFrom ends s
   pub to : r .to ≡ stripTo ends s
 
--- What holds of two lists with these x, whatever else their sites have.
-pub record Across (ax bx : List ℤ) (holds : List Site → List Site → Type 0) : Type 0 where
-  pub across : (ay by : List ℤ) → Numbered ax ay bx by holds
+-- The part of a column that a strip has.
+abbrev pub part : Strip → List ℤ → List ℤ
+part s l = take (s .to - s .from) (drop (s .from) l)
 
 -- Mark `i` is 0, or 1 at a job.
 unfoldable pub lawfulMark : ℕ → ℕ → ℕ → ℕ → Bool

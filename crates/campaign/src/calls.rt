@@ -137,7 +137,7 @@ pub fn job(
             outcome: Outcome::Refused(refused),
         };
     }
-    if jobs::skips(c, ax, bx, distance, s, t) {
+    if jobs::skips(c, ax, ay, bx, by, distance, s, t) {
         return JobDone {
             campaign: jobs::settle(c, s, t, c.entries),
             outcome: Outcome::Skipped,

@@ -18,7 +18,7 @@ ghost use Rattle.sweep.specs.Sweep.{sweep};
 ghost use Rattle.sweep.specs.Terms.{SweptTo};
 ghost use Rattle.campaign.specs.Grid.{stripAt, jobOf};
 ghost use Rattle.campaign.specs.Soundness.{firstEnds, secondEnds};
-ghost use Rattle.campaign.specs.Internal.{BothCoordinates, NumberedLent, Across, JobAsked};
+ghost use Rattle.campaign.specs.Internal.{BothCoordinates, NumberedLent, JobAsked};
 ghost use Rattle.campaign.specs.Calls.{jobRefusal, skips, afterJob};
 
 // The refusal of a job; 0 for none.
@@ -61,12 +61,22 @@ pub(super) fn refusal(
 }
 
 // Whether a job is skipped: the list has K entries and the gap squared is greater than the last squared distance.
-pub(super) fn skips(c: Campaign, ax: &[i32], bx: &[i32], distance: &[u64], s: u32, t: u32) -> bool
+pub(super) fn skips(
+    c: Campaign,
+    ax: &[i32],
+    ay: &[i32],
+    bx: &[i32],
+    by: &[i32],
+    distance: &[u64],
+    s: u32,
+    t: u32,
+) -> bool
+    requires { ⌜ BothCoordinates ax ay bx by ⌝ }
     requires { ⌜ JobAsked c (length (now ax)) (length (now bx)) (jobOf s t) ⌝ }
     requires { ⌜ (c .entries ≤ c .k) × (c .k ≤ length (now distance)) ⌝ }
     ensures { λ r.
         let held = results (now (distance .entry)) in
-        ⌜ Across (now (ax .entry)) (now (bx .entry)) (λ a b. (first second : List ℕ)
+        ⌜ NumberedLent ax ay bx by (λ a b. (first second : List ℕ)
         → roomFor (c .k) (held first second) ≡ true
         → r ≡ skips c a b (entriesOf (c .entries) (held first second)) (jobOf s t)) ⌝ }
 {
@@ -77,7 +87,7 @@ pub(super) fn skips(c: Campaign, ax: &[i32], bx: &[i32], distance: &[u64], s: u3
     let second_ends = c.second_ends;
     let p = ends::strip(first_ends, c.first_strips, s);
     let q = ends::strip(second_ends, c.second_strips, t);
-    let gap = strips::squared_gap(ax, bx, p, q);
+    let gap = strips::squared_gap(ax, ay, bx, by, p, q);
     let last = c.entries as usize - 1;
     distance[last] < gap
 }

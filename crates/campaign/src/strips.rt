@@ -1,37 +1,33 @@
-// The gap of two strips.
+// The box of a strip, and the gap of two strips.
 use super::Strip;
 ghost use mathlib.Core.Path.{_≡_};
-ghost use Prim.Native.Nat.{_≤_, _<_};
-ghost use lib.ListN.{length};
-ghost use Rattle.site.specs.Site.{square};
+ghost use mathlib.Core.List.{[], _∷_};
+ghost use Rattle.boxes.specs.Box.{boxAround};
 ghost use Rattle.sweep.specs.Strip.{strip};
-ghost use Rattle.campaign.specs.Grid.{rangeGap, squaredStripGap};
-ghost use Rattle.campaign.specs.Internal.{Across};
+ghost use Rattle.sweep.specs.Terms.{StripIn};
+ghost use Rattle.campaign.specs.Grid.{squaredStripGap};
+ghost use Rattle.campaign.specs.Internal.{NumberedLent, part};
 
-// The square of the difference of two ranges, 0 where they touch or overlap.
-fn range_gap(from: i32, to: i32, other_from: i32, other_to: i32) -> u64
-    ensures { λ r. ⌜ r ≡ square (rangeGap from to «other_from» «other_to») ⌝ }
+// The box of a strip.
+fn box_of(x: &[i32], y: &[i32], s: Strip) -> [i32; 4]
+    requires { ⌜ StripIn (now x) (now y) (s .from) (s .to) ⌝ }
+    ensures { λ r. ⌜ r ≡ boxAround (part s (now (x .entry)) ∷ part s (now (y .entry)) ∷ []) ⌝ }
 {
-    if to < other_from {
-        return site::squared_gap(to, other_from);
-    }
-    if other_to < from {
-        return site::squared_gap(other_to, from);
-    }
-    0
+    let from = s.from;
+    let to = s.to;
+    boxes::box_around(&x[from..to], &y[from..to])
 }
 
 // The square of the gap of two strips.
-pub(super) fn squared_gap(ax: &[i32], bx: &[i32], p: Strip, q: Strip) -> u64
-    requires { ⌜ (p .from < p .to) × (p .to ≤ length (now ax)) × (q .from < q .to) × (q .to ≤ length (now bx)) ⌝ }
+pub(super) fn squared_gap(ax: &[i32], ay: &[i32], bx: &[i32], by: &[i32], p: Strip, q: Strip) -> u64
+    requires { ⌜
+        StripIn (now ax) (now ay) (p .from) (p .to)
+        × StripIn (now bx) (now by) (q .from) (q .to)
+        ⌝ }
     ensures { λ r. ⌜
-        Across (now (ax .entry)) (now (bx .entry))
-        (λ a b. r ≡ squaredStripGap (strip (p .from) (p .to) a) (strip (q .from) (q .to) b))
+        NumberedLent ax ay bx by (λ a b.
+        r ≡ squaredStripGap (strip (p .from) (p .to) a) (strip (q .from) (q .to) b))
         ⌝ }
 {
-    let from = p.from;
-    let last = p.to - 1;
-    let other_from = q.from;
-    let other_last = q.to - 1;
-    range_gap(ax[from], ax[last], bx[other_from], bx[other_last])
+    boxes::squared_gap(box_of(ax, ay, p), box_of(bx, by, q))
 }

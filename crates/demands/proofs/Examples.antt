@@ -3,7 +3,7 @@ use mathlib.Core.Path.{refl}
 use mathlib.Core.List.{flatMap, zipWith}
 use Rattle.order.specs.Sort.{insert, sort}
 use Rattle.order.specs.Lists.{all, keep, last, sum}
-use Rattle.order.specs.Order.{ascending, lex}
+use Rattle.order.specs.Order.{ascending, firstOf, foremost, lex}
 use Rattle.column.specs.Column.{overwritten}
 use Rattle.site.specs.Answer.{afterwards, answerUnless, orElse}
 use Rattle.site.specs.Refusal.{contentRefusal, equalLengths, listRefusal, listsRefusal, sizeFault}
@@ -11,24 +11,25 @@ use Rattle.site.specs.Site.{gap, lawfulSite, siteBefore, square, squaredDistanc
 use Rattle.site.specs.SiteList.{columnsOf, siteAt, sites}
 use Rattle.entry.specs.Entry.{apart, bestK, lastDistance, lawfulK, offer, rankBefore}
 use Rattle.entry.specs.Results.{entriesOf, holding, roomFor}
+use Rattle.boxes.specs.Box.{boxAround, boxOf, edges, gaps, rangeGap, squaredBoxGap}
 use Rattle.sweep.specs.Scan.{beyond, scan, taken}
 use Rattle.sweep.specs.Strip.{pair, pairs, placedFrom, product, strip, whole}
 use Rattle.sweep.specs.Sweep.{classicOver, leads, look, reverseOver, sweep}
 use Rattle.pairs.specs.DistanceList.{distanceList}
 use Rattle.pairs.specs.KList.{kList}
 use Rattle.campaign.specs.Calls.{afterJob, jobAnswer, jobEntries, jobRefusal, newCampaign, openAnswer, openRefusal, skips, slots, statusAnswer}
-use Rattle.campaign.specs.Grid.{countFrom, jobPairs, jobs, jobsPairs, lawfulEnds, lawfulMarks, markOf, rangeGap, settled, settledJobs, squaredStripGap, stripAt, stripHolding}
+use Rattle.campaign.specs.Grid.{countFrom, jobPairs, jobs, jobsPairs, lawfulEnds, lawfulMarks, markOf, settled, settledJobs, squaredStripGap, stripAt, stripHolding}
 use Rattle.campaign.specs.Soundness.{campaignRefusal, firstEnds, secondEnds, sound, soundEntry}
 use Rattle.demands.specs.Examples.{examples, ExamplesHold, figures, places, run, steps}
 
 pub examples-hold : ExamplesHold
 unfolding
-    afterJob afterwards all answerUnless apart ascending bestK beyond campaignRefusal classicOver columnsOf contentRefusal
-    countFrom distanceList entriesOf equalLengths examples ExamplesHold figures firstEnds flatMap gap holding insert
-    jobAnswer jobEntries jobPairs jobRefusal jobs jobsPairs keep kList last lastDistance lawfulEnds lawfulK
+    afterJob afterwards all answerUnless apart ascending bestK beyond boxAround boxOf campaignRefusal classicOver columnsOf
+    contentRefusal countFrom distanceList edges entriesOf equalLengths examples ExamplesHold figures firstEnds firstOf
+    flatMap foremost gap gaps holding insert jobAnswer jobEntries jobPairs jobRefusal jobs jobsPairs keep kList last lastDistance lawfulEnds lawfulK
     lawfulMarks lawfulSite leads lex listRefusal listsRefusal look markOf newCampaign offer openAnswer openRefusal
     orElse overwritten pair pairs placedFrom places product rangeGap rankBefore reverseOver roomFor run scan
     secondEnds settled settledJobs siteAt siteBefore sites sizeFault skips slots sort sound soundEntry square
-    squaredDistance squaredStripGap statusAnswer steps strip stripAt stripHolding sum sweep taken whole within
+    squaredBoxGap squaredDistance squaredStripGap statusAnswer steps strip stripAt stripHolding sum sweep taken whole within
     zipWith
 examples-hold = refl

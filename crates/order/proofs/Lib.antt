@@ -3,5 +3,6 @@ pub mod Order
 pub mod Lists
 pub mod Best
 pub mod Sorted
+pub mod Foremost
 pub mod Choice
 pub mod Heap

@@ -6,8 +6,8 @@ use mathlib.Core.List.{List, [], _∷_, _++_, map, zipWith, append-assoc, List·
 use Prim.Native.Nat.{ℕ, zero, suc, _+_, _-_, _≤_, _<_, min}
 use native.Mathlib.Nat.{add-zero, sub-zero, zero-sub, suc-sub-suc}
 use native.Mathlib.Omega.{arith}
-use lib.ListN.{length, take, drop, getD, set, take-append-drop}
-use lib.Seq.{getD-drop}
+use lib.ListN.{length, take, drop, getD, set, take-append-drop, drop-of-length-le}
+use lib.Seq.{getD-drop, drop-cons}
 use Rattle.order.specs.Lists.{all, keep, All, Distinct, last, sum}
 use Rattle.order.proofs.Order.{byTest, never-both}
 
@@ -105,6 +105,10 @@ module _ {A : Type 0} (test : A → Bool) where
 
   pub all-iff : (l : List A) → (all test l ≡ true) ↔ All (λ a. test a ≡ true) l
   all-iff l = (all-holds l, holds-all l)
+
+  pub all-part : (n k : ℕ) (l : List A) → all test l ≡ true → all test (take n (drop k l)) ≡ true
+  all-part n k l h =
+      holds-all (take n (drop k l)) (all-take (λ a. test a ≡ true) n (drop k l) (all-drop (λ a. test a ≡ true) k l (all-holds l h)))
 
   pub keep-yes : (a : A) (l : List A) → test a ≡ true → keep test (a ∷ l) ≡ a ∷ keep test l
   unfolding keep
@@ -334,6 +338,20 @@ last-at d e (a ∷ []) zero h = refl
 last-at d e (a ∷ []) (suc j) h = absurd (omega arith)
 last-at d e (a ∷ (b ∷ l)) zero h = absurd (omega arith)
 last-at d e (a ∷ (b ∷ l)) (suc j) h = last-at a e (b ∷ l) j (omega arith)
+
+-- A list by its places, `n` of them from place `i` on.
+unfoldable pub fromPlace : {A : Type 0} → List A → A → ℕ → ℕ → List A
+fromPlace l d i zero = []
+fromPlace l d i (suc n) = getD l i d ∷ fromPlace l d (suc i) n
+
+drop-by-places : {A : Type 0} (l : List A) (d : A) (i n : ℕ) → length l ≡ i + n → drop i l ≡ fromPlace l d i n
+unfolding fromPlace
+drop-by-places l d i zero h = let all : length l ≤ i = omega arith in drop-of-length-le l all
+drop-by-places {A} l d i (suc n) h =
+    drop-cons l i d (omega arith) ∙ ap (λ (r : List A). getD l i d ∷ r) (drop-by-places l d (suc i) n (omega arith))
+
+pub by-places : {A : Type 0} (l : List A) (d : A) (n : ℕ) → length l ≡ n → l ≡ fromPlace l d 0 n
+by-places l d n h = drop-by-places l d 0 n (omega arith)
 
 -- ---- sums
 

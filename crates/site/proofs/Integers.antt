@@ -1,5 +1,5 @@
 -- Integers by their two sides: z is `up z` less `down z`. What is said of sides is arithmetic of natural numbers.
-use mathlib.Core.Path.{_≡_, refl, ap}
+use mathlib.Core.Path.{_≡_, refl, ap, _∙_}
 use mathlib.Core.Bool.{true, false, not}
 use Prim.Native.Nat.{ℕ, zero, suc, _+_, _-_, _≤_, _<_}
 use native.Mathlib.Omega.{arith}
@@ -39,6 +39,13 @@ le-not-lt (pos a) (negsuc b) = refl
 le-not-lt (negsuc a) (pos b) = refl
 le-not-lt (negsuc a) (negsuc b) =
     byTest (leb b a) (λ h. simp (h, le-ltb a b (leb-true b a h))) (λ h. simp (h, lt-ltb a b (leb-false b a h)))
+
+-- What is not below another: the other is at most it; and back.
+pub not-lt-le : (a b : ℤ) → ltZ b a ≡ false → leZ a b ≡ true
+not-lt-le a b h = le-not-lt a b ∙ ap not h
+
+pub le-lt-not : (a b : ℤ) → leZ a b ≡ true → ltZ b a ≡ false
+le-lt-not a b h = byTest (ltZ b a) (λ t. never-both h (le-not-lt a b ∙ ap not t)) (λ f. f)
 
 pub le-total : (a b : ℤ) → leZ a b ≡ false → leZ b a ≡ true
 le-total a b h =

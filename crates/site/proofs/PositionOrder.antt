@@ -4,9 +4,11 @@ use mathlib.Core.Bool.{true, false, not}
 use mathlib.Core.List.{List}
 use Prim.Native.Nat.{ℕ, _≤_, _<_}
 use native.Mathlib.Omega.{arith}
-use lib.IntN.{ℤ}
-use lib.ListN.{length}
+use lib.IntN.{ℤ, pos}
+use lib.ListN.{length, getD}
 use lib.Signed.{ltZ, leZ}
+use Rattle.order.specs.Terms.{Sorted}
+use Rattle.order.proofs.Sorted.{at-sorted}
 use Rattle.order.proofs.Order.{byTest, never-both, irrefl, before-weak}
 use Rattle.site.specs.declared.Site.{Site}
 use Rattle.site.specs.SiteList.{site}
@@ -14,7 +16,7 @@ use Rattle.site.specs.Site.{squaredDistance, siteBefore}
 use Rattle.site.specs.Terms.{positionAt, Coordinates}
 use Rattle.site.proofs.Answer.{byNumber}
 use Rattle.site.proofs.Distance.{squared-distance-none}
-use Rattle.site.proofs.Integers.{le-not-lt}
+use Rattle.site.proofs.Integers.{le-not-lt, le-lt-not}
 use Rattle.site.proofs.SiteBefore.{site-order, first-below, first-above, second-below, second-above, number-decides}
 
 -- The position of a site, as a site that needs no number.
@@ -48,6 +50,14 @@ module _ (s t : Site) where
       let e : position s ≡ position t = λ i. site (w .0 i) (w .1 i) 0 in
       never-both (rw e at h) (irrefl site-order (position t)))
       (λ n. omega arith)
+
+-- The x of a lawful list never falls.
+pub coordinates-sorted : {xs ys : List ℤ} → Coordinates xs ys → Sorted ltZ xs
+coordinates-sorted {xs} {ys} c =
+    at-sorted ltZ xs (pos 0)
+    (λ k m h g.
+    le-lt-not (getD xs k (pos 0)) (getD xs m (pos 0))
+    (not-before-x (positionAt xs ys m) (positionAt xs ys k) (c .rising k m (omega arith) g)))
 
 -- What comes before a position of a lawful list comes before all later ones.
 pub before-later : {xs ys : List ℤ} → Coordinates xs ys → (s : Site) (i j : ℕ) → i ≤ j → j < length xs

@@ -54,6 +54,20 @@ unfolding columnsOf sites zipWith
 columns-sites [] = refl
 columns-sites (s ∷ l) = ap (λ (r : List Site). s ∷ r) (columns-sites l)
 
+pub sites-columns : (c : Columns) → Level c → columnsOf (sites c) ≡ c
+unfolding columnsOf sites zipWith
+sites-columns c level = back (c .x) (c .y) (c .number) (level .y) (level .number)
+  where
+    back : (xs ys : List ℤ) (ns : List ℕ) → length ys ≡ length xs → length ns ≡ length xs
+        → columnsOf (sites (columns xs ys ns)) ≡ columns xs ys ns
+    back [] [] [] p q = refl
+    back [] (y ∷ ys) ns p q = absurd (omega arith)
+    back [] [] (n ∷ ns) p q = absurd (omega arith)
+    back (x ∷ xs) [] ns p q = absurd (omega arith)
+    back (x ∷ xs) (y ∷ ys) [] p q = absurd (omega arith)
+    back (x ∷ xs) (y ∷ ys) (n ∷ ns) p q =
+        ap (λ (c : Columns). columns (x ∷ c .x) (y ∷ c .y) (n ∷ c .number)) (back xs ys ns (omega arith) (omega arith))
+
 pub columns-length : (l : List Site) → length (columnsOf l .x) ≡ length l
 unfolding columnsOf
 columns-length l = length-map l (λ s. s .x)

@@ -1,6 +1,6 @@
 -- What a sweep needs of the things that it pairs up.
-use mathlib.Core.Path.{_≡_, sym, ap, _∙_}
-use mathlib.Core.Bool.{Bool, true, false, not}
+use mathlib.Core.Path.{_≡_, sym, _∙_}
+use mathlib.Core.Bool.{Bool, true, false}
 use mathlib.Core.List.{List, [], _∷_}
 use Prim.Native.Nat.{_≤_}
 use native.Mathlib.Nat.{le-trans}
@@ -12,7 +12,7 @@ use Rattle.order.proofs.Order.{byTest, never-both, irrefl, ltZ-order}
 use Rattle.order.proofs.Lists.{all-weaken, mem-all}
 use Rattle.order.specs.Order.{on}
 use Rattle.site.specs.Site.{gap, square}
-use Rattle.site.proofs.Integers.{le-not-lt, le-total, le-trans as leZ-trans}
+use Rattle.site.proofs.Integers.{not-lt-le, le-total, le-trans as leZ-trans}
 use Rattle.site.proofs.Distance.{gap-sym, gap-grows, gap-shrinks, square-le}
 use Rattle.sweep.specs.Scan.{Candidate}
 use Rattle.sweep.proofs.ScanLaws.{Widening, Bounding}
@@ -79,10 +79,6 @@ module _ {A B : Type 0} {leftA : A → A → Bool} {leftB : B → B → Bool} {l
 
 -- ---- things that stand on a line
 
--- What is not left of another: the other is at most it.
-pub not-left : (x y : ℤ) → ltZ y x ≡ false → leZ x y ≡ true
-not-left x y h = le-not-lt x y ∙ ap not h
-
 gap-apart : (x v y w : ℤ) → leZ x y ≡ true → leZ v x ≡ true → leZ y w ≡ true → gap x y ≤ gap v w
 gap-apart x v y w h p q = le-trans (gap-grows x y w h q) (gap-shrinks v x w p (leZ-trans x y w h q))
 
@@ -93,8 +89,8 @@ module _ {A B : Type 0} (keyA : A → ℤ) (keyB : B → ℤ) (leads : A → B �
   keys-lead : (a c : A) (b d : B) → leads a b ≡ true → ltZ (keyA a) (keyA c) ≡ false → ltZ (keyB d) (keyB b) ≡ false → leads c d ≡ true
   keys-lead a c b d h p q =
       by-key c d ∙
-      leZ-trans (keyA c) (keyA a) (keyB d) (not-left (keyA c) (keyA a) p)
-      (leZ-trans (keyA a) (keyB b) (keyB d) (sym (by-key a b) ∙ h) (not-left (keyB b) (keyB d) q))
+      leZ-trans (keyA c) (keyA a) (keyB d) (not-lt-le (keyA c) (keyA a) p)
+      (leZ-trans (keyA a) (keyB b) (keyB d) (sym (by-key a b) ∙ h) (not-lt-le (keyB b) (keyB d) q))
 
   keys-wider : (a c : A) (b d : B) → gap (keyA a) (keyB b) ≤ gap (keyA c) (keyB d) → look a b .gap ≤ look c d .gap
   keys-wider a c b d h = rw (by-gap a b, by-gap c d) (square-le h)
@@ -108,10 +104,10 @@ module _ {A B : Type 0} (keyA : A → ℤ) (keyB : B → ℤ) (leads : A → B �
     leads-on = keys-lead;
     leads-wider = λ a c b d h p q.
         keys-wider a c b d
-        (gap-apart (keyA a) (keyA c) (keyB b) (keyB d) (sym (by-key a b) ∙ h) (not-left (keyA c) (keyA a) p) (not-left (keyB b) (keyB d) q));
+        (gap-apart (keyA a) (keyA c) (keyB b) (keyB d) (sym (by-key a b) ∙ h) (not-lt-le (keyA c) (keyA a) p) (not-lt-le (keyB b) (keyB d) q));
     follows-wider = λ a c b d h p q.
         keys-wider a c b d
         (rw (gap-sym (keyA a) (keyB b), gap-sym (keyA c) (keyB d))
         (gap-apart (keyB b) (keyB d) (keyA a) (keyA c) (le-total (keyA a) (keyB b) (sym (by-key a b) ∙ h))
-        (not-left (keyB d) (keyB b) q) (not-left (keyA a) (keyA c) p)));
+        (not-lt-le (keyB d) (keyB b) q) (not-lt-le (keyA a) (keyA c) p)));
   }

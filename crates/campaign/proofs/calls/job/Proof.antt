@@ -49,7 +49,7 @@ judged c =
     let e = c .before .before in
     let s = start e in
     let level = levels e in
-    c .skips .ensures .across _ _ .numbered _ _ (level .0) (level .1) _ _
+    c .skips .ensures .numbered _ _ (level .0) (level .1) _ _
     (job-sound (s .args .c) (one s) (other s) (held s) _ _ (accepted e) .room)
 
 returns : tie.Need-returns

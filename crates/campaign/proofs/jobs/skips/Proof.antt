@@ -3,7 +3,7 @@ use borrow.Author.Needs.{needs}
 use mathlib.Core.Path.{_≡_}
 use native.Mathlib.Omega.{arith}
 use lib.ListN.{length}
-use Rattle.campaign.proofs.SoundPlan.{asked-parts, some-k, places}
+use Rattle.campaign.proofs.SoundPlan.{asked-parts, some-k, strips-in}
 use Rattle.campaign.proofs.JobAnswer.{not-full, gap-decides}
 use Rattle.campaign.proofs.jobs.skips.Statement.{statement}
 use Rattle.campaign.proofs.jobs.skips.Tie as tie
@@ -13,25 +13,24 @@ long s = (search needs, search needs)
 
 returns : tie.Need-returns
 returns c = record {
-  across = λ ay by. record {
-    numbered =
-        λ an bn la lb first second room. not-full _ _ _ _ _ _ room (c .before .before .before .pre .1 .0)
-        (c .if1 .taken);
-  };
+  numbered =
+      λ an bn la lb first second room. not-full _ _ _ _ _ _ room (c .before .before .before .pre .1 .1 .0)
+      (c .if1 .taken);
 }
 
 strip-requires : tie.Need-strip-requires
 strip-requires c κs =
-    let asked = c .before .before .before .before .before .pre .0 in (asked-parts asked .rows, asked .row)
+    let asked = c .before .before .before .before .before .pre .1 .0 in (asked-parts asked .rows, asked .row)
 
 strip-requires-2 : tie.Need-strip-requires-2
 strip-requires-2 c κs =
-    let asked = c .before .before .before .before .before .before .pre .0 in (asked-parts asked .cols, asked .column)
+    let asked = c .before .before .before .before .before .before .pre .1 .0 in (asked-parts asked .cols, asked .column)
 
 squared-gap-requires : tie.Need-squared-gap-requires
 squared-gap-requires c κs =
     let s = c .before .before .before .before .before .before .before in
-    places (s .args .c) (c .before .strip .ensures) (c .strip2 .ensures) (s .pre .0) (long s .0) (long s .1)
+    strips-in (s .args .c) (c .before .strip .ensures) (c .strip2 .ensures) (s .pre .0 .0) (s .pre .0 .1) (s .pre .1 .0)
+    (long s .0) (long s .1)
 
 sub-last : tie.Need-sub-last
 sub-last c =
@@ -39,25 +38,23 @@ sub-last c =
       arith,
       c .before .before .before .before .before .before .if1 .left,
       some-k
-          (c .before .before .before .before .before .before .before .before .before .pre .0),
+          (c .before .before .before .before .before .before .before .before .before .pre .1 .0),
     )
 
 shared-slice-read-result : tie.Need-shared-slice-read-result
 shared-slice-read-result c =
     let s = c .before .before .before .before .before .before .before .before .before .before in omega
-    (arith, c .before .before .before .before .before .before .before .if1 .left, some-k (s .pre .0), s .pre .1)
+    (arith, c .before .before .before .before .before .before .before .if1 .left, some-k (s .pre .1 .0), s .pre .1 .1)
 
 returns-2 : tie.Need-returns-2
 returns-2 c =
     let s = c .before .before .before .before .before .before .before .before .before .before in
     record {
-      across = λ ay by. record {
-        numbered = λ an bn la lb first second room.
-            gap-decides (s .args .c) (c .before .before .before .before .strip .ensures)
-            (c .before .before .before .strip2 .ensures) _ _ _ room (some-k (s .pre .0) .0)
-            (c .before .before .before .before .before .before .before .if1 .left)
-            (c .before .before .squared-gap .ensures .across ay by .numbered an bn la lb);
-      };
+      numbered = λ an bn la lb first second room.
+          gap-decides (s .args .c) (c .before .before .before .before .strip .ensures)
+          (c .before .before .before .strip2 .ensures) _ _ _ room (some-k (s .pre .1 .0) .0)
+          (c .before .before .before .before .before .before .before .if1 .left)
+          (c .before .before .squared-gap .ensures .numbered an bn la lb);
     }
 
 pub skips-spec : {M : Type 1} → statement M

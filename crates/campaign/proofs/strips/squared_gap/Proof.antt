@@ -1,47 +1,22 @@
 -- `campaign::strips::squared_gap` meets its contract.
-use borrow.Author.Needs.{needs, sfits-of}
-use mathlib.Core.Path.{_∙_}
-use lib.IntN.{ℤ}
-use mir.Facts.{toZ-ofZ}
-use Rattle.site.specs.Site.{square}
-use Rattle.site.specs.SiteList.{columns}
-use Rattle.site.proofs.Signed.{at₄}
-use Rattle.campaign.specs.Grid.{rangeGap}
-use Rattle.campaign.proofs.StripRange.{strip-gap}
+use borrow.Author.Needs.{needs}
+use Rattle.campaign.proofs.SquaredStripGap.{part-within, strips-gap}
 use Rattle.campaign.proofs.strips.squared_gap.Statement.{statement}
 use Rattle.campaign.proofs.strips.squared_gap.Tie as tie
 
+squared-gap-requires : tie.Need-squared-gap-requires
+squared-gap-requires c κs =
+    let s = c .before .before in
+    (part-within _ (s .pre .0) (c .before .box-of .ensures), part-within _ (s .pre .1) (c .box-of2 .ensures))
+
 returns : tie.Need-returns
 returns c =
-    let s = c .before .before .before .before .before .before .before in
-    let is =
-    at₄ (λ (f t g u : ℤ). square (rangeGap f t g u))
-    (toZ-ofZ (sfits-of (c .before .before .before .before .range-gap-arg .given)))
-    (toZ-ofZ (sfits-of (c .before .before .before .range-gap-arg2 .given)))
-    (toZ-ofZ (sfits-of (c .before .before .range-gap-arg3 .given)))
-    (toZ-ofZ (sfits-of (c .before .range-gap-arg4 .given)))
-    (c .range-gap .ensures) in
+    let second = c .before in
     record {
-      across = λ ay by. record {
-        numbered = λ an bn la lb.
-            is ∙ strip-gap (columns (s .args .ax .now) ay an) (columns (s .args .bx .now) by bn) la lb _ _ _ _
-            (s .pre .0) (s .pre .1) (s .pre .2) (s .pre .3);
-      };
+      numbered = λ an bn la lb.
+          strips-gap _ _ _ _ la lb (second .before .box-of .ensures) (second .box-of2 .ensures) (c .squared-gap .ensures);
     }
 
 pub squared-gap-spec : {M : Type 1} → statement M
 squared-gap-spec =
-    tie.close
-    (tie.spec
-    (λ c. search needs)
-    (λ c. search needs)
-    (λ c. search needs)
-    (λ c. search needs)
-    (λ c. search needs)
-    (λ c. search needs)
-    (λ c. search needs)
-    (λ c. search needs)
-    (λ c. search needs)
-    (λ c. search needs)
-    (λ c κs. search needs)
-    returns)
+    tie.close (tie.spec (λ c κs. search needs) (λ c κs. search needs) squared-gap-requires returns)

@@ -1,0 +1,2 @@
+-- What a reader must believe of boxes. The laws are in `proofs/`.
+pub mod Box

@@ -1,0 +1,86 @@
+// The box around some sites, least and greatest x and y, and the gap squared of two boxes.
+ghost use mathlib.Core.Path.{_≡_};
+ghost use mathlib.Core.Bool.{true};
+ghost use mathlib.Core.List.{[], _∷_};
+ghost use lib.Signed.{ltZ};
+ghost use Rattle.order.specs.Order.{after, firstOf};
+ghost use Rattle.order.specs.Lists.{all};
+ghost use Rattle.order.specs.Terms.{Sorted};
+ghost use Rattle.site.specs.Site.{within};
+ghost use Rattle.boxes.specs.Box.{edges, boxAround, rangeGap, squaredBoxGap};
+
+// The lesser of two coordinates.
+fn lesser(a: i32, b: i32) -> i32
+    ensures { λ r. ⌜ r ≡ firstOf ltZ a b ⌝ }
+{
+    if b < a { b } else { a }
+}
+
+// The greater of two coordinates.
+fn greater(a: i32, b: i32) -> i32
+    ensures { λ r. ⌜ r ≡ firstOf (after ltZ) a b ⌝ }
+{
+    if a < b { b } else { a }
+}
+
+// The least and the greatest of a column.
+fn edges(column: &[i32]) -> [i32; 2]
+    ensures { λ r. ⌜ r ≡ edges (now (column .entry)) ⌝ }
+{
+    if column.len() == 0 {
+        return [0, 0];
+    }
+    let mut found = [column[0], column[0]];
+    let mut i = 1;
+    while i < column.len() {
+        let c = column[i];
+        found = [lesser(found[0], c), greater(found[1], c)];
+        i += 1;
+    }
+    found
+}
+
+// The same of a column that ascends: its ends.
+fn sorted_edges(column: &[i32]) -> [i32; 2]
+    requires { ⌜ Sorted ltZ (now column) ⌝ }
+    ensures { λ r. ⌜ r ≡ edges (now (column .entry)) ⌝ }
+{
+    if column.len() == 0 {
+        return [0, 0];
+    }
+    let last = column.len() - 1;
+    [column[0], column[last]]
+}
+
+// The box around the sites of two coordinate columns that ascend by x. (02 a: box.)
+pub fn box_around(x: &[i32], y: &[i32]) -> [i32; 4]
+    requires { ⌜ Sorted ltZ (now x) ⌝ }
+    ensures { λ r. ⌜ r ≡ boxAround (now (x .entry) ∷ now (y .entry) ∷ []) ⌝ }
+{
+    let along_x = sorted_edges(x);
+    let along_y = edges(y);
+    [along_x[0], along_x[1], along_y[0], along_y[1]]
+}
+
+// The difference of two ranges, 0 where they touch or overlap.
+fn range_gap(from: i32, to: i32, other_from: i32, other_to: i32) -> u64
+    ensures { λ r. ⌜ r ≡ rangeGap from to «other_from» «other_to» ⌝ }
+{
+    if to < other_from {
+        return site::gap(to, other_from);
+    }
+    if other_to < from {
+        return site::gap(other_to, from);
+    }
+    0
+}
+
+// The gap squared of two boxes whose edges are inside the limits.
+pub fn squared_gap(p: [i32; 4], q: [i32; 4]) -> u64
+    requires { ⌜ (all within p ≡ true) × (all within q ≡ true) ⌝ }
+    ensures { λ r. ⌜ r ≡ squaredBoxGap p q ⌝ }
+{
+    let x_gap = range_gap(p[0], p[1], q[0], q[1]);
+    let y_gap = range_gap(p[2], p[3], q[2], q[3]);
+    x_gap * x_gap + y_gap * y_gap
+}
