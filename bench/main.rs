@@ -45,6 +45,24 @@ fn even(r: &mut Random, sites: usize) -> Columns {
     Columns::of((0..sites).map(|i| (c(r), c(r), i as u32)).collect())
 }
 
+/// Sites spread evenly over a band of x one thousandth as wide as it is long in y.
+fn band(r: &mut Random) -> Columns {
+    let sites = (0..SITES).map(|i| {
+        (r.from_to(-1_000_000, 1_000_000) as i32, r.from_to(-1_000_000_000, 1_000_000_000) as i32, i as u32)
+    });
+    Columns::of(sites.collect())
+}
+
+/// Sites along a road that runs through all of y and hardly moves in x, 10,000 of them.
+fn road(r: &mut Random) -> Columns {
+    let sites = (0..10_000).map(|i| {
+        let x = r.from_to(-500, 500);
+        let y = 1_900_000 * x + r.from_to(-50_000_000, 50_000_000);
+        (x as i32, y as i32, i as u32)
+    });
+    Columns::of(sites.collect())
+}
+
 /// Sites at one position.
 fn stacked(sites: usize) -> Columns {
     Columns::of((0..sites).map(|i| (7, 7, i as u32)).collect())
@@ -85,7 +103,7 @@ fn checked(a: &Columns) {
             &mut count,
         )
     };
-    assert_eq!((number, black_box(count)), (0, SITES as u32));
+    assert_eq!((number, black_box(count)), (0, a.x.len() as u32));
 }
 
 fn list_check(name: &str, a: &Columns) {
@@ -281,8 +299,8 @@ fn status(a: &Columns, b: &Columns, k: usize, strips: usize, c: &Campaign, r: &R
 
 /// All 256 jobs in ordinary Rust, on lists that `keep` makes: looks, jobs skipped, and the entries.
 fn plain_jobs<L: KList>(a: List, b: List, k: usize, keep: impl Fn(usize, Vec<Entry>) -> L) -> (u64, u32, Vec<Entry>) {
-    let ends = || (1..=16).map(|s| SITES * s / 16).collect();
-    let mut c = ordinary::Campaign::new(k, [ends(), ends()]);
+    let ends = |l: List| (1..=16).map(|s| l.x.len() * s / 16).collect();
+    let mut c = ordinary::Campaign::new(k, [ends(a), ends(b)]);
     let (mut looks, mut skips) = (0, 0);
     for job in 0..256 {
         match c.classic_job(&keep, a, b, job / 16, job % 16) {
@@ -363,7 +381,9 @@ fn main() {
     }
     k_lists(&kinds);
     distance_lists(&kinds);
-    campaigns(&kinds);
+    campaigns(&kinds, &[1_000, 4_096]);
+    let long_in_y = [("band long in y", band(r), band(r)), ("road along y", road(r), road(r))];
+    campaigns(&long_in_y, &[1_000]);
     for strips in [1, 32] {
         for k in [1, 4_096] {
             one_position(r, k, strips);
@@ -388,10 +408,10 @@ fn distance_lists(kinds: &[(&str, Columns, Columns)]) {
     }
 }
 
-fn campaigns(kinds: &[(&str, Columns, Columns)]) {
+fn campaigns(kinds: &[(&str, Columns, Columns)], ks: &[usize]) {
     for (name, a, b) in kinds {
-        for k in [1_000, 4_096] {
-            campaign(name, a, b, k);
+        for k in ks {
+            campaign(name, a, b, *k);
         }
     }
 }

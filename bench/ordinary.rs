@@ -136,6 +136,21 @@ pub fn distance_list(a: List, b: List, e: u32, first: &mut [u32], second: &mut [
     Some(pairs.len())
 }
 
+/// The box of a strip, least and greatest x and y. The list ascends by x.
+fn box_of(l: List, (from, to): (usize, usize)) -> [i32; 4] {
+    let ys = &l.y[from..to];
+    [l.x[from], l.x[to - 1], *ys.iter().min().unwrap(), *ys.iter().max().unwrap()]
+}
+
+/// The gap squared of two boxes.
+fn squared_gap(p: [i32; 4], q: [i32; 4]) -> u64 {
+    let along = |least: usize, greatest: usize| {
+        let gap = (q[least] as i64 - p[greatest] as i64).max(p[least] as i64 - q[greatest] as i64).max(0);
+        (gap * gap) as u64
+    };
+    along(0, 1) + along(2, 3)
+}
+
 /// A campaign: the ends of both lists' strips, which jobs are settled, and the entries.
 pub struct Campaign {
     pub k: usize,
@@ -223,8 +238,7 @@ impl Campaign {
         let job = self.job(s, t);
         self.settled[job] = true;
         let (p, q) = (range(&self.ends[0], s), range(&self.ends[1], t));
-        let gap = (b.x[q.0] as i64 - a.x[p.1 - 1] as i64).max(a.x[p.0] as i64 - b.x[q.1 - 1] as i64).max(0);
-        if self.entries.len() == self.k && (gap * gap) as u64 > self.entries[self.k - 1].distance {
+        if self.entries.len() == self.k && squared_gap(box_of(a, p), box_of(b, q)) > self.entries[self.k - 1].distance {
             return None;
         }
         let mut list = keep(self.k, std::mem::take(&mut self.entries));

@@ -4,12 +4,11 @@ use mathlib.Core.Bool.{true, false}
 use mathlib.Core.List.{List, [], _∷_, map, flatMap, List·Memᴰ, Memᴰ·map}
 use Prim.Native.Nat.{ℕ, zero, suc, _+_, _≤_}
 use native.Mathlib.Nat.{add-zero, le-refl, add-le-add}
-use native.Mathlib.Omega.{arith}
 use lib.IntN.{ℤ, pos}
 use lib.Signed.{ltZ, leZ}
 use lib.ListN.{length, getD}
 use Rattle.order.specs.Lists.{all, All, sum}
-use Rattle.order.specs.Order.{after, foremost}
+use Rattle.order.specs.Order.{after}
 use Rattle.order.proofs.Order.{ltZ-order}
 use Rattle.order.proofs.Lists.{all-mem, all-holds, holds-all, all-append, fromPlace, by-places}
 use Rattle.order.proofs.Foremost.{after-order, foremost-none, foremost-holds}
@@ -17,53 +16,68 @@ use Rattle.site.specs.declared.Site.{Site}
 use Rattle.site.specs.Site.{within, plane, gap, square, squaredDistance}
 use Rattle.site.proofs.Integers.{not-lt-le}
 use Rattle.site.proofs.Distance.{square-le, squaredOver}
-use Rattle.boxes.specs.Box.{edges, boxAround, boxOf, rangeGap, gaps, squaredBoxGap}
+use Rattle.boxes.specs.Box.{
+  least,
+  greatest,
+  edges,
+  boxAround,
+  boxOf,
+  rangeGap,
+  gaps,
+  squaredBoxGap,
+}
 use Rattle.boxes.proofs.RangeGap.{range-under, range-within}
 
 -- ---- edges
 
 module _ {v : ℤ} (column : List ℤ) (m : List·Memᴰ v column) where
-  least-under : leZ (foremost ltZ (pos 0) column) v ≡ true
+  least-under : leZ (least column) v ≡ true
   least-under =
-      not-lt-le (foremost ltZ (pos 0) column) v
-      (all-mem (λ b. ltZ b (foremost ltZ (pos 0) column) ≡ false) (foremost-none ltZ-order (pos 0) column) m)
+      not-lt-le (least column) v
+      (all-mem (λ b. ltZ b (least column) ≡ false) (foremost-none ltZ-order (pos 0) column) m)
 
-  greatest-above : leZ v (foremost (after ltZ) (pos 0) column) ≡ true
+  greatest-above : leZ v (greatest column) ≡ true
   greatest-above =
-      not-lt-le v (foremost (after ltZ) (pos 0) column)
-      (all-mem (λ b. ltZ (foremost (after ltZ) (pos 0) column) b ≡ false) (foremost-none (after-order ltZ-order) (pos 0) column) m)
+      not-lt-le v (greatest column)
+      (all-mem (λ b. ltZ (greatest column) b ≡ false) (foremost-none (after-order ltZ-order) (pos 0) column) m)
 
 -- Edges of coordinates inside the limits are inside them.
 edges-within : (column : List ℤ) → all within column ≡ true → All (λ c. within c ≡ true) (edges column)
 unfolding edges All within
 edges-within column h =
-    let each = all-holds within column h in
-    (foremost-holds ltZ _ (pos 0) column refl each, (foremost-holds (after ltZ) _ (pos 0) column refl each, tt))
+    let each = all-holds within column h in (
+      foremost-holds ltZ _ (pos 0) column refl each,
+      (foremost-holds (after ltZ) _ (pos 0) column refl each, tt),
+    )
 
-around-within : (columns : List (List ℤ)) → All (λ c. all within c ≡ true) columns → All (λ c. within c ≡ true) (boxAround columns)
+around-within : (columns : List (List ℤ)) → All (λ c. all within c ≡ true) columns
+    → All (λ c. within c ≡ true) (boxAround columns)
 unfolding boxAround flatMap All
 around-within [] h = tt
 around-within (c ∷ l) h =
     all-append (λ v. within v ≡ true) (edges c) (boxAround l) (edges-within c (h .0)) (around-within l (h .1))
 
-pub box-within : (columns : List (List ℤ)) → All (λ c. all within c ≡ true) columns → all within (boxAround columns) ≡ true
+pub box-within : (columns : List (List ℤ)) → All (λ c. all within c ≡ true) columns
+    → all within (boxAround columns) ≡ true
 box-within columns h = holds-all within (boxAround columns) (around-within columns h)
 
 -- ---- gaps
 
--- Over any coordinates: the gap squared of the boxes of some sites and others is at most the sum of the squared differences
--- of any one of each.
+-- The gap of two columns is at most that of any one coordinate of each.
+column-gap-under : (p q : List ℤ) {v w : ℤ} → List·Memᴰ v p → List·Memᴰ w q
+    → rangeGap (least p) (greatest p) (least q) (greatest q) ≤ gap v w
+column-gap-under p q m n =
+    range-under _ _ _ _ _ _ (least-under p m) (greatest-above p m) (least-under q n) (greatest-above q n)
+
+-- Over any coordinates: the gap squared of the boxes around some sites and others is at most the sum of the squared
+-- differences of any one of each.
 pub around-gap-under : (coordinates : List (Site → ℤ)) (p q : List Site) {s t : Site} → List·Memᴰ s p → List·Memᴰ t q
     → squaredBoxGap (boxAround (map (λ c. map c p) coordinates)) (boxAround (map (λ c. map c q) coordinates))
     ≤ squaredOver coordinates s t
 unfolding squaredBoxGap boxAround flatMap edges gaps sum
 around-gap-under [] p q m n = le-refl 0
-around-gap-under (c ∷ l) p q {s} {t} m n =
-    let mine = Memᴰ·map c m in
-    let other = Memᴰ·map c n in
-    add-le-add
-    (square-le
-    (range-under _ _ _ _ (c s) (c t) (least-under (map c p) mine) (greatest-above (map c p) mine) (least-under (map c q) other) (greatest-above (map c q) other)))
+around-gap-under (c ∷ l) p q m n =
+    add-le-add (square-le (column-gap-under (map c p) (map c q) (Memᴰ·map c m) (Memᴰ·map c n)))
     (around-gap-under l p q m n)
 
 -- In the plane.
@@ -96,7 +110,8 @@ within-at [] i h = refl
 within-at (c ∷ p) zero h = h .0
 within-at (c ∷ p) (suc i) h = within-at p i (h .1)
 
-pub gap-small : (p q : List ℤ) (i j : ℕ) → all within p ≡ true → all within q ≡ true → gapAt i j p q ≤ 2_000_000_000
+pub gap-small : (p q : List ℤ) (i j : ℕ) → all within p ≡ true → all within q ≡ true
+    → gapAt i j p q ≤ 2_000_000_000
 gap-small p q i j h g =
     let mine = all-holds within p h in
     let other = all-holds within q g in

@@ -1,6 +1,6 @@
 -- Examples of boxes and of their gaps.
 use mathlib.Core.Path.{_≡_, refl}
-use mathlib.Core.List.{List, [], _∷_, flatMap, map}
+use mathlib.Core.List.{List, [], _∷_, flatMap}
 use Prim.Native.Nat.{ℕ}
 use lib.IntN.{ℤ, pos, negsuc}
 use Rattle.order.specs.Lists.{sum}
@@ -10,7 +10,8 @@ use Rattle.site.specs.SiteList.{site}
 use Rattle.boxes.specs.Box.{edges, boxAround, boxOf, rangeGap, gaps, squaredBoxGap}
 
 -- The edges of y stand at neither end, in no order.
-around : boxOf (site (pos 0) (pos 2) 1 ∷ site (pos 4) (negsuc 2) 2 ∷ site (pos 4) (pos 7) 3 ∷ site (pos 9) (pos 0) 4 ∷ [])
+around :
+    boxOf (site (pos 0) (pos 2) 1 ∷ site (pos 4) (negsuc 2) 2 ∷ site (pos 4) (pos 7) 3 ∷ site (pos 9) (pos 0) 4 ∷ [])
     ≡ pos 0 ∷ pos 9 ∷ negsuc 2 ∷ pos 7 ∷ []
 unfolding boxOf boxAround edges firstOf flatMap foremost
 around = refl

@@ -30,13 +30,15 @@ widened-start (c ∷ l) h = refl
 -- One look.
 pub widened-step : (found column : List ℤ) (i : ℕ) → i < length column
     → let c = getD column i (pos 0) in
-    widened (firstOf ltZ (getD found 0 (pos 0)) c ∷ firstOf (after ltZ) (getD found 1 (pos 0)) c ∷ []) (drop (i + 1) column)
+    widened (firstOf ltZ (getD found 0 (pos 0)) c ∷ firstOf (after ltZ) (getD found 1 (pos 0)) c ∷ [])
+    (drop (i + 1) column)
     ≡ widened found (drop i column)
 unfolding widened
 widened-step found column i h = rw (add-one, drop-cons column i (pos 0) h)
 
 -- Nothing is left to look at.
-pub widened-end : (found column : List ℤ) (i : ℕ) → length column ≤ i → length found ≡ 2 → found ≡ widened found (drop i column)
+pub widened-end : (found column : List ℤ) (i : ℕ) → length column ≤ i → length found ≡ 2
+    → found ≡ widened found (drop i column)
 unfolding widened fromPlace
 widened-end found column i h l = rw (drop-of-length-le column h) (by-places found (pos 0) 2 l)
 

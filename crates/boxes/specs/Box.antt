@@ -9,9 +9,15 @@ use Rattle.order.specs.Order.{after, foremost}
 use Rattle.site.specs.declared.Site.{Site}
 use Rattle.site.specs.Site.{plane, gap, square}
 
--- The least and the greatest of a column of coordinates, both 0 where it is empty.
+-- The least and the greatest of a column of coordinates, 0 where it is empty.
+abbrev pub least : List ℤ → ℤ
+least column = foremost ltZ (pos 0) column
+
+abbrev pub greatest : List ℤ → ℤ
+greatest column = foremost (after ltZ) (pos 0) column
+
 unfoldable pub edges : List ℤ → List ℤ
-edges column = foremost ltZ (pos 0) column ∷ foremost (after ltZ) (pos 0) column ∷ []
+edges column = least column ∷ greatest column ∷ []
 
 -- The box around what stands in some coordinate columns: the edges of each, one column after the other.
 unfoldable pub boxAround : List (List ℤ) → List ℤ

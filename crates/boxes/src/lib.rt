@@ -30,7 +30,8 @@ fn edges(column: &[i32]) -> [i32; 2]
     if column.len() == 0 {
         return [0, 0];
     }
-    let mut found = [column[0], column[0]];
+    let first = column[0];
+    let mut found = [first, first];
     let mut i = 1;
     while i < column.len() {
         let c = column[i];

@@ -20,7 +20,7 @@ use Rattle.entry.specs.declared.Entry.{Entry}
 use Rattle.entry.specs.Entry.{apart}
 use Rattle.boxes.specs.Box.{boxAround, boxOf, squaredBoxGap}
 use Rattle.boxes.proofs.Box.{box-within, box-gap-under}
-use Rattle.sweep.specs.Strip.{Placed, strip, pair, product, pairs}
+use Rattle.sweep.specs.Strip.{Placed, strip, sitesOf, pair, product, pairs}
 use Rattle.sweep.specs.Terms.{StripIn}
 use Rattle.sweep.proofs.Strip.{strip-sites}
 use Rattle.sweep.proofs.ProductLaws.{mem-product}
@@ -48,8 +48,9 @@ module _ {xs ys : List ℤ} (s : Strip) (h : StripIn xs ys (s .from) (s .to)) wh
       (part-inside xs (h .lawful .xs-within), (part-inside ys (h .lawful .ys-within), tt)))
 
 -- The box of a strip by the columns.
-part-sites : (s : Strip) (c : Columns) → Level c → (f : Site → ℤ) (g : Columns → List ℤ) → ((l : List Site) → map f l ≡ g (columnsOf l))
-    → map f (map (λ p. p .site) (strip (s .from) (s .to) (sites c))) ≡ part s (g c)
+part-sites : (s : Strip) (c : Columns) → Level c → (f : Site → ℤ) (g : Columns → List ℤ)
+    → ((l : List Site) → map f l ≡ g (columnsOf l))
+    → map f (sitesOf (strip (s .from) (s .to) (sites c))) ≡ part s (g c)
 part-sites s c level f g is =
     ap (map f) (strip-sites (s .from) (s .to) (sites c))
     ∙ map-take f (s .to - s .from) (drop (s .from) (sites c))
@@ -57,7 +58,7 @@ part-sites s c level f g is =
     ∙ ap (part s) (is (sites c) ∙ ap g (sites-columns c level))
 
 pub strip-box : (s : Strip) (c : Columns) → Level c
-    → boxAround (part s (c .x) ∷ part s (c .y) ∷ []) ≡ boxOf (map (λ p. p .site) (strip (s .from) (s .to) (sites c)))
+    → boxAround (part s (c .x) ∷ part s (c .y) ∷ []) ≡ boxOf (sitesOf (strip (s .from) (s .to) (sites c)))
 unfolding boxOf columnsOf
 strip-box s c level =
     sym
@@ -77,7 +78,8 @@ pair-far : (p q : List Placed) (e : Entry) → List·Memᴰ e (product pair p q)
 unfolding squaredStripGap pair
 pair-far p q e m =
     let w = mem-product pair p q m in
-    rw (w .4) (box-gap-under (map (λ s. s .site) p) (map (λ s. s .site) q) (Memᴰ·map (λ s. s .site) (w .2)) (Memᴰ·map (λ s. s .site) (w .3)))
+    rw (w .4)
+    (box-gap-under (sitesOf p) (sitesOf q) (Memᴰ·map (λ s. s .site) (w .2)) (Memᴰ·map (λ s. s .site) (w .3)))
 
 pub pairs-far : (p q : List Placed) → All (λ e. squaredStripGap p q ≤ e .distance) (pairs p q)
 unfolding pairs

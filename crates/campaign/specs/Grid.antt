@@ -1,6 +1,6 @@
 -- Cut ends, strips, jobs and marks.
 use mathlib.Core.Bool.{Bool, true, _&&_, _||_}
-use mathlib.Core.List.{List, [], _∷_, map, flatMap}
+use mathlib.Core.List.{List, [], _∷_, flatMap}
 use Prim.Native.Nat.{ℕ, zero, suc, _+_, _*_, _/_, _%_}
 use lib.Dec.{leb, ltb, eqb}
 use lib.ListN.{length, getD, set}
@@ -9,7 +9,7 @@ use Rattle.order.specs.Lists.{keep, last}
 use Rattle.site.specs.declared.Site.{Site}
 use Rattle.entry.specs.declared.Entry.{Entry}
 use Rattle.boxes.specs.Box.{boxOf, squaredBoxGap}
-use Rattle.sweep.specs.Strip.{Placed, strip, product, pairs}
+use Rattle.sweep.specs.Strip.{Placed, strip, sitesOf, product, pairs}
 use Rattle.campaign.specs.declared.Campaign.{Campaign}
 
 -- "at most 32 per list, strictly ascending, each above 0, the last equal to the list's length; an empty list has none."
@@ -72,4 +72,4 @@ jobsPairs ends ends' a b l = flatMap (jobPairs ends ends' a b) l
 
 -- "The gap of two strips should come from the strips' boxes", each around the strip's own sites; squared. (02 a.)
 unfoldable pub squaredStripGap : List Placed → List Placed → ℕ
-squaredStripGap p q = squaredBoxGap (boxOf (map (λ s. s .site) p)) (boxOf (map (λ s. s .site) q))
+squaredStripGap p q = squaredBoxGap (boxOf (sitesOf p)) (boxOf (sitesOf q))

@@ -1,4 +1,4 @@
--- The element of a list that comes first: none of the others comes before it, and in a list in order it stands at an end.
+-- The element of a list that comes first: none comes before it, and in a list in order it stands at an end.
 use mathlib.Core.Path.{_≡_, refl, ap, _∙_}
 use mathlib.Core.Bool.{Bool, true, false}
 use mathlib.Core.List.{List, [], _∷_, foldl}

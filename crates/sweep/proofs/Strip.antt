@@ -2,7 +2,7 @@
 use mathlib.Core.Path.{_≡_, refl, sym, ap, _∙_}
 use mathlib.Core.Logic.{_↔_, ⊎-elim}
 use mathlib.Core.Bool.{Bool, true, false}
-use mathlib.Core.List.{List, [], _∷_, _++_, map, List·Memᴰ, List·Memᴰ·head, List·Memᴰ·tail, List·Memᴰ·not-nil, List·Memᴰ·cases-cons, Memᴰ·cast}
+use mathlib.Core.List.{List, [], _∷_, _++_, List·Memᴰ, List·Memᴰ·head, List·Memᴰ·tail, List·Memᴰ·not-nil, List·Memᴰ·cases-cons, Memᴰ·cast}
 use Prim.Native.Nat.{ℕ, zero, suc, _+_, _-_, _*_, _≤_, _<_, min}
 use native.Mathlib.Omega.{arith}
 use lib.Dec.{ltb}
@@ -18,7 +18,7 @@ use Rattle.site.specs.declared.Site.{Site}
 use Rattle.site.specs.Site.{squaredDistance}
 use Rattle.entry.specs.declared.Entry.{Entry}
 use Rattle.entry.specs.Entry.{apart}
-use Rattle.sweep.specs.Strip.{Placed, placedFrom, whole, strip, pair, product, pairs}
+use Rattle.sweep.specs.Strip.{Placed, placedFrom, whole, strip, sitesOf, pair, product, pairs}
 use Rattle.sweep.proofs.ProductLaws.{mem-product, product-mem, product-ascends, length-product}
 
 -- A site at a place.
@@ -32,7 +32,7 @@ unfolding placedFrom
 length-placed n [] = refl
 length-placed n (s ∷ l) = ap suc (length-placed (suc n) l)
 
-placed-sites : (n : ℕ) (l : List Site) → map (λ p. p .site) (placedFrom n l) ≡ l
+placed-sites : (n : ℕ) (l : List Site) → sitesOf (placedFrom n l) ≡ l
 unfolding placedFrom
 placed-sites n [] = refl
 placed-sites n (s ∷ l) = ap (λ (r : List Site). s ∷ r) (placed-sites (suc n) l)
@@ -124,10 +124,8 @@ strip-is from to l =
     let z : 0 + from ≡ from = omega arith in
     rw (drop-placed from 0 l, z, take-placed)
 
--- The sites of a strip, without their places.
-pub strip-sites : (from to : ℕ) (l : List Site) → map (λ p. p .site) (strip from to l) ≡ take (to - from) (drop from l)
-strip-sites from to l =
-    ap (λ (p : List Placed). map (λ s. s .site) p) (strip-is from to l) ∙ placed-sites from (take (to - from) (drop from l))
+pub strip-sites : (from to : ℕ) (l : List Site) → sitesOf (strip from to l) ≡ take (to - from) (drop from l)
+strip-sites from to l = ap sitesOf (strip-is from to l) ∙ placed-sites from (take (to - from) (drop from l))
 
 pub length-strip : (from to : ℕ) (l : List Site) → length (strip from to l) ≡ min (to - from) (length l - from)
 unfolding strip

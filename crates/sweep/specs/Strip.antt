@@ -25,6 +25,10 @@ whole l = placedFrom 0 l
 unfoldable pub strip : ℕ → ℕ → List Site → List Placed
 strip from to l = take (to - from) (drop from (whole l))
 
+-- The sites of a strip, without their places.
+abbrev pub sitesOf : List Placed → List Site
+sitesOf p = map (λ s. s .site) p
+
 -- A pair as an entry: its squared distance and its two places.
 unfoldable pub pair : Placed → Placed → Entry
 pair p q = entry (squaredDistance (p .site) (q .site)) (p .place) (q .place)

@@ -1,8 +1,7 @@
 -- `boxes::box_around` meets its contract.
 use borrow.Author.Needs.{needs, sfits-of}
 use mathlib.Core.Path.{_∙_}
-use mathlib.Core.List.{List, [], _∷_}
-use lib.IntN.{ℤ}
+use mathlib.Core.List.{[], _∷_}
 use mir.Facts.{toZ-ofZ}
 use Rattle.boxes.proofs.Box.{four-edges}
 use Rattle.boxes.proofs.box_around.Statement.{statement}

@@ -19,20 +19,20 @@ use Rattle.boxes.proofs.edges.Statement.{statement}
 use Rattle.boxes.proofs.edges.Tie as tie
 
 abbrev Inv-loop : tie.InvT-loop
-Inv-loop column found₀ i₀ found i =
+Inv-loop column first found₀ i₀ found i =
     (i ≤ length column) × (length found ≡ 2) × (widened found (drop i column) ≡ edges column)
 
 abbrev μ-loop : tie.MeasureT-loop
-μ-loop column found₀ i₀ found i = length column - i
+μ-loop column first found₀ i₀ found i = length column - i
 
 returns : tie.Need-returns Inv-loop μ-loop
 returns c = no-edges _ (c .if1 .taken)
 
 loop-holds : tie.Need-loop-holds Inv-loop μ-loop
 loop-holds c =
-    let column = c .before .before .before .args .column .now in
-    let first = toZ-ofZ {w = w32} {z = getD column 0 (pos 0)} (sfits-of (c .before .t8 .given)) in
-    let some = c .before .before .if1 .left in
+    let column = c .before .before .args .column .now in
+    let first = toZ-ofZ {w = w32} {z = getD column 0 (pos 0)} (sfits-of (c .first .given)) in
+    let some = c .before .if1 .left in
     (omega (arith, some), refl, rw first (widened-start column (omega (arith, some))))
 
 -- What a call made of an edge that was found and the coordinate looked at.
@@ -44,13 +44,15 @@ loop-again : tie.Need-loop-again Inv-loop μ-loop
 loop-again c =
     let seen = c .before .before .before .before in
     let l = seen .before .before in
-    let column = l .before .before .before .before .args .column .now in
+    let column = l .before .before .before .args .column .now in
     let read = toZ-ofZ (sfits-of (seen .c .given)) in
+    let g = c .before .before in
     let least =
-    of-both ltZ (sfits-of (c .before .before .lesser .ok)) (toZ-ofZ (sfits-of (c .before .before .before .lesser-arg .given))) read
-    (c .before .before .lesser .ensures) in
+    of-both ltZ (sfits-of (g .lesser .ok)) (toZ-ofZ (sfits-of (g .before .lesser-arg .given))) read
+    (g .lesser .ensures) in
     let greatest =
-    of-both (after ltZ) (sfits-of (c .greater .ok)) (toZ-ofZ (sfits-of (c .before .greater-arg .given))) read (c .greater .ensures) in (
+    of-both (after ltZ) (sfits-of (c .greater .ok)) (toZ-ofZ (sfits-of (c .before .greater-arg .given))) read
+    (c .greater .ensures) in (
       search needs,
       refl,
       ap₂ (λ (a b : ℤ). widened (a ∷ b ∷ []) (drop (l .loop .i + 1) column)) least greatest
@@ -68,7 +70,6 @@ edges-spec =
     Inv-loop
     μ-loop
     returns
-    (λ c. search needs)
     (λ c. search needs)
     loop-holds
     (λ c. search needs)
