@@ -120,8 +120,11 @@ uint32_t vumlintel_open(const int32_t *ax, size_t axs, const int32_t *ay, size_t
                         uint32_t second_ends[32], uint8_t marks[1024]);
 
 /*
- * Does the job of a strip of each list, by the classic sweep or by Reverse Run. Answers the campaign, whether the job was swept
- * (1) or skipped (0), and looks and distances, both 0 when skipped; or 1, 2, 3 for each list, 7, 8, 9.
+ * Does the job of a strip of each list, by the classic sweep or by Reverse Run. It is skipped where K entries are held and the
+ * boxes around the two strips' sites (least and greatest x and y) are farther apart than the last of them: where the sum of the
+ * squares of the x gap and the y gap, each 0 where the ranges touch or overlap, is greater than the last squared distance.
+ * Answers the campaign, whether the job was swept (1) or skipped (0), and looks and distances, both 0 when skipped; or 1, 2, 3
+ * for each list, 7, 8, 9.
  */
 uint32_t vumlintel_job_classic(uint32_t *campaign_k, uint32_t *campaign_entries, uint32_t *first_strips, uint32_t *second_strips,
                                uint32_t first_ends[32], uint32_t second_ends[32], uint8_t marks[1024], const int32_t *ax,

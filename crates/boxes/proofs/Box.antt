@@ -26,6 +26,7 @@ use Rattle.boxes.specs.Box.{
   gaps,
   squaredBoxGap,
 }
+use Rattle.boxes.specs.Internal.{gapAlong}
 use Rattle.boxes.proofs.RangeGap.{range-under, range-within}
 
 -- ---- edges
@@ -93,16 +94,12 @@ pub four-edges : (xs ys : List ℤ) {r r' : List ℤ} → r ≡ edges xs → r' 
 unfolding boxAround flatMap edges
 four-edges xs ys e e' = rw (e, e')
 
--- The gap along the coordinate whose edges stand at two places.
-abbrev pub gapAt : ℕ → ℕ → List ℤ → List ℤ → ℕ
-gapAt i j p q = rangeGap (getD p i (pos 0)) (getD p j (pos 0)) (getD q i (pos 0)) (getD q j (pos 0))
-
 pub gap-of-four : (p q : List ℤ) → length p ≡ 4 → length q ≡ 4
-    → squaredBoxGap p q ≡ square (gapAt 0 1 p q) + square (gapAt 2 3 p q)
+    → squaredBoxGap p q ≡ square (gapAlong 0 p q) + square (gapAlong 2 p q)
 unfolding squaredBoxGap gaps sum fromPlace
 gap-of-four p q h g =
     ap₂ squaredBoxGap (by-places p (pos 0) 4 h) (by-places q (pos 0) 4 g)
-    ∙ ap (λ (n : ℕ). square (gapAt 0 1 p q) + n) (add-zero (square (gapAt 2 3 p q)))
+    ∙ ap (λ (n : ℕ). square (gapAlong 0 p q) + n) (add-zero (square (gapAlong 2 p q)))
 
 within-at : (p : List ℤ) (i : ℕ) → All (λ c. within c ≡ true) p → within (getD p i (pos 0)) ≡ true
 unfolding All within
@@ -110,9 +107,8 @@ within-at [] i h = refl
 within-at (c ∷ p) zero h = h .0
 within-at (c ∷ p) (suc i) h = within-at p i (h .1)
 
-pub gap-small : (p q : List ℤ) (i j : ℕ) → all within p ≡ true → all within q ≡ true
-    → gapAt i j p q ≤ 2_000_000_000
-gap-small p q i j h g =
+pub gap-small : (p q : List ℤ) (at : ℕ) → all within p ≡ true → all within q ≡ true → gapAlong at p q ≤ 2_000_000_000
+gap-small p q at h g =
     let mine = all-holds within p h in
     let other = all-holds within q g in
-    range-within _ _ _ _ (within-at p i mine) (within-at p j mine) (within-at q i other) (within-at q j other)
+    range-within _ _ _ _ (within-at p at mine) (within-at p (at + 1) mine) (within-at q at other) (within-at q (at + 1) other)

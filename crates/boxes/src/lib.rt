@@ -2,12 +2,14 @@
 ghost use mathlib.Core.Path.{_≡_};
 ghost use mathlib.Core.Bool.{true};
 ghost use mathlib.Core.List.{[], _∷_};
+ghost use Prim.Native.Nat.{_+_, _<_};
 ghost use lib.Signed.{ltZ};
 ghost use Rattle.order.specs.Order.{after, firstOf};
 ghost use Rattle.order.specs.Lists.{all};
 ghost use Rattle.order.specs.Terms.{Sorted};
 ghost use Rattle.site.specs.Site.{within};
 ghost use Rattle.boxes.specs.Box.{edges, boxAround, rangeGap, squaredBoxGap};
+ghost use Rattle.boxes.specs.Internal.{gapAlong};
 
 // The lesser of two coordinates.
 fn lesser(a: i32, b: i32) -> i32
@@ -76,12 +78,20 @@ fn range_gap(from: i32, to: i32, other_from: i32, other_to: i32) -> u64
     0
 }
 
+// The gap of two boxes along the coordinate whose edges stand at a place and behind it.
+fn gap_along(p: [i32; 4], q: [i32; 4], at: usize) -> u64
+    requires { ⌜ at + 1 < 4 ⌝ }
+    ensures { λ r. ⌜ r ≡ gapAlong at p q ⌝ }
+{
+    range_gap(p[at], p[at + 1], q[at], q[at + 1])
+}
+
 // The gap squared of two boxes whose edges are inside the limits.
 pub fn squared_gap(p: [i32; 4], q: [i32; 4]) -> u64
     requires { ⌜ (all within p ≡ true) × (all within q ≡ true) ⌝ }
     ensures { λ r. ⌜ r ≡ squaredBoxGap p q ⌝ }
 {
-    let x_gap = range_gap(p[0], p[1], q[0], q[1]);
-    let y_gap = range_gap(p[2], p[3], q[2], q[3]);
+    let x_gap = gap_along(p, q, 0);
+    let y_gap = gap_along(p, q, 2);
     x_gap * x_gap + y_gap * y_gap
 }
