@@ -23,7 +23,7 @@ edges column = least column ∷ greatest column ∷ []
 unfoldable pub boxAround : List (List ℤ) → List ℤ
 boxAround columns = flatMap edges columns
 
--- The box of some sites, "an array of four edges: least x, greatest x, least y, greatest y". (02 a: box.)
+-- The bounding box of some sites, "an array of four edges: least x, greatest x, least y, greatest y". (02 a: box.)
 unfoldable pub boxOf : List Site → List ℤ
 boxOf l = boxAround (map (λ c. map c l) plane)
 

@@ -51,12 +51,6 @@ drop-placed zero n (s ∷ l) = let e : n + 0 ≡ n = omega arith in rw e
 drop-placed (suc m) n [] = refl
 drop-placed (suc m) n (s ∷ l) = let e : n + suc m ≡ suc n + m = omega arith in rw e (drop-placed m (suc n) l)
 
-pub placed-at : (n : ℕ) (l : List Site) (i : ℕ) (d : Placed) (s : Site) → i < length l → getD (placedFrom n l) i d ≡ placed (n + i) (getD l i s)
-unfolding placedFrom
-placed-at n [] i d s h = absurd (omega arith)
-placed-at n (t ∷ l) zero d s h = let e : n + 0 ≡ n = omega arith in rw e
-placed-at n (t ∷ l) (suc i) d s h = let e : n + suc i ≡ suc n + i = omega arith in rw e (placed-at (suc n) l i d s (omega arith))
-
 mem-placed : {x : Placed} (n : ℕ) (l : List Site) (s : Site) → List·Memᴰ x (placedFrom n l)
     → (i : ℕ) × (i < length l) × (x ≡ placed (n + i) (getD l i s))
 unfolding placedFrom
@@ -93,10 +87,6 @@ pub length-whole : (l : List Site) → length (whole l) ≡ length l
 unfolding whole
 length-whole l = length-placed 0 l
 
-pub whole-at : (l : List Site) (i : ℕ) (d : Placed) (s : Site) → i < length l → getD (whole l) i d ≡ placed i (getD l i s)
-unfolding whole
-whole-at l i d s h = let z : 0 + i ≡ i = omega arith in rw z at (placed-at 0 l i d s h)
-
 pub mem-whole : {x : Placed} (l : List Site) (s : Site) → List·Memᴰ x (whole l) → (x .place < length l) × (x .site ≡ getD l (x .place) s)
 unfolding whole
 mem-whole l s m =
@@ -130,15 +120,6 @@ strip-sites from to l = ap sitesOf (strip-is from to l) ∙ placed-sites from (t
 pub length-strip : (from to : ℕ) (l : List Site) → length (strip from to l) ≡ min (to - from) (length l - from)
 unfolding strip
 length-strip from to l = rw (length-take, length-drop, length-whole)
-
-pub length-strip-within : (from to : ℕ) (l : List Site) → to ≤ length l → length (strip from to l) ≡ to - from
-length-strip-within from to l h = omega (arith, length-strip from to l)
-
-pub strip-at : (from to : ℕ) (l : List Site) (i : ℕ) (d : Placed) (s : Site) → from + i < to → to ≤ length l
-    → getD (strip from to l) i d ≡ placed (from + i) (getD l (from + i) s)
-unfolding strip
-strip-at from to l i d s h g =
-    getD-take (to - from) (drop from (whole l)) i d (omega arith) ∙ getD-drop from (whole l) i d ∙ whole-at l (from + i) d s (omega arith)
 
 pub mem-strip : {x : Placed} (from to : ℕ) (l : List Site) → List·Memᴰ x (strip from to l)
     → (from ≤ x .place) × (x .place < to) × List·Memᴰ x (whole l)
