@@ -62,31 +62,6 @@ pub box-within : (columns : List (List ℤ)) → All (λ c. all within c ≡ tru
     → all within (boxAround columns) ≡ true
 box-within columns h = holds-all within (boxAround columns) (around-within columns h)
 
--- ---- gaps
-
--- The gap of two columns is at most that of any one coordinate of each.
-column-gap-under : (p q : List ℤ) {v w : ℤ} → List·Memᴰ v p → List·Memᴰ w q
-    → rangeGap (least p) (greatest p) (least q) (greatest q) ≤ gap v w
-column-gap-under p q m n =
-    range-under _ _ _ _ _ _ (least-under p m) (greatest-above p m) (least-under q n) (greatest-above q n)
-
--- Over any coordinates: the gap squared of the boxes around some sites and others is at most the sum of the squared
--- differences of any one of each.
-pub around-gap-under : (coordinates : List (Site → ℤ)) (p q : List Site) {s t : Site} → List·Memᴰ s p → List·Memᴰ t q
-    → squaredBoxGap (boxAround (map (λ c. map c p) coordinates)) (boxAround (map (λ c. map c q) coordinates))
-    ≤ squaredOver coordinates s t
-unfolding squaredBoxGap boxAround flatMap edges gaps sum
-around-gap-under [] p q m n = le-refl 0
-around-gap-under (c ∷ l) p q m n =
-    add-le-add (square-le (column-gap-under (map c p) (map c q) (Memᴰ·map c m) (Memᴰ·map c n)))
-    (around-gap-under l p q m n)
-
--- In the plane.
-pub box-gap-under : (p q : List Site) {s t : Site} → List·Memᴰ s p → List·Memᴰ t q
-    → squaredBoxGap (boxOf p) (boxOf q) ≤ squaredDistance s t
-unfolding boxOf squaredDistance
-box-gap-under p q m n = around-gap-under plane p q m n
-
 -- ---- four edges
 
 pub four-edges : (xs ys : List ℤ) {r r' : List ℤ} → r ≡ edges xs → r' ≡ edges ys
@@ -112,3 +87,28 @@ gap-small p q at h g =
     let mine = all-holds within p h in
     let other = all-holds within q g in
     range-within _ _ _ _ (within-at p at mine) (within-at p (at + 1) mine) (within-at q at other) (within-at q (at + 1) other)
+
+-- ---- gaps
+
+-- The gap of two columns is at most that of any one coordinate of each.
+column-gap-under : (p q : List ℤ) {v w : ℤ} → List·Memᴰ v p → List·Memᴰ w q
+    → rangeGap (least p) (greatest p) (least q) (greatest q) ≤ gap v w
+column-gap-under p q m n =
+    range-under _ _ _ _ _ _ (least-under p m) (greatest-above p m) (least-under q n) (greatest-above q n)
+
+-- Over any coordinates: the gap squared of the boxes around some sites and others is at most the sum of the squared
+-- differences of any one of each.
+pub around-gap-under : (coordinates : List (Site → ℤ)) (p q : List Site) {s t : Site} → List·Memᴰ s p → List·Memᴰ t q
+    → squaredBoxGap (boxAround (map (λ c. map c p) coordinates)) (boxAround (map (λ c. map c q) coordinates))
+    ≤ squaredOver coordinates s t
+unfolding squaredBoxGap boxAround flatMap edges gaps sum
+around-gap-under [] p q m n = le-refl 0
+around-gap-under (c ∷ l) p q m n =
+    add-le-add (square-le (column-gap-under (map c p) (map c q) (Memᴰ·map c m) (Memᴰ·map c n)))
+    (around-gap-under l p q m n)
+
+-- In the plane.
+pub box-gap-under : (p q : List Site) {s t : Site} → List·Memᴰ s p → List·Memᴰ t q
+    → squaredBoxGap (boxOf p) (boxOf q) ≤ squaredDistance s t
+unfolding boxOf squaredDistance
+box-gap-under p q m n = around-gap-under plane p q m n

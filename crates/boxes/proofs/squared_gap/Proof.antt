@@ -19,17 +19,19 @@ small c =
     λ at. gap-small (s .args .p) (s .args .q) at (s .pre .0) (s .pre .1) in
     (omega (arith, c .before .gap-along .ensures, under 0), omega (arith, c .gap-along2 .ensures, under 2))
 
+squares : (c : tie.After-gap-along2)
+    → (c .before .gap-along .result * c .before .gap-along .result ≤ 4_000_000_000_000_000_000)
+    × (c .gap-along2 .result * c .gap-along2 .result ≤ 4_000_000_000_000_000_000)
+squares c = (mul-le-mul (small c .0) (small c .0), mul-le-mul (small c .1) (small c .1))
+
 mul-result : tie.Need-mul-result
-mul-result c = record { fits = let h = small c .0 in omega (arith, mul-le-mul h h) }
+mul-result c = record { fits = omega (arith, squares c) }
 
 mul-result-2 : tie.Need-mul-result-2
-mul-result-2 c = record { fits = let h = small c .1 in omega (arith, mul-le-mul h h) }
+mul-result-2 c = record { fits = omega (arith, squares c) }
 
 add-result : tie.Need-add-result
-add-result c =
-    let h = small c .0 in
-    let g = small c .1 in
-    record { fits = omega (arith, mul-le-mul h h, mul-le-mul g g) }
+add-result c = record { fits = omega (arith, squares c) }
 
 returns : tie.Need-returns
 unfolding square
