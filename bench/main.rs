@@ -22,20 +22,29 @@ struct Columns {
     x: Vec<i32>,
     y: Vec<i32>,
     number: Vec<u32>,
+    height: Vec<i32>,
+}
+
+/// The floor of a site, from 0 to 30. It is drawn from the site alone, so that positions do not depend on it.
+fn floor(s: &(i32, i32, u32)) -> i32 {
+    let seed = ((s.0 as u32 as u64) << 32 | s.1 as u32 as u64) ^ s.2 as u64;
+    Random::new(seed).from_to(0, 30) as i32
 }
 
 impl Columns {
+    /// Sites, each on its floor.
     fn of(mut sites: Vec<(i32, i32, u32)>) -> Columns {
         sites.sort();
         Columns {
             x: sites.iter().map(|s| s.0).collect(),
             y: sites.iter().map(|s| s.1).collect(),
             number: sites.iter().map(|s| s.2).collect(),
+            height: sites.iter().map(floor).collect(),
         }
     }
 
     fn lent(&self) -> List<'_> {
-        List { x: &self.x, y: &self.y, number: &self.number }
+        List { x: &self.x, y: &self.y, number: &self.number, height: &self.height }
     }
 }
 
@@ -63,9 +72,9 @@ fn road(r: &mut Random) -> Columns {
     Columns::of(sites.collect())
 }
 
-/// Sites at one position.
+/// Sites at one position, the height included.
 fn stacked(sites: usize) -> Columns {
-    Columns::of((0..sites).map(|i| (7, 7, i as u32)).collect())
+    Columns { height: vec![7; sites], ..Columns::of((0..sites).map(|i| (7, 7, i as u32)).collect()) }
 }
 
 /// Sites in 100 clusters, dense at their centres. The centres are those of both lists.
@@ -100,6 +109,7 @@ fn checked(a: &Columns) {
     let number = unsafe {
         raw::vumlintel_check(
             a.x.as_ptr(), a.x.len(), a.y.as_ptr(), a.y.len(), a.number.as_ptr(), a.number.len(),
+            a.height.as_ptr(), a.height.len(),
             &mut count,
         )
     };
@@ -113,8 +123,8 @@ fn list_check(name: &str, a: &Columns) {
 }
 
 type Call = unsafe extern "C" fn(
-    *const i32, usize, *const i32, usize, *const u32, usize,
-    *const i32, usize, *const i32, usize, *const u32, usize,
+    *const i32, usize, *const i32, usize, *const u32, usize, *const i32, usize,
+    *const i32, usize, *const i32, usize, *const u32, usize, *const i32, usize,
     u32, *mut u64, usize, *mut u32, usize, *mut u32, usize,
     *mut u32, *mut u64, *mut u64,
 ) -> u32;
@@ -160,7 +170,9 @@ fn k_list(name: &str, way: &str, call: Call, a: &Columns, b: &Columns, k: usize)
             let number = unsafe {
                 call(
                     a.x.as_ptr(), a.x.len(), a.y.as_ptr(), a.y.len(), a.number.as_ptr(), a.number.len(),
+                    a.height.as_ptr(), a.height.len(),
                     b.x.as_ptr(), b.x.len(), b.y.as_ptr(), b.y.len(), b.number.as_ptr(), b.number.len(),
+                    b.height.as_ptr(), b.height.len(),
                     k as u32,
                     r.distance.as_mut_ptr(), k, r.first.as_mut_ptr(), k, r.second.as_mut_ptr(), k,
                     &mut told.0, &mut told.1.looks, &mut told.1.distances,
@@ -204,7 +216,9 @@ fn distance_list(name: &str, a: &Columns, b: &Columns, wanted: usize) {
             let number = unsafe {
                 raw::vumlintel_distance_list(
                     a.x.as_ptr(), a.x.len(), a.y.as_ptr(), a.y.len(), a.number.as_ptr(), a.number.len(),
+                    a.height.as_ptr(), a.height.len(),
                     b.x.as_ptr(), b.x.len(), b.y.as_ptr(), b.y.len(), b.number.as_ptr(), b.number.len(),
+                    b.height.as_ptr(), b.height.len(),
                     e,
                     ours.0.as_mut_ptr(), found, ours.1.as_mut_ptr(), found,
                     &mut count,
@@ -247,7 +261,9 @@ fn opened(a: &Columns, b: &Columns, k: usize, strips: usize, c: &mut Campaign, r
     let number = unsafe {
         raw::vumlintel_open(
             a.x.as_ptr(), a.x.len(), a.y.as_ptr(), a.y.len(), a.number.as_ptr(), a.number.len(),
+            a.height.as_ptr(), a.height.len(),
             b.x.as_ptr(), b.x.len(), b.y.as_ptr(), b.y.len(), b.number.as_ptr(), b.number.len(),
+            b.height.as_ptr(), b.height.len(),
             k as u32, first.as_ptr(), strips, second.as_ptr(), strips,
             r.distance.as_ptr(), k, r.first.as_ptr(), k, r.second.as_ptr(), k,
             ck, ce, fs, ss, &mut c.first_ends, &mut c.second_ends, &mut c.marks,
@@ -267,7 +283,9 @@ fn all_jobs(a: &Columns, b: &Columns, k: usize, strips: usize, c: &mut Campaign,
             raw::vumlintel_job_classic(
                 ck, ce, fs, ss, &mut c.first_ends, &mut c.second_ends, &mut c.marks,
                 a.x.as_ptr(), a.x.len(), a.y.as_ptr(), a.y.len(), a.number.as_ptr(), a.number.len(),
+                a.height.as_ptr(), a.height.len(),
                 b.x.as_ptr(), b.x.len(), b.y.as_ptr(), b.y.len(), b.number.as_ptr(), b.number.len(),
+                b.height.as_ptr(), b.height.len(),
                 r.distance.as_mut_ptr(), k, r.first.as_mut_ptr(), k, r.second.as_mut_ptr(), k,
                 job / strips as u32, job % strips as u32,
                 &mut swept, &mut seen, &mut distances,
@@ -288,7 +306,9 @@ fn status(a: &Columns, b: &Columns, k: usize, strips: usize, c: &Campaign, r: &R
         raw::vumlintel_status(
             ck, ce, fs, ss, &c.first_ends, &c.second_ends, &c.marks,
             a.x.as_ptr(), a.x.len(), a.y.as_ptr(), a.y.len(), a.number.as_ptr(), a.number.len(),
+            a.height.as_ptr(), a.height.len(),
             b.x.as_ptr(), b.x.len(), b.y.as_ptr(), b.y.len(), b.number.as_ptr(), b.number.len(),
+            b.height.as_ptr(), b.height.len(),
             r.distance.as_ptr(), k, r.first.as_ptr(), k, r.second.as_ptr(), k,
             &mut settled, &mut jobs, &mut entries, &mut got,
         )

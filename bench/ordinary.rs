@@ -9,16 +9,27 @@ pub struct List<'a> {
     pub x: &'a [i32],
     pub y: &'a [i32],
     pub number: &'a [u32],
+    pub height: &'a [i32],
+}
+
+impl List<'_> {
+    /// x, y and height of a site.
+    #[inline(always)]
+    fn at(&self, i: usize) -> [i64; 3] {
+        [self.x[i] as i64, self.y[i] as i64, self.height[i] as i64]
+    }
 }
 
 /// The refusal of a list, 0 for none.
 pub fn check(l: List) -> u32 {
     let n = l.x.len();
-    if l.y.len() != n || l.number.len() != n || n > 65_535 {
+    if l.y.len() != n || l.number.len() != n || l.height.len() != n || n > 65_535 {
         return 1;
     }
     let limits = -1_000_000_000..=1_000_000_000;
-    if !l.x.iter().zip(l.y).all(|(x, y)| limits.contains(x) && limits.contains(y)) {
+    let heights = -10_000..=10_000;
+    let within = |((x, y), h)| limits.contains(x) && limits.contains(y) && heights.contains(h);
+    if !l.x.iter().zip(l.y).zip(l.height).all(within) {
         return 2;
     }
     let ascending = (1..n).all(|i| (l.x[i - 1], l.y[i - 1], l.number[i - 1]) < (l.x[i], l.y[i], l.number[i]));
@@ -42,7 +53,7 @@ fn scan(
     counters: &mut Counters,
 ) -> Option<usize> {
     let (l, i) = reference;
-    let (x, y) = (l.x[i] as i64, l.y[i] as i64);
+    let [x, y, h] = l.at(i);
     for j in others {
         counters.looks += 1;
         let dx = x - other.x[j] as i64;
@@ -52,8 +63,8 @@ fn scan(
             return Some(j);
         }
         counters.distances += 1;
-        let dy = y - other.y[j] as i64;
-        let distance = dx2 + (dy * dy) as u64;
+        let (dy, dh) = (y - other.y[j] as i64, h - other.height[j] as i64);
+        let distance = dx2 + (dy * dy + dh * dh) as u64;
         if distance != 0 && distance <= bound {
             let (first, second) = if first_is_reference { (i, j) } else { (j, i) };
             list.offer(Entry { distance, first: first as u32, second: second as u32 });
@@ -105,7 +116,7 @@ pub fn distance_pairs(a: List, b: List, e: u32) -> Vec<(u32, u32)> {
     let mut pairs = Vec::new();
     let mut from = 0;
     for i in 0..a.x.len() {
-        let (x, y) = (a.x[i] as i64, a.y[i] as i64);
+        let [x, y, h] = a.at(i);
         while from < b.x.len() && x - b.x[from] as i64 > e {
             from += 1;
         }
@@ -114,8 +125,8 @@ pub fn distance_pairs(a: List, b: List, e: u32) -> Vec<(u32, u32)> {
             if dx > e {
                 break;
             }
-            let dy = b.y[j] as i64 - y;
-            let distance = (dx * dx) as u64 + (dy * dy) as u64;
+            let (dy, dh) = (b.y[j] as i64 - y, b.height[j] as i64 - h);
+            let distance = (dx * dx + dy * dy + dh * dh) as u64;
             if distance != 0 && distance <= limit {
                 pairs.push((i as u32, j as u32));
             }
@@ -136,19 +147,20 @@ pub fn distance_list(a: List, b: List, e: u32, first: &mut [u32], second: &mut [
     Some(pairs.len())
 }
 
-/// The box of a strip, least and greatest x and y. The list ascends by x.
-fn box_of(l: List, (from, to): (usize, usize)) -> [i32; 4] {
-    let ys = &l.y[from..to];
-    [l.x[from], l.x[to - 1], *ys.iter().min().unwrap(), *ys.iter().max().unwrap()]
+/// The box of a strip, least and greatest x, y and height. The list ascends by x.
+fn box_of(l: List, (from, to): (usize, usize)) -> [i32; 6] {
+    let edges = |c: &[i32]| (*c.iter().min().unwrap(), *c.iter().max().unwrap());
+    let (ys, hs) = (edges(&l.y[from..to]), edges(&l.height[from..to]));
+    [l.x[from], l.x[to - 1], ys.0, ys.1, hs.0, hs.1]
 }
 
 /// The gap squared of two boxes.
-fn squared_gap(p: [i32; 4], q: [i32; 4]) -> u64 {
+fn squared_gap(p: [i32; 6], q: [i32; 6]) -> u64 {
     let along = |least: usize, greatest: usize| {
         let gap = (q[least] as i64 - p[greatest] as i64).max(p[least] as i64 - q[greatest] as i64).max(0);
         (gap * gap) as u64
     };
-    along(0, 1) + along(2, 3)
+    along(0, 1) + along(2, 3) + along(4, 5)
 }
 
 /// A campaign: the ends of both lists' strips, which jobs are settled, and the entries.
@@ -168,7 +180,17 @@ fn range(ends: &[usize], s: usize) -> (usize, usize) {
     (if s == 0 { 0 } else { ends[s - 1] }, ends[s])
 }
 
-/// How many pairs two strips have: all but those at one position, which are counted by runs.
+/// How many pairs of one height each of two columns are equal: each against each where they are short, by a table where not.
+fn equal_heights(a: &[i32], b: &[i32]) -> usize {
+    if a.len() * b.len() < 1_024 {
+        return a.iter().map(|h| b.iter().filter(|g| *g == h).count()).sum();
+    }
+    let mut counts = [0u16; 20_001];
+    a.iter().for_each(|h| counts[(h + 10_000) as usize] += 1);
+    b.iter().map(|h| counts[(h + 10_000) as usize] as usize).sum()
+}
+
+/// How many pairs two strips have: all but those at one position, which are counted by runs at one x and y.
 fn pair_count(a: List, b: List, p: (usize, usize), q: (usize, usize)) -> usize {
     let at = |l: List, i: usize| (l.x[i], l.y[i]);
     let run_end = |l: List, i: usize, to: usize| (i..to).find(|j| at(l, *j) != at(l, i)).unwrap_or(to);
@@ -180,7 +202,7 @@ fn pair_count(a: List, b: List, p: (usize, usize), q: (usize, usize)) -> usize {
             Ordering::Greater => j += 1,
             Ordering::Equal => {
                 let (m, n) = (run_end(a, i, p.1), run_end(b, j, q.1));
-                pairs -= (m - i) * (n - j);
+                pairs -= equal_heights(&a.height[i..m], &b.height[j..n]);
                 (i, j) = (m, n);
             }
         }
@@ -212,9 +234,10 @@ impl Campaign {
         let fits = |e: &Entry| {
             let (i, j) = (e.first as usize, e.second as usize);
             i < a.x.len() && j < b.x.len() && {
-                let (dx, dy) = (a.x[i] as i64 - b.x[j] as i64, a.y[i] as i64 - b.y[j] as i64);
+                let ([x, y, h], [u, v, g]) = (a.at(i), b.at(j));
+                let (dx, dy, dh) = (x - u, y - v, h - g);
                 e.distance != 0
-                    && (dx * dx) as u64 + (dy * dy) as u64 == e.distance
+                    && (dx * dx + dy * dy + dh * dh) as u64 == e.distance
                     && self.settled[self.job(strip_of(&self.ends[0], i), strip_of(&self.ends[1], j))]
             }
         };

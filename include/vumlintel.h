@@ -5,7 +5,7 @@
  * no part of a campaign. A success writes its answers through the pointers at the end of its parameters.
  *
  *   VUMLINTEL_LIST_SIZE       1  columns of unequal length, more than 65,535 sites, or (adding) a count in use above the length
- *   VUMLINTEL_LIMITS          2  a coordinate below -1,000,000,000 or above 1,000,000,000
+ *   VUMLINTEL_LIMITS          2  an x or y outside -1,000,000,000 to 1,000,000,000, or a height outside -10,000 to 10,000
  *   VUMLINTEL_ORDER           3  sites not strictly ascending by x, then y, then number
  *   VUMLINTEL_K               4  K is 0 or above 4,096
  *   VUMLINTEL_CUT_ENDS        5  cut ends unlawful: at most 32, strictly ascending, each above 0, the last the list's length
@@ -21,9 +21,11 @@
  * Order: the first list's 1, 2, 3, then the second list's, then the rest by number. Adding tests the new site (2) after the
  * list. A file below 16 bytes gets 10; any other is tested for 1 (counts), then 10, then its lists for 2 and 3.
  *
- * A list is three columns: x, y and number, each a pointer and an element count. A site's place is its index from 0. A pair is
- * a place in the first list and a place in the second whose sites do not stand at the same x and y: co-sited cells are no
- * pair. Pairs are ranked by squared distance, then first place, then second.
+ * A list is four columns: x, y, number and height, each a pointer and an element count. Its order does not look at the height.
+ * A site's place is its index from 0. The squared distance of two sites is the sum of the squares of the differences of x, y
+ * and height, at most 8,000,000,000,400,000,000. A pair is a place in the first list and a place in the second whose sites do
+ * not stand at the same x, y and height: co-sited cells are no pair. Pairs are ranked by squared distance, then first place,
+ * then second. A site file is of the plane: its lists are three columns, x, y and number, and no height is filed.
  *
  * What the caller owes: each pointer is aligned and not null, also with a count of 0, and leads to as many elements as its
  * count says; what a call writes overlaps nothing else that it is lent; nobody else writes what is lent until the call is back.
@@ -55,14 +57,15 @@ enum {
 
 /* Checks a list: how many sites it has, or 1, 2, 3. */
 uint32_t vumlintel_check(const int32_t *x, size_t xs, const int32_t *y, size_t ys, const uint32_t *number, size_t numbers,
-                         uint32_t *count);
+                         const int32_t *height, size_t heights, uint32_t *count);
 
 /*
- * Adds a site to the first `in_use` sites of three columns, at its place; later ones move up by one. Answers the place and the
- * new count in use, or 1, 2, 3 for the sites in use, 2 for the site, 6, 11.
+ * Adds a site to the first `in_use` sites of four columns, at its place by x, y and number; later ones move up by one. Answers
+ * the place and the new count in use, or 1, 2, 3 for the sites in use, 2 for the site, its height included, 6, 11.
  */
-uint32_t vumlintel_add(int32_t *x, size_t xs, int32_t *y, size_t ys, uint32_t *number, size_t numbers, uint32_t in_use,
-                       int32_t site_x, int32_t site_y, uint32_t site_number, uint32_t *place, uint32_t *count);
+uint32_t vumlintel_add(int32_t *x, size_t xs, int32_t *y, size_t ys, uint32_t *number, size_t numbers, int32_t *height,
+                       size_t heights, uint32_t in_use, int32_t site_x, int32_t site_y, uint32_t site_number,
+                       int32_t site_height, uint32_t *place, uint32_t *count);
 
 /*
  * The K list of two lists, by the classic sweep or by Reverse Run: the first K pairs by rank, or all where there are fewer, in
@@ -70,16 +73,17 @@ uint32_t vumlintel_add(int32_t *x, size_t xs, int32_t *y, size_t ys, uint32_t *n
  * distances, or 1, 2, 3 for each list, 4, 6. Elements past the entries stay.
  */
 uint32_t vumlintel_k_list_classic(const int32_t *ax, size_t axs, const int32_t *ay, size_t ays, const uint32_t *an, size_t ans,
-                                  const int32_t *bx, size_t bxs, const int32_t *by, size_t bys, const uint32_t *bn, size_t bns,
-                                  uint32_t k, uint64_t *distance, size_t distance_length, uint32_t *first, size_t first_length,
-                                  uint32_t *second, size_t second_length, uint32_t *entries, uint64_t *looks,
-                                  uint64_t *distances);
+                                  const int32_t *ah, size_t ahs, const int32_t *bx, size_t bxs, const int32_t *by, size_t bys,
+                                  const uint32_t *bn, size_t bns, const int32_t *bh, size_t bhs, uint32_t k, uint64_t *distance,
+                                  size_t distance_length, uint32_t *first, size_t first_length, uint32_t *second,
+                                  size_t second_length, uint32_t *entries, uint64_t *looks, uint64_t *distances);
 
 uint32_t vumlintel_k_list_reverse_run(const int32_t *ax, size_t axs, const int32_t *ay, size_t ays, const uint32_t *an,
-                                      size_t ans, const int32_t *bx, size_t bxs, const int32_t *by, size_t bys,
-                                      const uint32_t *bn, size_t bns, uint32_t k, uint64_t *distance, size_t distance_length,
-                                      uint32_t *first, size_t first_length, uint32_t *second, size_t second_length,
-                                      uint32_t *entries, uint64_t *looks, uint64_t *distances);
+                                      size_t ans, const int32_t *ah, size_t ahs, const int32_t *bx, size_t bxs,
+                                      const int32_t *by, size_t bys, const uint32_t *bn, size_t bns, const int32_t *bh,
+                                      size_t bhs, uint32_t k, uint64_t *distance, size_t distance_length, uint32_t *first,
+                                      size_t first_length, uint32_t *second, size_t second_length, uint32_t *entries,
+                                      uint64_t *looks, uint64_t *distances);
 
 /*
  * The distance list of two lists: all pairs with a squared distance of at most e * e, by first place and then second, in two
@@ -87,9 +91,9 @@ uint32_t vumlintel_k_list_reverse_run(const int32_t *ax, size_t axs, const int32
  * pairs stay.
  */
 uint32_t vumlintel_distance_list(const int32_t *ax, size_t axs, const int32_t *ay, size_t ays, const uint32_t *an, size_t ans,
-                                 const int32_t *bx, size_t bxs, const int32_t *by, size_t bys, const uint32_t *bn, size_t bns,
-                                 uint32_t e, uint32_t *first, size_t first_length, uint32_t *second, size_t second_length,
-                                 uint64_t *count);
+                                 const int32_t *ah, size_t ahs, const int32_t *bx, size_t bxs, const int32_t *by, size_t bys,
+                                 const uint32_t *bn, size_t bns, const int32_t *bh, size_t bhs, uint32_t e, uint32_t *first,
+                                 size_t first_length, uint32_t *second, size_t second_length, uint64_t *count);
 
 /* A campaign. It may be kept anywhere between calls; its result columns, which hold its entries, belong to it. */
 typedef struct vumlintel_campaign {
@@ -112,24 +116,27 @@ typedef struct vumlintel_campaign {
  * 5, 6.
  */
 uint32_t vumlintel_open(const int32_t *ax, size_t axs, const int32_t *ay, size_t ays, const uint32_t *an, size_t ans,
-                        const int32_t *bx, size_t bxs, const int32_t *by, size_t bys, const uint32_t *bn, size_t bns, uint32_t k,
-                        const uint32_t *first_cuts, size_t first_cuts_length, const uint32_t *second_cuts,
-                        size_t second_cuts_length, const uint64_t *distance, size_t distance_length, const uint32_t *first,
-                        size_t first_length, const uint32_t *second, size_t second_length, uint32_t *campaign_k,
-                        uint32_t *campaign_entries, uint32_t *first_strips, uint32_t *second_strips, uint32_t first_ends[32],
-                        uint32_t second_ends[32], uint8_t marks[1024]);
+                        const int32_t *ah, size_t ahs, const int32_t *bx, size_t bxs, const int32_t *by, size_t bys,
+                        const uint32_t *bn, size_t bns, const int32_t *bh, size_t bhs, uint32_t k, const uint32_t *first_cuts,
+                        size_t first_cuts_length, const uint32_t *second_cuts, size_t second_cuts_length,
+                        const uint64_t *distance, size_t distance_length, const uint32_t *first, size_t first_length,
+                        const uint32_t *second, size_t second_length, uint32_t *campaign_k, uint32_t *campaign_entries,
+                        uint32_t *first_strips, uint32_t *second_strips, uint32_t first_ends[32], uint32_t second_ends[32],
+                        uint8_t marks[1024]);
 
 /*
  * Does the job of a strip of each list, by the classic sweep or by Reverse Run. It is skipped where K entries are held and the
- * boxes around the two strips' sites (least and greatest x and y) are farther apart than the last of them: where the sum of the
- * squares of the x gap and the y gap, each 0 where the ranges touch or overlap, is greater than the last squared distance.
+ * boxes around the two strips' sites (least and greatest x, y and height) are farther apart than the last of them: where the
+ * sum of the squares of the x gap, the y gap and the height gap, each 0 where the ranges touch or overlap, is greater than the
+ * last squared distance.
  * Answers the campaign, whether the job was swept (1) or skipped (0), and looks and distances, both 0 when skipped; or 1, 2, 3
  * for each list, 7, 8, 9.
  */
-uint32_t vumlintel_job_classic(uint32_t *campaign_k, uint32_t *campaign_entries, uint32_t *first_strips, uint32_t *second_strips,
-                               uint32_t first_ends[32], uint32_t second_ends[32], uint8_t marks[1024], const int32_t *ax,
-                               size_t axs, const int32_t *ay, size_t ays, const uint32_t *an, size_t ans, const int32_t *bx,
-                               size_t bxs, const int32_t *by, size_t bys, const uint32_t *bn, size_t bns, uint64_t *distance,
+uint32_t vumlintel_job_classic(uint32_t *campaign_k, uint32_t *campaign_entries, uint32_t *first_strips,
+                               uint32_t *second_strips, uint32_t first_ends[32], uint32_t second_ends[32], uint8_t marks[1024],
+                               const int32_t *ax, size_t axs, const int32_t *ay, size_t ays, const uint32_t *an, size_t ans,
+                               const int32_t *ah, size_t ahs, const int32_t *bx, size_t bxs, const int32_t *by, size_t bys,
+                               const uint32_t *bn, size_t bns, const int32_t *bh, size_t bhs, uint64_t *distance,
                                size_t distance_length, uint32_t *first, size_t first_length, uint32_t *second,
                                size_t second_length, uint32_t first_strip, uint32_t second_strip, uint32_t *swept,
                                uint64_t *looks, uint64_t *distances);
@@ -137,21 +144,23 @@ uint32_t vumlintel_job_classic(uint32_t *campaign_k, uint32_t *campaign_entries,
 uint32_t vumlintel_job_reverse_run(uint32_t *campaign_k, uint32_t *campaign_entries, uint32_t *first_strips,
                                    uint32_t *second_strips, uint32_t first_ends[32], uint32_t second_ends[32],
                                    uint8_t marks[1024], const int32_t *ax, size_t axs, const int32_t *ay, size_t ays,
-                                   const uint32_t *an, size_t ans, const int32_t *bx, size_t bxs, const int32_t *by, size_t bys,
-                                   const uint32_t *bn, size_t bns, uint64_t *distance, size_t distance_length, uint32_t *first,
-                                   size_t first_length, uint32_t *second, size_t second_length, uint32_t first_strip,
-                                   uint32_t second_strip, uint32_t *swept, uint64_t *looks, uint64_t *distances);
+                                   const uint32_t *an, size_t ans, const int32_t *ah, size_t ahs, const int32_t *bx, size_t bxs,
+                                   const int32_t *by, size_t bys, const uint32_t *bn, size_t bns, const int32_t *bh, size_t bhs,
+                                   uint64_t *distance, size_t distance_length, uint32_t *first, size_t first_length,
+                                   uint32_t *second, size_t second_length, uint32_t first_strip, uint32_t second_strip,
+                                   uint32_t *swept, uint64_t *looks, uint64_t *distances);
 
 /* Answers the jobs settled, the jobs in all, the entries and K; or 1, 2, 3 for each list, 7. Writes nothing else. */
 uint32_t vumlintel_status(const uint32_t *campaign_k, const uint32_t *campaign_entries, const uint32_t *first_strips,
                           const uint32_t *second_strips, const uint32_t first_ends[32], const uint32_t second_ends[32],
                           const uint8_t marks[1024], const int32_t *ax, size_t axs, const int32_t *ay, size_t ays,
-                          const uint32_t *an, size_t ans, const int32_t *bx, size_t bxs, const int32_t *by, size_t bys,
-                          const uint32_t *bn, size_t bns, const uint64_t *distance, size_t distance_length,
-                          const uint32_t *first, size_t first_length, const uint32_t *second, size_t second_length,
-                          uint32_t *settled, uint32_t *jobs, uint32_t *entries, uint32_t *k);
+                          const uint32_t *an, size_t ans, const int32_t *ah, size_t ahs, const int32_t *bx, size_t bxs,
+                          const int32_t *by, size_t bys, const uint32_t *bn, size_t bns, const int32_t *bh, size_t bhs,
+                          const uint64_t *distance, size_t distance_length, const uint32_t *first, size_t first_length,
+                          const uint32_t *second, size_t second_length, uint32_t *settled, uint32_t *jobs, uint32_t *entries,
+                          uint32_t *k);
 
-/* Writes two lists as a site file from the start of a buffer on. Answers its length, or 1, 2, 3 for each list, 6. */
+/* Writes two lists, three columns each, as a site file from a buffer's start on: its length, or 1, 2, 3 for each list, 6. */
 uint32_t vumlintel_write_file(const int32_t *ax, size_t axs, const int32_t *ay, size_t ays, const uint32_t *an, size_t ans,
                               const int32_t *bx, size_t bxs, const int32_t *by, size_t bys, const uint32_t *bn, size_t bns,
                               uint8_t *buffer, size_t buffer_length, uint32_t *length);

@@ -2,6 +2,7 @@
 //! changed element of what is lent to be read only, and an answer written by a refused call.
 
 use crate::model::{Campaign, Columns, Counters, Results, Site, Status, Way};
+use crate::plane;
 use crate::raw;
 
 const FENCE: usize = 8;
@@ -50,19 +51,51 @@ const U: u32 = 0xfe9c_e0fe;
 const L: u64 = 0xfe9c_e0fe_9ce0_fe9c;
 const B: u8 = 0xa5;
 
-/// A list lent to be read.
+/// A lent list.
 struct LentList {
+    x: Lent<i32>,
+    y: Lent<i32>,
+    n: Lent<u32>,
+    h: Lent<i32>,
+}
+
+impl LentList {
+    fn new(c: &Columns) -> LentList {
+        LentList {
+            x: Lent::new(&c.x, I),
+            y: Lent::new(&c.y, I),
+            n: Lent::new(&c.number, U),
+            h: Lent::new(&c.height, I),
+        }
+    }
+
+    fn back(&self) -> Columns {
+        Columns {
+            x: self.x.back().to_vec(),
+            y: self.y.back().to_vec(),
+            number: self.n.back().to_vec(),
+            height: self.h.back().to_vec(),
+        }
+    }
+
+    fn unchanged(&self, c: &Columns) {
+        assert!(self.back() == *c, "a list that was lent to be read was written");
+    }
+}
+
+/// A list of the plane, lent to be read.
+struct LentPlane {
     x: Lent<i32>,
     y: Lent<i32>,
     n: Lent<u32>,
 }
 
-impl LentList {
-    fn new(c: &Columns) -> LentList {
-        LentList { x: Lent::new(&c.x, I), y: Lent::new(&c.y, I), n: Lent::new(&c.number, U) }
+impl LentPlane {
+    fn new(c: &plane::Columns) -> LentPlane {
+        LentPlane { x: Lent::new(&c.x, I), y: Lent::new(&c.y, I), n: Lent::new(&c.number, U) }
     }
 
-    fn unchanged(&self, c: &Columns) {
+    fn unchanged(&self, c: &plane::Columns) {
         self.x.unchanged(&c.x);
         self.y.unchanged(&c.y);
         self.n.unchanged(&c.number);
@@ -108,7 +141,7 @@ pub fn check(c: &Columns) -> Result<u32, u32> {
     let mut count = U;
     let number = unsafe {
         raw::vumlintel_check(
-            l.x.shared(), l.x.len(), l.y.shared(), l.y.len(), l.n.shared(), l.n.len(),
+            l.x.shared(), l.x.len(), l.y.shared(), l.y.len(), l.n.shared(), l.n.len(), l.h.shared(), l.h.len(),
             &mut count,
         )
     };
@@ -123,11 +156,12 @@ pub fn add(c: &mut Columns, in_use: u32, s: Site) -> Result<(u32, u32), u32> {
     let number = unsafe {
         raw::vumlintel_add(
             l.x.exclusive(), l.x.len(), l.y.exclusive(), l.y.len(), l.n.exclusive(), l.n.len(),
-            in_use, s.x, s.y, s.number,
+            l.h.exclusive(), l.h.len(),
+            in_use, s.x, s.y, s.number, s.height,
             &mut place, &mut count,
         )
     };
-    *c = Columns { x: l.x.back().to_vec(), y: l.y.back().to_vec(), number: l.n.back().to_vec() };
+    *c = l.back();
     told(number, (place, count), (U, U))
 }
 
@@ -142,8 +176,8 @@ pub fn k_list(way: Way, a: &Columns, b: &Columns, k: u32, r: &mut Results) -> Re
     };
     let number = unsafe {
         call(
-            p.x.shared(), p.x.len(), p.y.shared(), p.y.len(), p.n.shared(), p.n.len(),
-            q.x.shared(), q.x.len(), q.y.shared(), q.y.len(), q.n.shared(), q.n.len(),
+            p.x.shared(), p.x.len(), p.y.shared(), p.y.len(), p.n.shared(), p.n.len(), p.h.shared(), p.h.len(),
+            q.x.shared(), q.x.len(), q.y.shared(), q.y.len(), q.n.shared(), q.n.len(), q.h.shared(), q.h.len(),
             k,
             l.distance.exclusive(), l.distance.len(),
             l.first.exclusive(), l.first.len(),
@@ -164,8 +198,8 @@ pub fn distance_list(a: &Columns, b: &Columns, e: u32, first: &mut Vec<u32>, sec
     let mut count = L;
     let number = unsafe {
         raw::vumlintel_distance_list(
-            p.x.shared(), p.x.len(), p.y.shared(), p.y.len(), p.n.shared(), p.n.len(),
-            q.x.shared(), q.x.len(), q.y.shared(), q.y.len(), q.n.shared(), q.n.len(),
+            p.x.shared(), p.x.len(), p.y.shared(), p.y.len(), p.n.shared(), p.n.len(), p.h.shared(), p.h.len(),
+            q.x.shared(), q.x.len(), q.y.shared(), q.y.len(), q.n.shared(), q.n.len(), q.h.shared(), q.h.len(),
             e,
             f.exclusive(), f.len(), s.exclusive(), s.len(),
             &mut count,
@@ -193,8 +227,8 @@ pub fn open(
     let l = LentResults::new(r);
     let number = unsafe {
         raw::vumlintel_open(
-            p.x.shared(), p.x.len(), p.y.shared(), p.y.len(), p.n.shared(), p.n.len(),
-            q.x.shared(), q.x.len(), q.y.shared(), q.y.len(), q.n.shared(), q.n.len(),
+            p.x.shared(), p.x.len(), p.y.shared(), p.y.len(), p.n.shared(), p.n.len(), p.h.shared(), p.h.len(),
+            q.x.shared(), q.x.len(), q.y.shared(), q.y.len(), q.n.shared(), q.n.len(), q.h.shared(), q.h.len(),
             k,
             f.shared(), f.len(), s.shared(), s.len(),
             l.distance.shared(), l.distance.len(), l.first.shared(), l.first.len(), l.second.shared(), l.second.len(),
@@ -231,8 +265,8 @@ pub fn job(
         call(
             &mut c.k, &mut c.entries, &mut c.first_strips, &mut c.second_strips,
             &mut c.first_ends, &mut c.second_ends, &mut c.marks,
-            p.x.shared(), p.x.len(), p.y.shared(), p.y.len(), p.n.shared(), p.n.len(),
-            q.x.shared(), q.x.len(), q.y.shared(), q.y.len(), q.n.shared(), q.n.len(),
+            p.x.shared(), p.x.len(), p.y.shared(), p.y.len(), p.n.shared(), p.n.len(), p.h.shared(), p.h.len(),
+            q.x.shared(), q.x.len(), q.y.shared(), q.y.len(), q.n.shared(), q.n.len(), q.h.shared(), q.h.len(),
             l.distance.exclusive(), l.distance.len(),
             l.first.exclusive(), l.first.len(),
             l.second.exclusive(), l.second.len(),
@@ -255,8 +289,8 @@ pub fn status(c: &Campaign, a: &Columns, b: &Columns, r: &Results) -> Result<Sta
         raw::vumlintel_status(
             &c.k, &c.entries, &c.first_strips, &c.second_strips,
             &c.first_ends, &c.second_ends, &c.marks,
-            p.x.shared(), p.x.len(), p.y.shared(), p.y.len(), p.n.shared(), p.n.len(),
-            q.x.shared(), q.x.len(), q.y.shared(), q.y.len(), q.n.shared(), q.n.len(),
+            p.x.shared(), p.x.len(), p.y.shared(), p.y.len(), p.n.shared(), p.n.len(), p.h.shared(), p.h.len(),
+            q.x.shared(), q.x.len(), q.y.shared(), q.y.len(), q.n.shared(), q.n.len(), q.h.shared(), q.h.len(),
             l.distance.shared(), l.distance.len(), l.first.shared(), l.first.len(), l.second.shared(), l.second.len(),
             &mut settled, &mut jobs, &mut entries, &mut k,
         )
@@ -268,8 +302,8 @@ pub fn status(c: &Campaign, a: &Columns, b: &Columns, r: &Results) -> Result<Sta
 }
 
 /// The file's length; the buffer is changed in place.
-pub fn write_file(a: &Columns, b: &Columns, buffer: &mut Vec<u8>) -> Result<u32, u32> {
-    let (p, q) = (LentList::new(a), LentList::new(b));
+pub fn write_file(a: &plane::Columns, b: &plane::Columns, buffer: &mut Vec<u8>) -> Result<u32, u32> {
+    let (p, q) = (LentPlane::new(a), LentPlane::new(b));
     let mut l = Lent::new(buffer, B);
     let mut length = U;
     let number = unsafe {
@@ -296,11 +330,11 @@ pub fn read_file(file: &[u8]) -> Result<(u32, u32), u32> {
 }
 
 /// A site of the first list (0) or the second (1).
-pub fn file_site(file: &[u8], list: usize, place: u32) -> Result<Site, u32> {
+pub fn file_site(file: &[u8], list: usize, place: u32) -> Result<plane::Site, u32> {
     let l = Lent::new(file, B);
     let (mut x, mut y, mut number) = (I, I, U);
     let call = if list == 0 { raw::vumlintel_file_site_first } else { raw::vumlintel_file_site_second };
     let refusal = unsafe { call(l.shared(), l.len(), place, &mut x, &mut y, &mut number) };
     l.unchanged(file);
-    told(refusal, Site { x, y, number }, Site { x: I, y: I, number: U })
+    told(refusal, plane::site(x, y, number), plane::site(I, I, U))
 }

@@ -2,21 +2,21 @@
 
 use crate::calls;
 use crate::harness::{Harness, progress};
-use crate::lists::{MAX, damaged, even, f, lawful, stacked};
+use crate::lists::{HIGHEST, LOWEST, MAX, damaged, even, f, lawful, stacked};
 use crate::model::{self, Book, Campaign, Columns, Counters, Results, Status, Strip, WAYS, Way, site};
 use crate::random::Random;
 use std::collections::BTreeMap;
 
 /// All that a campaign's calls are lent.
 #[derive(Clone)]
-struct Bench {
-    a: Columns,
-    b: Columns,
-    r: Results,
-    c: Campaign,
+pub struct Bench {
+    pub a: Columns,
+    pub b: Columns,
+    pub r: Results,
+    pub c: Campaign,
 }
 
-fn results(r: &mut Random, lengths: [usize; 3]) -> Results {
+pub fn results(r: &mut Random, lengths: [usize; 3]) -> Results {
     Results {
         distance: (0..lengths[0]).map(|_| r.next()).collect(),
         first: (0..lengths[1]).map(|_| r.next() as u32).collect(),
@@ -25,7 +25,7 @@ fn results(r: &mut Random, lengths: [usize; 3]) -> Results {
 }
 
 /// A campaign that holds anything, as before an opening.
-fn anything(r: &mut Random) -> Campaign {
+pub fn anything(r: &mut Random) -> Campaign {
     let mut c = model::blank_campaign();
     c.k = r.next() as u32;
     c.entries = r.next() as u32;
@@ -37,7 +37,7 @@ fn anything(r: &mut Random) -> Campaign {
     c
 }
 
-fn same_open(bench: &mut Bench, k: u32, first: &[u32], second: &[u32]) -> Result<(), u32> {
+pub fn same_open(bench: &mut Bench, k: u32, first: &[u32], second: &[u32]) -> Result<(), u32> {
     let expected = model::open(&bench.a, &bench.b, k, first, second, &bench.r);
     let before = bench.c.clone();
     let answer = calls::open(&bench.a, &bench.b, k, first, second, &bench.r, &mut bench.c);
@@ -54,7 +54,7 @@ fn same_open(bench: &mut Bench, k: u32, first: &[u32], second: &[u32]) -> Result
     answer
 }
 
-fn same_job(way: Way, bench: &mut Bench, s: u32, t: u32) -> Result<bool, u32> {
+pub fn same_job(way: Way, bench: &mut Bench, s: u32, t: u32) -> Result<bool, u32> {
     let before = bench.clone();
     let expected = model::job(way, &before.c, &before.a, &before.b, &before.r, s, t);
     let answer = calls::job(way, &mut bench.c, &bench.a, &bench.b, &mut bench.r, s, t);
@@ -74,14 +74,14 @@ fn same_job(way: Way, bench: &mut Bench, s: u32, t: u32) -> Result<bool, u32> {
     }
 }
 
-fn same_status(bench: &Bench) -> Result<Status, u32> {
+pub fn same_status(bench: &Bench) -> Result<Status, u32> {
     let answer = calls::status(&bench.c, &bench.a, &bench.b, &bench.r);
     assert_eq!(answer, model::status(&bench.c, &bench.a, &bench.b, &bench.r));
     answer
 }
 
 /// Lawful cut ends of a list, at random places.
-fn cuts(r: &mut Random, sites: usize) -> Vec<u32> {
+pub fn cuts(r: &mut Random, sites: usize) -> Vec<u32> {
     if sites == 0 {
         return Vec::new();
     }
@@ -188,9 +188,8 @@ fn tamper(r: &mut Random, bench: &mut Bench) {
     let c = &mut bench.c;
     let (first, second) = (c.first_strips.min(31) as usize, c.second_strips.min(31) as usize);
     let entries = bench.r.shortest().min(c.entries as usize);
-    let places = |l: &Columns| l.x.len().min(l.y.len()).min(l.number.len());
-    let (n, m) = (places(&bench.a), places(&bench.b));
-    match r.below(22) {
+    let (n, m) = (bench.a.shortest(), bench.b.shortest());
+    match r.below(24) {
         0 => c.k = other_than(r, c.k, &[0, 4_097, u32::MAX]),
         1 => c.entries = other_than(r, c.entries, &[u32::MAX, c.k, 0]),
         2 => c.first_strips = other_than(r, c.first_strips, &[33, u32::MAX, 0]),
@@ -212,17 +211,24 @@ fn tamper(r: &mut Random, bench: &mut Bench) {
                 *y = y.saturating_add(1).min(MAX);
             }
         }
+        16 => {
+            // one floor higher
+            for h in &mut bench.b.height {
+                *h = h.saturating_add(1).min(HIGHEST);
+            }
+        }
+        17 if n > 0 => bench.a.height[r.below(n)] = [LOWEST, 0, HIGHEST, HIGHEST + 1][r.below(4)],
         _ if entries == 0 => bench.r = results(r, [4_100, 4_100, 4_100]),
-        16 => bench.r.distance[r.below(entries)] ^= 1 << r.below(64),
-        17 => bench.r.first[r.below(entries)] = [u32::MAX, bench.a.x.len() as u32, 0][r.below(3)],
-        18 => bench.r.second[r.below(entries)] = [u32::MAX, bench.b.x.len() as u32, 0][r.below(3)],
-        19 => {
+        18 => bench.r.distance[r.below(entries)] ^= 1 << r.below(64),
+        19 => bench.r.first[r.below(entries)] = [u32::MAX, bench.a.x.len() as u32, 0][r.below(3)],
+        20 => bench.r.second[r.below(entries)] = [u32::MAX, bench.b.x.len() as u32, 0][r.below(3)],
+        21 => {
             let (i, j) = (r.below(entries), r.below(entries));
             bench.r.distance.swap(i, j);
             bench.r.first.swap(i, j);
             bench.r.second.swap(i, j);
         }
-        20 => {
+        22 => {
             // an entry twice
             let i = r.below(entries);
             let j = (i + 1) % entries;
@@ -232,19 +238,22 @@ fn tamper(r: &mut Random, bench: &mut Bench) {
         }
         _ if n == 0 || m == 0 => bench.b.x.clear(),
         _ => {
-            // another pair with its true squared distance: settled or not, in order or not
-            let (p, q) = (r.below(n), r.below(m));
-            let at = if r.once_in(3) { r.below(entries) } else { entries - 1 };
-            let (s, t) = (bench.a.sites(p + 1)[p], bench.b.sites(q + 1)[q]);
-            bench.r.distance[at] = model::squared_distance(s, t);
+            // another pair, or co-sited cells, with its true squared distance: settled or not, in order or not
+            let (a, b) = (bench.a.sites(n), bench.b.sites(m));
+            let (p, mut q) = (r.below(n), r.below(m));
+            let mut at = if r.once_in(3) { r.below(entries) } else { entries - 1 };
+            if let Some(place) = b.iter().position(|t| model::squared_distance(a[p], *t) == 0) {
+                (q, at) = (place, 0);
+            }
+            bench.r.distance[at] = model::squared_distance(a[p], b[q]);
             bench.r.first[at] = p as u32;
             bench.r.second[at] = q as u32;
         }
     }
 }
 
-/// What a history showed: refusals, faults of refusal 7, jobs swept, skipped, and skipped though the x gap alone would not
-/// do, and tampered campaigns that passed.
+/// What a history showed: refusals, faults of refusal 7, jobs swept, skipped, skipped though the x gap alone would not do, and
+/// though the x and y gaps would not, and tampered campaigns that passed.
 #[derive(Default)]
 struct Seen {
     refusals: BTreeMap<u32, u32>,
@@ -252,6 +261,7 @@ struct Seen {
     swept: u32,
     skipped: u32,
     by_y: u32,
+    by_height: u32,
     passed: u32,
     complete: u32,
 }
@@ -282,15 +292,15 @@ fn tampered_calls(r: &mut Random, bench: &Bench, seen: &mut Seen) {
     }
 }
 
-/// Whether a job that is skipped would be swept by the x gap alone.
-fn by_y(bench: &Bench, s: u32, t: u32) -> bool {
+/// Whether a job that is skipped would be swept by the first `gaps` of the x gap, the y gap and the height gap.
+fn swept_by(gaps: usize, bench: &Bench, s: u32, t: u32) -> bool {
     let (a, b) = model::lists(&bench.a, &bench.b).unwrap();
     let strip = |(from, to), sites| Strip { sites, from, to };
-    let gaps = model::squared_gaps(
+    let squares = model::squared_gaps(
         strip(model::strip_range(&bench.c.first_ends, s as usize), &a),
         strip(model::strip_range(&bench.c.second_ends, t as usize), &b),
     );
-    gaps[0] <= bench.r.distance[bench.c.k as usize - 1] as i128
+    squares[..gaps].iter().sum::<i128>() <= bench.r.distance[bench.c.k as usize - 1] as i128
 }
 
 /// One history: an opening, then calls of every kind, each held to the brute force and to the book.
@@ -324,7 +334,8 @@ fn history(r: &mut Random, kind: usize, seen: &mut Seen) {
                     Ok(true) => seen.swept += 1,
                     Ok(false) => {
                         seen.skipped += 1;
-                        seen.by_y += by_y(&before, s, t) as u32;
+                        seen.by_y += swept_by(1, &before, s, t) as u32;
+                        seen.by_height += swept_by(2, &before, s, t) as u32;
                     }
                     Err(_) => {}
                 }
@@ -362,7 +373,8 @@ fn histories(r: &mut Random) {
     for fault in faults {
         assert!(seen.faults.get(fault).is_some_and(|n| *n > 5), "{fault}: {:?}", seen.faults);
     }
-    assert!(seen.swept > 1_000 && seen.skipped > 1_000 && seen.by_y > 100 && seen.passed > 50 && seen.complete > 50);
+    assert!(seen.swept > 1_000 && seen.skipped > 1_000 && seen.passed > 50 && seen.complete > 50);
+    assert!(seen.by_y > 100 && seen.by_height > 100, "{} {}", seen.by_y, seen.by_height);
 }
 
 /// The full grid of 32 strips a list, all 1,024 jobs in a random sequence.

@@ -1,12 +1,26 @@
 //! The program `caselist`, run as a process, beside the brute force.
 
 use crate::harness::{Harness, progress};
-use crate::lists::{f, lawful, stacked};
-use crate::model::{self, Site, site};
+use crate::lists;
+use crate::plane::{self, Site, flat, site};
 use crate::random::Random;
 use std::io::Write;
 use std::process::{Command, Stdio};
 use std::time::Duration;
+
+/// The lists F.
+fn f() -> (Vec<Site>, Vec<Site>) {
+    let (a, b) = lists::f();
+    (flat(&a), flat(&b))
+}
+
+fn lawful(r: &mut Random, kind: usize, most: usize) -> Vec<Site> {
+    flat(&lists::lawful(r, kind, most))
+}
+
+fn stacked(x: i32, y: i32, n: u32) -> Vec<Site> {
+    flat(&lists::stacked(x, y, n))
+}
 
 /// The program's path.
 fn program() -> String {
@@ -38,13 +52,13 @@ fn printed(pieces: &[&[u8]], wait: Duration) -> String {
 
 fn same(input: &[u8]) -> String {
     let text = printed(&[input], Duration::ZERO);
-    assert!(text == model::listing(input), "{} bytes: {text}", input.len());
+    assert!(text == plane::listing(input), "{} bytes: {text}", input.len());
     text
 }
 
 fn input(k: u32, a: &[Site], b: &[Site]) -> Vec<u8> {
     let mut bytes = k.to_le_bytes().to_vec();
-    bytes.extend(model::encode(a, b));
+    bytes.extend(plane::encode(a, b));
     bytes
 }
 
@@ -139,7 +153,7 @@ fn slow_pipes(r: &mut Random) {
         let mut few: Vec<&[u8]> = pieces.iter().take(40).copied().collect();
         let sent: usize = few.iter().map(|p| p.len()).sum();
         few.push(&whole[sent..]);
-        assert_eq!(printed(&few, wait), model::listing(&whole));
+        assert_eq!(printed(&few, wait), plane::listing(&whole));
     }
     let long = vec![0; 48_021];
     assert_eq!(printed(&[&long[..48_020], &long[48_020..]], wait), "refused 6\n");

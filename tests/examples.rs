@@ -3,6 +3,7 @@
 use crate::harness::Harness;
 use crate::lists::f;
 use crate::model::*;
+use crate::plane;
 
 fn results(n: usize) -> Results {
     Results { distance: vec![0; n], first: vec![0; n], second: vec![0; n] }
@@ -76,6 +77,48 @@ fn m7_m8_and_m10() {
     assert_eq!(squared_distance(site(-corner, -corner, 0), site(corner, corner, 0)), 8_000_000_000_000_000_000);
 }
 
+/// Document 02 l's own numbers, and what follows from them.
+fn heights() {
+    let (low, high) = (site(0, 0, 1), site(0, 0, 1).up(3));
+    assert_eq!(squared_distance(low, high), 9);
+    let corner = 1_000_000_000;
+    let (p, q) = (site(-corner, corner, 1).up(-10_000), site(corner, -corner, 2).up(10_000));
+    assert_eq!(squared_distance(p, q), 8_000_000_000_400_000_000);
+    for way in WAYS {
+        // at one x and y, a pair where the heights differ
+        assert_eq!(listed(way, &[low], &[high], 1), (vec![(0, 0)], 1, 1));
+        assert_eq!(listed(way, &[high], &[high], 1), (vec![], 1, 1));
+        // nearer in the plane, farther by height
+        assert_eq!(listed(way, &[low], &[site(1, 0, 0).up(4), site(2, 3, 0)], 1).0, [(0, 1)]);
+    }
+    let (a, b) = ([low, site(4, 0, 2).up(2)], [high, site(1, 9, 2).up(7)]);
+    assert_eq!(squared_gaps(Strip::whole(&a), Strip::whole(&b)), [0, 0, 1]);
+    assert_eq!(pair_count(Strip::whole(&[low, high]), Strip::whole(&[high, high.up(3), low])), 3);
+    // the order does not look at the height, the limits do
+    assert_eq!(content_refusal(&[site(0, 0, 1).up(9), site(0, 0, 2).up(-9)]), 0);
+    assert_eq!(content_refusal(&[low, high]), 3);
+    assert_eq!(content_refusal(&[low.up(10_001)]), 2);
+    assert_eq!(content_refusal(&[low.up(-10_000)]), 0);
+}
+
+/// The brute force of the plane, held to the examples apart from the other.
+fn of_the_plane() {
+    let (a, b) = f();
+    let (a, b) = (plane::flat(&a), plane::flat(&b));
+    for (way, looks, distances) in [(Way::Classic, 9, 6), (Way::ReverseRun, 7, 5)] {
+        let (entries, counters) = plane::k_list(way, &a, &b, 3);
+        assert_eq!(entries.iter().map(|e| (e.first, e.second)).collect::<Vec<_>>(), [(2, 2), (1, 1), (0, 1)]);
+        assert_eq!(counters, Counters { looks, distances });
+        let (first_ends, second_ends) = (&[2, 3][..], &[1, 3][..]);
+        let mut c = plane::Campaign::opened(&a, &b, 2, first_ends, second_ends);
+        let swept = [(0, 0), (1, 0), (0, 1), (1, 1)].map(|(s, t)| c.job(way, s, t).is_some());
+        assert_eq!(swept, [true, false, true, true]);
+        assert_eq!(c.status(), Status { settled: 4, jobs: 4, entries: 2, k: 2 });
+    }
+    assert_eq!(plane::distance_list(&a, &b, 5), [(0, 0), (0, 1), (1, 0), (1, 1), (2, 2)]);
+    assert_eq!(plane::distance_list(&a, &b, 4), [(0, 1), (1, 1), (2, 2)]);
+}
+
 fn own_examples() {
     let sites = |l: &[(i32, i32)]| l.iter().map(|(x, y)| site(*x, *y, 0)).collect::<Vec<_>>();
     // a stop at equality makes 2 and 1
@@ -96,12 +139,12 @@ fn own_examples() {
 fn case_listing() {
     let (a, b) = f();
     let mut input = 3u32.to_le_bytes().to_vec();
-    input.extend(encode(&a, &b));
-    assert_eq!(listing(&input), "pairs 3 of 9\n1 5 13 23\n2 9 12 22\n3 16 11 22\n");
+    input.extend(plane::encode(&plane::flat(&a), &plane::flat(&b)));
+    assert_eq!(plane::listing(&input), "pairs 3 of 9\n1 5 13 23\n2 9 12 22\n3 16 11 22\n");
     input[0] = 0;
-    assert_eq!(listing(&input), "refused 4\n");
-    assert_eq!(listing(&input[..3]), "refused 10\n");
-    assert_eq!(listing(&[0; 48_021]), "refused 6\n");
+    assert_eq!(plane::listing(&input), "refused 4\n");
+    assert_eq!(plane::listing(&input[..3]), "refused 10\n");
+    assert_eq!(plane::listing(&[0; 48_021]), "refused 6\n");
 }
 
 pub fn run(h: &mut Harness) {
@@ -110,5 +153,7 @@ pub fn run(h: &mut Harness) {
     h.test("model: M6", m6);
     h.test("model: M7, M8, M10", m7_m8_and_m10);
     h.test("model: own examples", own_examples);
+    h.test("model: heights", heights);
+    h.test("model: the plane", of_the_plane);
     h.test("model: case listing", case_listing);
 }

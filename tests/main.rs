@@ -1,4 +1,4 @@
-//! Tests of the exported calls beside a brute force of document 01.
+//! Tests of the exported calls beside a brute force of documents 01 and 02.
 
 mod c_program;
 mod calls;
@@ -6,9 +6,12 @@ mod campaigns;
 mod case_listing;
 mod examples;
 mod harness;
+mod height_0;
+mod heights;
 mod lists;
 mod model;
 mod pair_lists;
+mod plane;
 mod random;
 mod raw;
 mod site_files;
@@ -22,6 +25,8 @@ fn main() {
     pair_lists::run_k_list(&mut h);
     pair_lists::run_distance_list(&mut h);
     campaigns::run(&mut h);
+    heights::run(&mut h);
+    height_0::run(&mut h);
     site_files::run(&mut h);
     case_listing::run(&mut h);
     c_program::run(&mut h);

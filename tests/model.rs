@@ -1,29 +1,46 @@
-//! Documents 01 and 02 d in plain Rust, by brute force: what each call must answer and leave behind.
+//! Documents 01 and 02 a, d and l in plain Rust, by brute force: what each call on lists with heights must answer and leave
+//! behind. What is of the plane, the site file and the case listing, is in `plane`.
 
 use std::collections::HashMap;
 
 pub const LIMIT: i64 = 1_000_000_000;
+pub const HEIGHT_LIMIT: i64 = 10_000;
 pub const MOST_SITES: usize = 65_535;
 pub const MOST_K: u32 = 4_096;
 pub const MOST_STRIPS: usize = 32;
 
-#[derive(Clone, Copy, Debug, PartialEq, Eq, PartialOrd, Ord)]
+#[derive(Clone, Copy, Debug, PartialEq, Eq)]
 pub struct Site {
     pub x: i32,
     pub y: i32,
     pub number: u32,
+    pub height: i32,
 }
 
+/// A site at height 0.
 pub fn site(x: i32, y: i32, number: u32) -> Site {
-    Site { x, y, number }
+    Site { x, y, number, height: 0 }
 }
 
-/// Three lent columns, of whatever lengths.
+impl Site {
+    /// The site at a height.
+    pub fn up(self, height: i32) -> Site {
+        Site { height, ..self }
+    }
+
+    /// What the order of a list looks at: not the height.
+    pub fn key(&self) -> (i32, i32, u32) {
+        (self.x, self.y, self.number)
+    }
+}
+
+/// Four lent columns, of whatever lengths.
 #[derive(Clone, Debug, PartialEq, Eq, Default)]
 pub struct Columns {
     pub x: Vec<i32>,
     pub y: Vec<i32>,
     pub number: Vec<u32>,
+    pub height: Vec<i32>,
 }
 
 impl Columns {
@@ -32,31 +49,44 @@ impl Columns {
             x: sites.iter().map(|s| s.x).collect(),
             y: sites.iter().map(|s| s.y).collect(),
             number: sites.iter().map(|s| s.number).collect(),
+            height: sites.iter().map(|s| s.height).collect(),
         }
     }
 
+    /// The lengths of the columns.
+    pub fn lengths(&self) -> [usize; 4] {
+        [self.x.len(), self.y.len(), self.number.len(), self.height.len()]
+    }
+
+    /// How many sites stand in every column.
+    pub fn shortest(&self) -> usize {
+        self.lengths().into_iter().min().unwrap()
+    }
+
     pub fn equal(&self) -> bool {
-        self.x.len() == self.y.len() && self.x.len() == self.number.len()
+        self.lengths().iter().all(|n| *n == self.x.len())
     }
 
     /// The first `n` sites; the columns have as many.
     pub fn sites(&self, n: usize) -> Vec<Site> {
-        (0..n).map(|i| site(self.x[i], self.y[i], self.number[i])).collect()
+        (0..n).map(|i| site(self.x[i], self.y[i], self.number[i]).up(self.height[i])).collect()
     }
 }
 
 // Site lists.
 
-fn outside(c: i32) -> bool {
-    (c as i64) < -LIMIT || (c as i64) > LIMIT
+/// Whether a coordinate or the height is outside its limits.
+fn outside(s: &Site) -> bool {
+    let beyond = |c: i32, limit: i64| (c as i64) < -limit || (c as i64) > limit;
+    beyond(s.x, LIMIT) || beyond(s.y, LIMIT) || beyond(s.height, HEIGHT_LIMIT)
 }
 
 /// 2 and 3, in that order; 0 for neither.
 pub fn content_refusal(sites: &[Site]) -> u32 {
-    if sites.iter().any(|s| outside(s.x) || outside(s.y)) {
+    if sites.iter().any(outside) {
         return 2;
     }
-    if sites.windows(2).any(|w| (w[0].x, w[0].y, w[0].number) >= (w[1].x, w[1].y, w[1].number)) {
+    if sites.windows(2).any(|w| w[0].key() >= w[1].key()) {
         return 3;
     }
     0
@@ -90,24 +120,25 @@ pub fn add(c: &Columns, in_use: u32, s: Site) -> Result<(u32, u32, Columns), u32
     if refusal != 0 {
         return Err(refusal);
     }
-    if outside(s.x) || outside(s.y) {
+    if outside(&s) {
         return Err(2);
     }
     if used == c.x.len() || used == MOST_SITES {
         return Err(6);
     }
-    if sites.contains(&s) {
+    if sites.iter().any(|t| t.key() == s.key()) {
         return Err(11);
     }
     let mut after = sites;
     after.push(s);
-    after.sort();
-    let place = after.iter().position(|t| *t == s).unwrap();
+    after.sort_by_key(Site::key);
+    let place = after.iter().position(|t| t.key() == s.key()).unwrap();
     let mut columns = c.clone();
     for (i, t) in after.iter().enumerate() {
         columns.x[i] = t.x;
         columns.y[i] = t.y;
         columns.number[i] = t.number;
+        columns.height[i] = t.height;
     }
     Ok((place as u32, in_use + 1, columns))
 }
@@ -125,7 +156,8 @@ pub struct Entry {
 pub fn squared_distance(s: Site, t: Site) -> u64 {
     let dx = s.x as i128 - t.x as i128;
     let dy = s.y as i128 - t.y as i128;
-    u64::try_from(dx * dx + dy * dy).unwrap()
+    let dh = s.height as i128 - t.height as i128;
+    u64::try_from(dx * dx + dy * dy + dh * dh).unwrap()
 }
 
 /// A range of places of a list.
@@ -158,13 +190,15 @@ pub fn pairs(a: Strip, b: Strip) -> Vec<Entry> {
     all
 }
 
-/// How many pairs two strips have, for strips too long to go pair by pair: by how often each position stands in them.
+/// How many pairs two strips have, for strips too long to go pair by pair: by how often each position, the
+/// height included, stands in them.
 pub fn pair_count(a: Strip, b: Strip) -> u64 {
-    let mut standing: HashMap<(i32, i32), u64> = HashMap::new();
+    let mut standing: HashMap<(i32, i32, i32), u64> = HashMap::new();
     for s in &a.sites[a.from..a.to] {
-        *standing.entry((s.x, s.y)).or_default() += 1;
+        *standing.entry((s.x, s.y, s.height)).or_default() += 1;
     }
-    let co_sited: u64 = b.sites[b.from..b.to].iter().map(|t| standing.get(&(t.x, t.y)).copied().unwrap_or(0)).sum();
+    let often = |t: &Site| standing.get(&(t.x, t.y, t.height)).copied().unwrap_or(0);
+    let co_sited: u64 = b.sites[b.from..b.to].iter().map(often).sum();
     (a.to - a.from) as u64 * (b.to - b.from) as u64 - co_sited
 }
 
@@ -308,7 +342,7 @@ impl Results {
     }
 }
 
-fn k_refusal(k: u32) -> Result<(), u32> {
+pub fn k_refusal(k: u32) -> Result<(), u32> {
     if k == 0 || k > MOST_K { Err(4) } else { Ok(()) }
 }
 
@@ -413,10 +447,10 @@ fn strip_of(ends: &[u32], place: usize) -> usize {
     (0..ends.len()).find(|s| place < ends[*s] as usize).unwrap()
 }
 
-/// The squares of "the x gap and the y gap, either being 0 where the ranges touch or overlap": the strips' boxes are those
-/// of their own sites.
-pub fn squared_gaps(a: Strip, b: Strip) -> [i128; 2] {
-    [|s: &Site| s.x, |s: &Site| s.y].map(|coordinate| {
+/// The squares of the x gap, the y gap and the height gap, each "being 0 where the ranges touch or overlap": the strips'
+/// boxes are those of their own sites.
+pub fn squared_gaps(a: Strip, b: Strip) -> [i128; 3] {
+    [|s: &Site| s.x, |s: &Site| s.y, |s: &Site| s.height].map(|coordinate| {
         let edges = |s: Strip| {
             let all = s.sites[s.from..s.to].iter().map(|t| coordinate(t) as i128);
             (all.clone().min().unwrap(), all.max().unwrap())
@@ -622,107 +656,4 @@ impl Book {
     pub fn no_open_job(&self) -> bool {
         self.settled.len() == self.first_ends.len() * self.second_ends.len()
     }
-}
-
-// Site files.
-
-pub fn encode(a: &[Site], b: &[Site]) -> Vec<u8> {
-    let second = 16 + 12 * a.len();
-    let mut file = Vec::new();
-    for number in [16, a.len(), second, b.len()] {
-        file.extend((number as u32).to_le_bytes());
-    }
-    for s in a.iter().chain(b) {
-        file.extend(s.x.to_le_bytes());
-        file.extend(s.y.to_le_bytes());
-        file.extend(s.number.to_le_bytes());
-    }
-    file
-}
-
-fn four(file: &[u8], at: usize) -> [u8; 4] {
-    file[at..at + 4].try_into().unwrap()
-}
-
-/// A list's start and count in the contents.
-fn contents(file: &[u8]) -> Result<[(usize, usize); 2], u32> {
-    if file.len() < 16 {
-        return Err(10);
-    }
-    let word = |at| u32::from_le_bytes(four(file, at)) as usize;
-    let (n, m) = (word(4), word(12));
-    if n > MOST_SITES || m > MOST_SITES {
-        return Err(1);
-    }
-    if word(0) != 16 || word(8) != 16 + 12 * n || file.len() != 16 + 12 * n + 12 * m {
-        return Err(10);
-    }
-    Ok([(16, n), (16 + 12 * n, m)])
-}
-
-fn site_in(file: &[u8], at: usize) -> Site {
-    site(
-        i32::from_le_bytes(four(file, at)),
-        i32::from_le_bytes(four(file, at + 4)),
-        u32::from_le_bytes(four(file, at + 8)),
-    )
-}
-
-/// The two lists of a file.
-pub fn read_file(file: &[u8]) -> Result<[Vec<Site>; 2], u32> {
-    let lists = contents(file)?.map(|(start, n)| (0..n).map(|i| site_in(file, start + 12 * i)).collect::<Vec<_>>());
-    for list in &lists {
-        let refusal = content_refusal(list);
-        if refusal != 0 {
-            return Err(refusal);
-        }
-    }
-    Ok(lists)
-}
-
-/// A site of the first list (0) or the second (1).
-pub fn file_site(file: &[u8], list: usize, place: u32) -> Result<Site, u32> {
-    let (start, n) = contents(file)?[list];
-    if place as usize >= n {
-        return Err(8);
-    }
-    Ok(site_in(file, start + 12 * place as usize))
-}
-
-pub fn write_file(a: &Columns, b: &Columns, room: usize) -> Result<Vec<u8>, u32> {
-    let (a, b) = lists(a, b)?;
-    let file = encode(&a, &b);
-    if file.len() > room { Err(6) } else { Ok(file) }
-}
-
-// The case listing.
-
-fn listing_refusal(input: &[u8]) -> Result<(u32, [Vec<Site>; 2]), u32> {
-    if input.len() > 48_020 {
-        return Err(6);
-    }
-    if input.len() < 4 {
-        return Err(10);
-    }
-    let lists = read_file(&input[4..])?;
-    let k = u32::from_le_bytes(four(input, 0));
-    k_refusal(k)?;
-    Ok((k, lists))
-}
-
-/// What `caselist` prints for an input.
-pub fn listing(input: &[u8]) -> String {
-    let (k, [a, b]) = match listing_refusal(input) {
-        Ok(accepted) => accepted,
-        Err(refusal) => return format!("refused {refusal}\n"),
-    };
-    let all = pairs(Strip::whole(&a), Strip::whole(&b));
-    let total = all.len();
-    let entries = best(k, all);
-    let mut text = format!("pairs {} of {total}\n", entries.len());
-    for (i, e) in entries.iter().enumerate() {
-        let (s, t) = (a[e.first as usize], b[e.second as usize]);
-        text += &format!("{} {} {} {}\n", i + 1, e.distance, s.number, t.number);
-    }
-    text
 }

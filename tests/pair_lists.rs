@@ -15,7 +15,7 @@ fn results(r: &mut Random, lengths: [usize; 3]) -> Results {
     }
 }
 
-fn numbers(r: &mut Random, n: usize) -> Vec<u32> {
+pub fn numbers(r: &mut Random, n: usize) -> Vec<u32> {
     (0..n).map(|_| r.next() as u32).collect()
 }
 
@@ -43,11 +43,11 @@ fn held_to(
     answer.map(|told| told.0)
 }
 
-fn same_k_list(way: Way, a: &Columns, b: &Columns, k: u32, before: &Results) -> Result<u32, u32> {
+pub fn same_k_list(way: Way, a: &Columns, b: &Columns, k: u32, before: &Results) -> Result<u32, u32> {
     held_to(&model::k_list(way, a, b, k, before), way, a, b, k, before)
 }
 
-fn same_distance_list(a: &Columns, b: &Columns, e: u32, first: &[u32], second: &[u32]) -> Result<u64, u32> {
+pub fn same_distance_list(a: &Columns, b: &Columns, e: u32, first: &[u32], second: &[u32]) -> Result<u64, u32> {
     let (mut f, mut s) = (first.to_vec(), second.to_vec());
     let answer = calls::distance_list(a, b, e, &mut f, &mut s);
     let (mut expected_f, mut expected_s) = (first.to_vec(), second.to_vec());
@@ -93,14 +93,28 @@ fn fixed_examples() {
     }
 }
 
+/// How often two sites stand at one x and y, at unequal heights and at equal ones.
+fn at_one_x_and_y(a: &[Site], b: &[Site]) -> [u32; 2] {
+    let mut often = [0; 2];
+    for s in a {
+        for t in b.iter().filter(|t| (t.x, t.y) == (s.x, s.y)) {
+            often[(t.height == s.height) as usize] += 1;
+        }
+    }
+    often
+}
+
 fn random_k_lists(r: &mut Random) {
     let mut seen = [0u32; 12];
+    let mut often = [0; 2];
     let rounds = 24_000;
     for round in 0..rounds {
         progress(round, rounds);
         let (n, m) = ([0, 1, 2, 5, 12, 40][r.below(6)], [0, 1, 2, 5, 12, 40][r.below(6)]);
-        let mut a = Columns::of(&lawful(r, round, n));
-        let mut b = Columns::of(&lawful(r, round, m));
+        let (p, q) = (lawful(r, round, n), lawful(r, round, m));
+        let met = at_one_x_and_y(&p, &q);
+        often = [often[0] + met[0], often[1] + met[1]];
+        let (mut a, mut b) = (Columns::of(&p), Columns::of(&q));
         let all = (a.x.len() * b.x.len()) as u32;
         let mut k = [1, 2, 3, all, all + 1, r.below(40) as u32 + 1][r.below(6)];
         if r.once_in(8) {
@@ -124,6 +138,7 @@ fn random_k_lists(r: &mut Random) {
     for number in [0, 1, 2, 3, 4, 6] {
         assert!(seen[number] > 50, "{seen:?}");
     }
+    assert!(often.iter().all(|n| *n > 10_000), "{often:?}");
 }
 
 /// Larger lists, where many looks stop a scan and many entries drop out.

@@ -4,41 +4,41 @@ type X = *const i32;
 type N = *const u32;
 
 unsafe extern "C" {
-    pub fn vumlintel_check(x: X, xs: usize, y: X, ys: usize, n: N, ns: usize, count: *mut u32) -> u32;
+    pub fn vumlintel_check(x: X, xs: usize, y: X, ys: usize, n: N, ns: usize, h: X, hs: usize, count: *mut u32) -> u32;
 
     pub fn vumlintel_add(
-        x: *mut i32, xs: usize, y: *mut i32, ys: usize, n: *mut u32, ns: usize,
-        in_use: u32, site_x: i32, site_y: i32, site_number: u32,
+        x: *mut i32, xs: usize, y: *mut i32, ys: usize, n: *mut u32, ns: usize, h: *mut i32, hs: usize,
+        in_use: u32, site_x: i32, site_y: i32, site_number: u32, site_height: i32,
         place: *mut u32, count: *mut u32,
     ) -> u32;
 
     pub fn vumlintel_k_list_classic(
-        ax: X, axs: usize, ay: X, ays: usize, an: N, ans: usize,
-        bx: X, bxs: usize, by: X, bys: usize, bn: N, bns: usize,
+        ax: X, axs: usize, ay: X, ays: usize, an: N, ans: usize, ah: X, ahs: usize,
+        bx: X, bxs: usize, by: X, bys: usize, bn: N, bns: usize, bh: X, bhs: usize,
         k: u32,
         distance: *mut u64, distances_len: usize, first: *mut u32, firsts: usize, second: *mut u32, seconds: usize,
         entries: *mut u32, looks: *mut u64, distances: *mut u64,
     ) -> u32;
 
     pub fn vumlintel_k_list_reverse_run(
-        ax: X, axs: usize, ay: X, ays: usize, an: N, ans: usize,
-        bx: X, bxs: usize, by: X, bys: usize, bn: N, bns: usize,
+        ax: X, axs: usize, ay: X, ays: usize, an: N, ans: usize, ah: X, ahs: usize,
+        bx: X, bxs: usize, by: X, bys: usize, bn: N, bns: usize, bh: X, bhs: usize,
         k: u32,
         distance: *mut u64, distances_len: usize, first: *mut u32, firsts: usize, second: *mut u32, seconds: usize,
         entries: *mut u32, looks: *mut u64, distances: *mut u64,
     ) -> u32;
 
     pub fn vumlintel_distance_list(
-        ax: X, axs: usize, ay: X, ays: usize, an: N, ans: usize,
-        bx: X, bxs: usize, by: X, bys: usize, bn: N, bns: usize,
+        ax: X, axs: usize, ay: X, ays: usize, an: N, ans: usize, ah: X, ahs: usize,
+        bx: X, bxs: usize, by: X, bys: usize, bn: N, bns: usize, bh: X, bhs: usize,
         e: u32,
         first: *mut u32, firsts: usize, second: *mut u32, seconds: usize,
         count: *mut u64,
     ) -> u32;
 
     pub fn vumlintel_open(
-        ax: X, axs: usize, ay: X, ays: usize, an: N, ans: usize,
-        bx: X, bxs: usize, by: X, bys: usize, bn: N, bns: usize,
+        ax: X, axs: usize, ay: X, ays: usize, an: N, ans: usize, ah: X, ahs: usize,
+        bx: X, bxs: usize, by: X, bys: usize, bn: N, bns: usize, bh: X, bhs: usize,
         k: u32,
         first_cut: N, first_cuts: usize, second_cut: N, second_cuts: usize,
         distance: *const u64, distances_len: usize, first: N, firsts: usize, second: N, seconds: usize,
@@ -49,8 +49,8 @@ unsafe extern "C" {
     pub fn vumlintel_job_classic(
         campaign_k: *mut u32, campaign_entries: *mut u32, first_strips: *mut u32, second_strips: *mut u32,
         first_ends: *mut [u32; 32], second_ends: *mut [u32; 32], marks: *mut [u8; 1024],
-        ax: X, axs: usize, ay: X, ays: usize, an: N, ans: usize,
-        bx: X, bxs: usize, by: X, bys: usize, bn: N, bns: usize,
+        ax: X, axs: usize, ay: X, ays: usize, an: N, ans: usize, ah: X, ahs: usize,
+        bx: X, bxs: usize, by: X, bys: usize, bn: N, bns: usize, bh: X, bhs: usize,
         distance: *mut u64, distances_len: usize, first: *mut u32, firsts: usize, second: *mut u32, seconds: usize,
         first_strip: u32, second_strip: u32,
         swept: *mut u32, looks: *mut u64, distances: *mut u64,
@@ -59,8 +59,8 @@ unsafe extern "C" {
     pub fn vumlintel_job_reverse_run(
         campaign_k: *mut u32, campaign_entries: *mut u32, first_strips: *mut u32, second_strips: *mut u32,
         first_ends: *mut [u32; 32], second_ends: *mut [u32; 32], marks: *mut [u8; 1024],
-        ax: X, axs: usize, ay: X, ays: usize, an: N, ans: usize,
-        bx: X, bxs: usize, by: X, bys: usize, bn: N, bns: usize,
+        ax: X, axs: usize, ay: X, ays: usize, an: N, ans: usize, ah: X, ahs: usize,
+        bx: X, bxs: usize, by: X, bys: usize, bn: N, bns: usize, bh: X, bhs: usize,
         distance: *mut u64, distances_len: usize, first: *mut u32, firsts: usize, second: *mut u32, seconds: usize,
         first_strip: u32, second_strip: u32,
         swept: *mut u32, looks: *mut u64, distances: *mut u64,
@@ -69,8 +69,8 @@ unsafe extern "C" {
     pub fn vumlintel_status(
         campaign_k: *const u32, campaign_entries: *const u32, first_strips: *const u32, second_strips: *const u32,
         first_ends: *const [u32; 32], second_ends: *const [u32; 32], marks: *const [u8; 1024],
-        ax: X, axs: usize, ay: X, ays: usize, an: N, ans: usize,
-        bx: X, bxs: usize, by: X, bys: usize, bn: N, bns: usize,
+        ax: X, axs: usize, ay: X, ays: usize, an: N, ans: usize, ah: X, ahs: usize,
+        bx: X, bxs: usize, by: X, bys: usize, bn: N, bns: usize, bh: X, bhs: usize,
         distance: *const u64, distances_len: usize, first: N, firsts: usize, second: N, seconds: usize,
         settled: *mut u32, jobs: *mut u32, entries: *mut u32, k: *mut u32,
     ) -> u32;

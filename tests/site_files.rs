@@ -3,14 +3,21 @@
 use crate::calls;
 use crate::harness::{Harness, progress};
 use crate::lists::{KINDS, MAX, damaged, even, f, lawful};
-use crate::model::{self, Columns, Site, site};
+use crate::model;
+use crate::plane::{self, Columns, Site, flat, site};
 use crate::random::Random;
+
+/// The lists F.
+fn plane_f() -> (Vec<Site>, Vec<Site>) {
+    let (a, b) = f();
+    (flat(&a), flat(&b))
+}
 
 fn same_write(r: &mut Random, a: &Columns, b: &Columns, room: usize) -> Result<u32, u32> {
     let before: Vec<u8> = (0..room).map(|_| r.next() as u8).collect();
     let mut buffer = before.clone();
     let answer = calls::write_file(a, b, &mut buffer);
-    match model::write_file(a, b, room) {
+    match plane::write_file(a, b, room) {
         Ok(file) => {
             assert_eq!(answer, Ok(file.len() as u32));
             assert!(buffer[..file.len()] == file[..], "the file differs");
@@ -27,12 +34,12 @@ fn same_write(r: &mut Random, a: &Columns, b: &Columns, room: usize) -> Result<u
 /// The reader, and a site of either list at some places.
 fn same_read(file: &[u8]) -> Result<(u32, u32), u32> {
     let answer = calls::read_file(file);
-    let expected = model::read_file(file);
+    let expected = plane::read_file(file);
     assert_eq!(answer, expected.as_ref().map(|l| (l[0].len() as u32, l[1].len() as u32)).map_err(|e| *e));
     for list in 0..2 {
         let n = expected.as_ref().map_or(3, |l| l[list].len() as u32);
         for place in [0, 1, n.saturating_sub(1), n, n + 1, 65_535, 65_536, u32::MAX] {
-            assert_eq!(calls::file_site(file, list, place), model::file_site(file, list, place), "place {place}");
+            assert_eq!(calls::file_site(file, list, place), plane::file_site(file, list, place), "place {place}");
         }
     }
     answer
@@ -56,9 +63,9 @@ fn written(a: &[Site], b: &[Site]) -> Vec<u8> {
 }
 
 fn every_prefix_and_byte() {
-    let (a, b) = f();
+    let (a, b) = plane_f();
     let file = written(&a, &b);
-    assert_eq!(file, model::encode(&a, &b));
+    assert_eq!(file, plane::encode(&a, &b));
     assert_eq!(same_read(&file), Ok((3, 3)));
     consulted(&file, [&a, &b]);
     for n in 0..file.len() {
@@ -78,7 +85,7 @@ fn every_prefix_and_byte() {
 }
 
 fn starts_and_counts() {
-    let (a, b) = f();
+    let (a, b) = plane_f();
     let file = written(&a, &b);
     let with = |at: usize, number: u32| {
         let mut changed = file.clone();
@@ -119,7 +126,7 @@ fn faults_inside() {
         (falling, high, 3),
         (high, falling, 2),
     ] {
-        let file = model::encode(&a, &b);
+        let file = plane::encode(&a, &b);
         assert_eq!(same_read(&file), Err(number));
         consulted(&file, [&a, &b]);
         let (a, b) = (Columns::of(&a), Columns::of(&b));
@@ -128,7 +135,7 @@ fn faults_inside() {
 }
 
 fn writer(r: &mut Random) {
-    let (a, b) = f();
+    let (a, b) = plane_f();
     let (a, b) = (Columns::of(&a), Columns::of(&b));
     assert_eq!(same_write(r, &a, &b, 88), Ok(88));
     assert_eq!(same_write(r, &a, &b, 89), Ok(88));
@@ -143,7 +150,7 @@ fn writer(r: &mut Random) {
         progress(round, rounds);
         let (n, m) = ([0, 1, 3, 20][r.below(4)], [0, 1, 3, 20][r.below(4)]);
         let (p, q) = (lawful(r, round, n), lawful(r, round, m));
-        let (mut a, mut b) = (Columns::of(&p), Columns::of(&q));
+        let (mut a, mut b) = (model::Columns::of(&p), model::Columns::of(&q));
         if r.once_in(6) {
             a = damaged(r, &a);
         }
@@ -151,6 +158,7 @@ fn writer(r: &mut Random) {
             b = damaged(r, &b);
         }
         let room = (16 + 12 * (p.len() + q.len()) + r.below(3)).saturating_sub(r.below(3));
+        let (a, b) = (Columns::flat(&a), Columns::flat(&b));
         seen[same_write(r, &a, &b, room).err().unwrap_or(0) as usize] += 1;
     }
     for number in [0, 1, 2, 3, 6] {
@@ -161,7 +169,7 @@ fn writer(r: &mut Random) {
 fn there_and_back(r: &mut Random) {
     for round in 0..20 * KINDS {
         let (n, m) = (r.below(60), r.below(60));
-        let (a, b) = (lawful(r, round, n), lawful(r, round, m));
+        let (a, b) = (flat(&lawful(r, round, n)), flat(&lawful(r, round, m)));
         let file = written(&a, &b);
         assert_eq!(same_read(&file), Ok((a.len() as u32, b.len() as u32)));
         consulted(&file, [&a, &b]);
@@ -169,17 +177,17 @@ fn there_and_back(r: &mut Random) {
 }
 
 fn long_lists(r: &mut Random) {
-    let sites = even(r, 65_536);
-    let (a, b) = (&sites[..65_535], lawful(r, 2, 30));
+    let sites = flat(&even(r, 65_536));
+    let (a, b) = (&sites[..65_535], flat(&lawful(r, 2, 30)));
     let file = written(a, &b);
-    assert!(file == model::encode(a, &b));
+    assert!(file == plane::encode(a, &b));
     assert_eq!(same_read(&file), Ok((65_535, b.len() as u32)));
     let file = written(&b, a);
     assert_eq!(same_read(&file), Ok((b.len() as u32, 65_535)));
     assert_eq!(same_read(&file[..file.len() - 1]), Err(10));
-    let file = model::encode(&sites, &b);
+    let file = plane::encode(&sites, &b);
     assert_eq!(same_read(&file), Err(1));
-    let file = model::encode(&b, &sites);
+    let file = plane::encode(&b, &sites);
     assert_eq!(same_read(&file), Err(1));
     let over = Columns::of(&sites);
     assert_eq!(same_write(r, &over, &Columns::of(&b), file.len()), Err(1));

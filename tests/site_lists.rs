@@ -2,17 +2,17 @@
 
 use crate::calls;
 use crate::harness::{Harness, progress};
-use crate::lists::{KINDS, MAX, MIN, damaged, even, lawful};
+use crate::lists::{HIGHEST, KINDS, LOWEST, MAX, MIN, damaged, even, lawful};
 use crate::model::{self, Columns, Site, site};
 use crate::random::Random;
 
-fn same_check(c: &Columns) -> Result<u32, u32> {
+pub fn same_check(c: &Columns) -> Result<u32, u32> {
     let answer = calls::check(c);
     assert_eq!(answer, model::check(c), "{c:?}");
     answer
 }
 
-fn same_add(c: &Columns, in_use: u32, s: Site) -> Result<(u32, u32), u32> {
+pub fn same_add(c: &Columns, in_use: u32, s: Site) -> Result<(u32, u32), u32> {
     let mut after = c.clone();
     let answer = calls::add(&mut after, in_use, s);
     match model::add(c, in_use, s) {
@@ -57,17 +57,21 @@ fn sizes(r: &mut Random) {
     sites.pop();
     c = Columns::of(&sites);
     assert_eq!(same_check(&c), Ok(65_535));
-    for column in 0..3 {
+    for column in 0..4 {
         let mut short = c.clone();
         match column {
             0 => drop(short.x.pop()),
             1 => drop(short.y.pop()),
-            _ => drop(short.number.pop()),
+            2 => drop(short.number.pop()),
+            _ => drop(short.height.pop()),
         }
         assert_eq!(same_check(&short), Err(1));
     }
     // the very last site decides
     *c.y.last_mut().unwrap() = MAX + 1;
+    assert_eq!(same_check(&c), Err(2));
+    c = Columns::of(&sites);
+    *c.height.last_mut().unwrap() = HIGHEST + 1;
     assert_eq!(same_check(&c), Err(2));
     c = Columns::of(&sites);
     c.x[65_534] = c.x[65_533];
@@ -95,6 +99,9 @@ fn adding_at_the_bounds(r: &mut Random) {
     let mut c = Columns::of(&sites[..40]);
     c.number.pop();
     assert_eq!(same_add(&c, 3, sites[50]), Err(1));
+    let mut c = Columns::of(&sites[..40]);
+    c.height.pop();
+    assert_eq!(same_add(&c, 3, sites[50]), Err(1));
     // columns that are full
     let c = Columns::of(&sites[..40]);
     assert_eq!(same_add(&c, 40, sites[50]), Err(6));
@@ -106,6 +113,10 @@ fn adding_at_the_bounds(r: &mut Random) {
     // faults past the count in use are not tested
     let mut c = Columns::of(&sites[..40]);
     c.x[30] = i32::MAX;
+    assert_eq!(same_add(&c, 30, sites[33]), Ok((30, 31)));
+    assert_eq!(same_add(&c, 31, sites[33]), Err(2));
+    let mut c = Columns::of(&sites[..40]);
+    c.height[30] = i32::MAX;
     assert_eq!(same_add(&c, 30, sites[33]), Ok((30, 31)));
     assert_eq!(same_add(&c, 31, sites[33]), Err(2));
 }
@@ -136,6 +147,10 @@ fn random_additions(r: &mut Random) {
         let mut s = lawful(r, round, 1)[0];
         if r.once_in(4) && !sites.is_empty() {
             s = sites[r.below(sites.len())];
+            // the same x, y and number, now and then at another height
+            if r.once_in(2) {
+                s.height = r.from_to(LOWEST as i64, HIGHEST as i64) as i32;
+            }
         }
         let mut c = Columns::of(&sites);
         // room past the sites in use, holding anything
@@ -143,12 +158,14 @@ fn random_additions(r: &mut Random) {
             c.x.push(r.next() as i32);
             c.y.push(r.next() as i32);
             c.number.push(r.next() as u32);
+            c.height.push(r.next() as i32);
         }
-        match r.below(8) {
+        match r.below(9) {
             0 => c = damaged(r, &c),
             1 => in_use = [in_use + 1, in_use.saturating_sub(1), c.x.len() as u32, r.next() as u32][r.below(4)],
             2 => s.x = [MIN - 1, MAX + 1][r.below(2)],
             3 => s.y = [i32::MIN, i32::MAX][r.below(2)],
+            4 => s.height = [LOWEST - 1, HIGHEST + 1, i32::MIN, i32::MAX][r.below(4)],
             _ => {}
         }
         seen[same_add(&c, in_use, s).err().unwrap_or(0) as usize] += 1;
@@ -163,7 +180,7 @@ fn growing(r: &mut Random) {
     for kind in 0..KINDS {
         let mut sites = lawful(r, kind, 200);
         let n = sites.len();
-        let mut c = Columns { x: vec![9; n], y: vec![9; n], number: vec![9; n] };
+        let mut c = Columns { x: vec![9; n], y: vec![9; n], number: vec![9; n], height: vec![9; n] };
         for i in (1..n).rev() {
             sites.swap(i, r.below(i + 1));
         }
@@ -173,7 +190,7 @@ fn growing(r: &mut Random) {
             assert_eq!(c, columns);
         }
         assert_eq!(calls::check(&c), Ok(n as u32));
-        sites.sort();
+        sites.sort_by_key(Site::key);
         assert_eq!(c, Columns::of(&sites));
     }
 }

@@ -1,4 +1,4 @@
-/* The exported calls from C, over document 01's lists F. */
+/* The exported calls from C, over document 01's lists F, every height 0, and over two sites at one x and y. */
 #include <stdio.h>
 #include <string.h>
 
@@ -16,28 +16,39 @@ static int failures = 0;
 
 static const int32_t ax[] = {0, 4, 10}, ay[] = {0, 3, 0}, bx[] = {0, 4, 9}, by[] = {5, 0, 2};
 static const uint32_t an[] = {11, 12, 13}, bn[] = {21, 22, 23};
+static const int32_t ah[] = {0, 0, 0}, bh[] = {0, 0, 0};
 
-#define A ax, 3, ay, 3, an, 3
-#define B bx, 3, by, 3, bn, 3
+/* The lists of the plane, and with their heights. */
+#define PLANE_A ax, 3, ay, 3, an, 3
+#define PLANE_B bx, 3, by, 3, bn, 3
+#define A PLANE_A, ah, 3
+#define B PLANE_B, bh, 3
 
 static void check(void)
 {
     uint32_t count = 99;
     EXPECT(vumlintel_check(A, &count) == VUMLINTEL_OK && count == 3);
     count = 99;
-    EXPECT(vumlintel_check(ax, 3, ay, 2, an, 3, &count) == VUMLINTEL_LIST_SIZE && count == 99);
+    EXPECT(vumlintel_check(ax, 3, ay, 2, an, 3, ah, 3, &count) == VUMLINTEL_LIST_SIZE && count == 99);
+    EXPECT(vumlintel_check(PLANE_A, ah, 2, &count) == VUMLINTEL_LIST_SIZE && count == 99);
+    const int32_t lowest[] = {0, 0, -10000}, lower[] = {0, 0, -10001};
+    EXPECT(vumlintel_check(PLANE_A, lower, 3, &count) == VUMLINTEL_LIMITS && count == 99);
+    EXPECT(vumlintel_check(PLANE_A, lowest, 3, &count) == VUMLINTEL_OK && count == 3);
 }
 
 static void add(void)
 {
     uint32_t count = 99, place = 99;
-    int32_t x[4] = {0, 4, 10, 77}, y[4] = {0, 3, 0, 77};
+    int32_t x[4] = {0, 4, 10, 77}, y[4] = {0, 3, 0, 77}, height[4] = {1, 2, 3, 77};
     uint32_t number[4] = {11, 12, 13, 77};
-    EXPECT(vumlintel_add(x, 4, y, 4, number, 4, 3, 4, 3, 5, &place, &count) == VUMLINTEL_OK);
+#define COLUMNS x, 4, y, 4, number, 4, height, 4
+    EXPECT(vumlintel_add(COLUMNS, 3, 4, 3, 5, 10001, &place, &count) == VUMLINTEL_LIMITS && place == 99 && count == 99);
+    EXPECT(vumlintel_add(COLUMNS, 3, 4, 3, 5, -8, &place, &count) == VUMLINTEL_OK);
     EXPECT(place == 1 && count == 4);
     EXPECT(x[1] == 4 && y[1] == 3 && number[1] == 5 && number[2] == 12 && number[3] == 13);
-    EXPECT(vumlintel_add(x, 4, y, 4, number, 4, 4, 4, 3, 5, &place, &count) == VUMLINTEL_ROOM);
-    EXPECT(vumlintel_add(x, 4, y, 4, number, 4, 3, 4, 3, 5, &place, &count) == VUMLINTEL_PRESENT);
+    EXPECT(height[0] == 1 && height[1] == -8 && height[2] == 2 && height[3] == 3);
+    EXPECT(vumlintel_add(COLUMNS, 4, 4, 3, 5, -8, &place, &count) == VUMLINTEL_ROOM);
+    EXPECT(vumlintel_add(COLUMNS, 3, 4, 3, 5, 0, &place, &count) == VUMLINTEL_PRESENT);
 }
 
 static void k_lists(void)
@@ -48,7 +59,8 @@ static void k_lists(void)
     EXPECT(entries == 3 && looks == 9 && distances == 6);
     EXPECT(distance[0] == 5 && distance[1] == 9 && distance[2] == 16 && distance[3] == 7);
     EXPECT(first[0] == 2 && first[1] == 1 && first[2] == 0 && second[0] == 2 && second[1] == 1 && second[2] == 1);
-    EXPECT(vumlintel_k_list_reverse_run(A, B, 3, distance, 4, first, 4, second, 4, &entries, &looks, &distances) == VUMLINTEL_OK);
+    EXPECT(vumlintel_k_list_reverse_run(A, B, 3, distance, 4, first, 4, second, 4, &entries, &looks, &distances) ==
+           VUMLINTEL_OK);
     EXPECT(entries == 3 && looks == 7 && distances == 5);
     EXPECT(vumlintel_k_list_classic(A, B, 0, distance, 4, first, 4, second, 4, &entries, &looks, &distances) == VUMLINTEL_K);
 }
@@ -60,6 +72,25 @@ static void distance_lists(void)
     EXPECT(vumlintel_distance_list(A, B, 4, first, 5, second, 5, &count) == VUMLINTEL_OK && count == 3);
     EXPECT(first[0] == 0 && second[0] == 1 && first[1] == 1 && second[1] == 1 && first[2] == 2 && second[2] == 2);
     EXPECT(vumlintel_distance_list(A, B, 5, first, 4, second, 5, &count) == VUMLINTEL_ROOM && count == 3);
+}
+
+/* Two sites at one x and y, three apart in height: a pair at 9. */
+static void heights(void)
+{
+    const int32_t zero[] = {0}, three[] = {3};
+    const uint32_t number[] = {1};
+    uint64_t distance[1] = {0}, looks = 0, distances = 0, count = 9;
+    uint32_t first[1] = {7}, second[1] = {7}, entries = 0;
+#define LOW zero, 1, zero, 1, number, 1, zero, 1
+#define HIGH zero, 1, zero, 1, number, 1, three, 1
+    EXPECT(vumlintel_k_list_classic(LOW, HIGH, 1, distance, 1, first, 1, second, 1, &entries, &looks, &distances) ==
+           VUMLINTEL_OK);
+    EXPECT(entries == 1 && distance[0] == 9 && first[0] == 0 && second[0] == 0);
+    EXPECT(vumlintel_k_list_reverse_run(HIGH, HIGH, 1, distance, 1, first, 1, second, 1, &entries, &looks, &distances) ==
+           VUMLINTEL_OK);
+    EXPECT(entries == 0 && looks == 1 && distances == 1);
+    EXPECT(vumlintel_distance_list(HIGH, LOW, 2, first, 1, second, 1, &count) == VUMLINTEL_OK && count == 0);
+    EXPECT(vumlintel_distance_list(HIGH, LOW, 3, first, 1, second, 1, &count) == VUMLINTEL_OK && count == 1);
 }
 
 static void campaigns(void)
@@ -89,7 +120,7 @@ static void site_files(void)
     uint8_t file[100];
     uint32_t length = 0, first = 0, second = 0, number = 0;
     int32_t x = 0, y = 0;
-    EXPECT(vumlintel_write_file(A, B, file, sizeof file, &length) == VUMLINTEL_OK && length == 88);
+    EXPECT(vumlintel_write_file(PLANE_A, PLANE_B, file, sizeof file, &length) == VUMLINTEL_OK && length == 88);
     EXPECT(vumlintel_read_file(file, 88, &first, &second) == VUMLINTEL_OK && first == 3 && second == 3);
     EXPECT(vumlintel_read_file(file, 87, &first, &second) == VUMLINTEL_FILE);
     EXPECT(vumlintel_file_site_first(file, 88, 1, &x, &y, &number) == VUMLINTEL_OK && x == 4 && y == 3 && number == 12);
@@ -103,6 +134,7 @@ int main(void)
     add();
     k_lists();
     distance_lists();
+    heights();
     campaigns();
     site_files();
     printf("%d failures\n", failures);

@@ -2,4 +2,5 @@
 pub mod RangeGap
 pub mod Widened
 pub mod Box
+pub mod Ground
 pub mod Examples

@@ -1,4 +1,4 @@
-// The box around some sites, least and greatest x and y, and the gap squared of two boxes.
+// The box around some sites, least and greatest x, y and height, and the gap squared of two boxes.
 ghost use mathlib.Core.Path.{_≡_};
 ghost use mathlib.Core.Bool.{true};
 ghost use mathlib.Core.List.{[], _∷_};
@@ -55,14 +55,22 @@ fn sorted_edges(column: &[i32]) -> [i32; 2]
     [column[0], column[last]]
 }
 
-// The box around the sites of two coordinate columns that ascend by x. (02 a: box.)
-pub fn box_around(x: &[i32], y: &[i32]) -> [i32; 4]
+// The box around the sites of three coordinate columns that ascend by x. (02 a: box; 02 l.)
+pub fn box_around(x: &[i32], y: &[i32], height: &[i32]) -> [i32; 6]
     requires { ⌜ Sorted ltZ (now x) ⌝ }
-    ensures { λ r. ⌜ r ≡ boxAround (now (x .entry) ∷ now (y .entry) ∷ []) ⌝ }
+    ensures { λ r. ⌜ r ≡ boxAround (now (x .entry) ∷ now (y .entry) ∷ now (height .entry) ∷ []) ⌝ }
 {
     let along_x = sorted_edges(x);
     let along_y = edges(y);
-    [along_x[0], along_x[1], along_y[0], along_y[1]]
+    let upward = edges(height);
+    [
+        along_x[0],
+        along_x[1],
+        along_y[0],
+        along_y[1],
+        upward[0],
+        upward[1],
+    ]
 }
 
 // The difference of two ranges, 0 where they touch or overlap.
@@ -79,19 +87,20 @@ fn range_gap(from: i32, to: i32, other_from: i32, other_to: i32) -> u64
 }
 
 // The gap of two boxes along the coordinate whose edges stand at a place and behind it.
-fn gap_along(p: [i32; 4], q: [i32; 4], at: usize) -> u64
-    requires { ⌜ at + 1 < 4 ⌝ }
+fn gap_along(p: [i32; 6], q: [i32; 6], at: usize) -> u64
+    requires { ⌜ at + 1 < 6 ⌝ }
     ensures { λ r. ⌜ r ≡ gapAlong at p q ⌝ }
 {
     range_gap(p[at], p[at + 1], q[at], q[at + 1])
 }
 
 // The gap squared of two boxes whose edges are inside the limits.
-pub fn squared_gap(p: [i32; 4], q: [i32; 4]) -> u64
+pub fn squared_gap(p: [i32; 6], q: [i32; 6]) -> u64
     requires { ⌜ (all within p ≡ true) × (all within q ≡ true) ⌝ }
     ensures { λ r. ⌜ r ≡ squaredBoxGap p q ⌝ }
 {
     let x_gap = gap_along(p, q, 0);
     let y_gap = gap_along(p, q, 2);
-    x_gap * x_gap + y_gap * y_gap
+    let height_gap = gap_along(p, q, 4);
+    x_gap * x_gap + y_gap * y_gap + height_gap * height_gap
 }

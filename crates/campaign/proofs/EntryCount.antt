@@ -13,7 +13,7 @@ use Rattle.order.proofs.Order.{byTest}
 use Rattle.order.proofs.Sorted.{ascending-ascends, ascends-distinct}
 use Rattle.order.proofs.Lists.{all-holds, all-mem}
 use Rattle.order.proofs.Choice.{choice-length}
-use Rattle.site.specs.declared.Site.{Site}
+use Rattle.site.specs.Site.{Site}
 use Rattle.entry.specs.declared.Entry.{Entry}
 use Rattle.entry.specs.Entry.{rankBefore}
 use Rattle.entry.proofs.Rank.{rank-order}

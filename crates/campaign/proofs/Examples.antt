@@ -8,12 +8,12 @@ use Rattle.order.specs.Sort.{insert, sort}
 use Rattle.order.specs.Lists.{all, keep, last, sum}
 use Rattle.column.specs.Column.{overwritten}
 use Rattle.site.specs.Answer.{Answer, refused, answered, answerUnless, afterwards, orElse}
-use Rattle.site.specs.Site.{within, lawfulSite, gap, square, squaredDistance, siteBefore}
-use Rattle.site.specs.SiteList.{Columns, columns, sites, siteAt}
+use Rattle.site.specs.Site.{between, within, heightWithin, allWithin, lawfulSite, gap, square, squaredDistance, siteBefore}
+use Rattle.site.specs.SiteList.{Columns, columns, raised, withColumns, sites, siteAt}
 use Rattle.site.specs.Refusal.{equalLengths, sizeFault, contentRefusal, listRefusal, listsRefusal}
 use Rattle.entry.specs.Entry.{rankBefore, apart, lawfulK, bestK, offer, lastDistance}
 use Rattle.entry.specs.Results.{Results, results, entriesOf, holding, roomFor}
-use Rattle.boxes.specs.Box.{edges, boxAround, boxOf, rangeGap, gaps, squaredBoxGap}
+use Rattle.boxes.specs.Box.{edges, boxAround, coordinateColumns, boxOf, rangeGap, gaps, squaredBoxGap}
 use Rattle.sweep.specs.declared.Way.the-variants.{Classic}
 use Rattle.sweep.specs.Strip.{whole, placedFrom, strip, pair, product, pairs}
 use Rattle.sweep.specs.Scan.{beyond, taken, scan}
@@ -78,6 +78,14 @@ apartInY =
     (newCampaign 1 (1 ∷ 2 ∷ []) (1 ∷ 2 ∷ [])) one
     (jobOf 0 0 ∷ jobOf 1 1 ∷ [])
 
+-- And of heights: strips whose x and y ranges touch, 50 apart in height, are skipped behind a pair at 1.
+apartInHeight : List ℕ
+apartInHeight =
+    answersOf (raised (pos 0 ∷ pos 10 ∷ []) (pos 0 ∷ pos 0 ∷ []) (1 ∷ 2 ∷ []) (pos 0 ∷ pos 0 ∷ []))
+    (raised (pos 1 ∷ pos 10 ∷ []) (pos 0 ∷ pos 0 ∷ []) (3 ∷ 4 ∷ []) (pos 0 ∷ pos 50 ∷ []))
+    (newCampaign 1 (1 ∷ 2 ∷ []) (1 ∷ 2 ∷ [])) one
+    (jobOf 0 0 ∷ jobOf 1 1 ∷ [])
+
 -- Refusal 7 comes before 8: a mark outside the jobs, and a strip past the count.
 soundnessFirst : List ℕ
 soundnessFirst =
@@ -108,16 +116,16 @@ onePosition : List ℕ
 onePosition = answersOf origin origin (afterJob (newCampaign 1 (1 ∷ []) (1 ∷ [])) 0 (jobOf 0 0)) one (jobOf 0 0 ∷ [])
 
 answers :
-    equalGap ∷ ownRanges ∷ apartInY ∷ soundnessFirst ∷ coSited ∷ settledWith 1 ∷ settledWith 0 ∷ onePosition ∷ []
-    ≡ (100 ∷ 100 ∷ 9 ∷ 8 ∷ 8 ∷ []) ∷ (100 ∷ 200 ∷ 200 ∷ 200 ∷ []) ∷ (100 ∷ 200 ∷ []) ∷ (7 ∷ 7 ∷ []) ∷ (100 ∷ 9 ∷ [])
+    equalGap ∷ ownRanges ∷ apartInY ∷ apartInHeight ∷ soundnessFirst ∷ coSited ∷ settledWith 1 ∷ settledWith 0 ∷ onePosition ∷ []
+    ≡ (100 ∷ 100 ∷ 9 ∷ 8 ∷ 8 ∷ []) ∷ (100 ∷ 200 ∷ 200 ∷ 200 ∷ []) ∷ (100 ∷ 200 ∷ []) ∷ (100 ∷ 200 ∷ []) ∷ (7 ∷ 7 ∷ []) ∷ (100 ∷ 9 ∷ [])
     ∷ (7 ∷ []) ∷ (7 ∷ []) ∷ (9 ∷ []) ∷ []
 unfolding
-    afterJob afterwards all answerAs answersOf answerUnless apart apartInY ascending bestK beyond boxAround boxOf
-    campaignRefusal classicOver contentRefusal coSited countFrom edges entriesOf equalGap equalLengths firstEnds firstOf
-    flatMap foremost gap gaps holding insert jobAnswer
+    afterJob afterwards all allWithin answerAs answersOf answerUnless apart apartInHeight apartInY ascending bestK between beyond boxAround
+    boxOf campaignRefusal classicOver contentRefusal coordinateColumns coSited countFrom edges entriesOf equalGap equalLengths firstEnds firstOf
+    flatMap foremost gap gaps heightWithin holding insert jobAnswer
     jobEntries jobPairs jobRefusal jobs jobsPairs keep last lastDistance lawfulEnds lawfulK lawfulMarks lawfulSite leads
     lex listRefusal listsRefusal look markOf newCampaign offer one onePosition orElse origin overwritten ownRanges pair
     pairs placedFrom product rangeGap rankBefore roomFor scan secondEnds settled settledJobs settledWith siteAt siteBefore sites
     sizeFault skips slots sort sound soundEntry soundnessFirst square squaredBoxGap squaredDistance squaredStripGap strip stripAt
-    stripHolding sum sweep taken twoSites whole within zipWith
+    stripHolding sum sweep taken twoSites whole withColumns within zipWith
 answers = refl

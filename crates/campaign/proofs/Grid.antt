@@ -13,8 +13,7 @@ use Rattle.order.proofs.Sorted.{Ascends, ascends-distinct, members-perm}
 use Rattle.order.proofs.Order.{StrictOrder, by-number, lex-order, strict, lex-less, lex-next, irrefl, ltb-order}
 use Rattle.order.specs.Lists.{keep, All, Distinct}
 use Rattle.order.proofs.Lists.{all-mem, all-weaken, keep-mem, mem-keep, perm-distinct, distinct-left, distinct-keep, perm-eq, perm-keep, keep-split}
-use Rattle.site.specs.declared.Site.{Site}
-use Rattle.site.specs.Site.{squaredDistance}
+use Rattle.site.specs.Site.{Site, squaredDistance}
 use Rattle.site.specs.SiteList.{site, siteAt}
 use Rattle.entry.specs.declared.Entry.{Entry}
 use Rattle.entry.specs.Entry.{apart}

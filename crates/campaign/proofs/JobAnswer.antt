@@ -10,7 +10,7 @@ use lib.Seq.{take-all}
 use borrow.Author.Tests.{eq-eqb, ne-eqb}
 use Rattle.order.specs.Terms.{Sorted}
 use Rattle.order.proofs.Sorted.{best-sorted}
-use Rattle.site.specs.declared.Site.{Site}
+use Rattle.site.specs.Site.{Site}
 use Rattle.site.specs.Answer.{answered, afterwards}
 use Rattle.site.specs.SiteList.{Columns, sites}
 use Rattle.site.proofs.Answer.{answer-values, answer-refused, after-refused, after-answered}

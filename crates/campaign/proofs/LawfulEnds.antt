@@ -13,7 +13,7 @@ use Rattle.order.specs.Lists.{keep, last, All}
 use Rattle.order.proofs.Sorted.{Ascends, ascending-ascends}
 use Rattle.order.proofs.Order.{byTest, ltb-order}
 use Rattle.order.proofs.Lists.{all-at, all-weaken, keep-yes, keep-none}
-use Rattle.site.specs.declared.Site.{Site}
+use Rattle.site.specs.Site.{Site}
 use Rattle.sweep.specs.Strip.{whole, strip}
 use Rattle.sweep.proofs.Strip.{length-whole}
 use Rattle.campaign.specs.Grid.{lawfulEnds, stripAt, stripHolding, countFrom}

@@ -7,15 +7,15 @@ use native.Mathlib.Omega.{arith}
 use lib.IntN.{ℤ}
 use lib.ListN.{length, length-append}
 use Rattle.order.specs.Lists.{keep}
-use Rattle.site.specs.declared.Site.{Site}
-use Rattle.site.specs.SiteList.{columns, sites}
-use Rattle.site.specs.Terms.{Coordinates, Numbered}
+use Rattle.site.specs.Site.{Site}
+use Rattle.site.specs.SiteList.{raised, sites}
+use Rattle.site.specs.Terms.{Numbered}
 use Rattle.site.proofs.Numbered.{numbered-some}
 use Rattle.entry.specs.declared.Entry.{Entry}
 use Rattle.sweep.specs.Strip.{pairs}
 use Rattle.sweep.proofs.Strip.{length-strip, length-pairs-most}
 use Rattle.campaign.specs.Grid.{stripAt, Job, jobOf, countFrom, jobs, settled, jobPairs, jobsPairs}
-use Rattle.campaign.specs.Internal.{stripFrom, stripTo}
+use Rattle.campaign.specs.Internal.{LawfulColumns, stripFrom, stripTo}
 use Rattle.campaign.proofs.Grid.{jobs-pairs-append, pairs-one}
 use Rattle.campaign.proofs.SettledRows.{rowFrom, row-whole, row-end, rowsFrom, rows-whole, rows-on, rows-end}
 
@@ -42,15 +42,15 @@ module _ (ends ends' : List ℕ) where
           pairs-few l,
         )
 
-  module _ (ax ay bx by : List ℤ) where
+  module _ (ax ay ah bx by bh : List ℤ) where
     -- `n` is how many pairs the jobs of `l` have.
     abbrev pub PairsOf : List Job → ℕ → Type 0
-    PairsOf l n = Numbered ax ay bx by (λ a b. n ≡ length (jobsPairs ends ends' a b l))
+    PairsOf l n = Numbered ax ay ah bx by bh (λ a b. n ≡ length (jobsPairs ends ends' a b l))
 
     -- `n` pairs of the jobs of `l` are counted, and those of the jobs of `rest` are left.
     pub record Left (l rest : List Job) (n : ℕ) : Type 0 where
       pub total :
-          Numbered ax ay bx by (λ a b. n + length (jobsPairs ends ends' a b rest) ≡ length (jobsPairs ends ends' a b l))
+          Numbered ax ay ah bx by bh (λ a b. n + length (jobsPairs ends ends' a b rest) ≡ length (jobsPairs ends ends' a b l))
 
     pub left-all : (l : List Job) → Left l l 0
     left-all l = record { total = record { numbered = λ an bn la lb. omega arith } }
@@ -60,16 +60,16 @@ module _ (ends ends' : List ℕ) where
       left-many found rest e is = record {
         total = record {
           numbered = λ an bn la lb.
-              let of = jobsPairs ends ends' (sites (columns ax ay an)) (sites (columns bx by bn)) in
+              let of = jobsPairs ends ends' (sites (raised ax ay an ah)) (sites (raised bx by bn bh)) in
               let split : length (of part) ≡ length (of found) + length (of rest) =
-              rw (e, jobs-pairs-append ends ends' (sites (columns ax ay an)) (sites (columns bx by bn)) found rest)
+              rw (e, jobs-pairs-append ends ends' (sites (raised ax ay an ah)) (sites (raised bx by bn bh)) found rest)
               (length-append (of found) (of rest)) in
               omega (arith, w .total .numbered an bn la lb, is .numbered an bn la lb);
         };
       }
 
       pub left-one : (j : Job) (rest : List Job) {m : ℕ} → part ≡ j ∷ rest
-          → Numbered ax ay bx by (λ a b. m ≡ length (jobPairs ends ends' a b j)) → Left l rest (n + m)
+          → Numbered ax ay ah bx by bh (λ a b. m ≡ length (jobPairs ends ends' a b j)) → Left l rest (n + m)
       left-one j rest e is =
           left-many (j ∷ []) rest e (record {
             numbered = λ an bn la lb.
@@ -80,16 +80,16 @@ module _ (ends ends' : List ℕ) where
       unfolding jobsPairs flatMap
       left-none e = record {
         numbered = λ an bn la lb.
-            let of = jobsPairs ends ends' (sites (columns ax ay an)) (sites (columns bx by bn)) in
+            let of = jobsPairs ends ends' (sites (raised ax ay an ah)) (sites (raised bx by bn bh)) in
             let none : length (of part) ≡ 0 = rw e refl in
             omega (arith, w .total .numbered an bn la lb);
       }
 
       -- How many it can be.
-      pub left-few : Coordinates ax ay → Coordinates bx by → n ≤ 4_294_836_225 * length l
+      pub left-few : LawfulColumns ax ay ah → LawfulColumns bx by bh → n ≤ 4_294_836_225 * length l
       left-few h g =
-          let s = numbered-some h g (w .total) in
-          omega (arith, s .4, pairs-few (s .0) (s .1) (omega (arith, s .2, h .few)) (omega (arith, s .3, g .few)) l)
+          let s = numbered-some (h .plane) (h .heights) (g .plane) (g .heights) (w .total) in
+          omega (arith, s .4, pairs-few (s .0) (s .1) (omega (arith, s .2, h .plane .few)) (omega (arith, s .3, g .plane .few)) l)
 
     -- ---- the pairs of a row, and of all rows
 

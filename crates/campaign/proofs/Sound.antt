@@ -5,13 +5,15 @@ use mathlib.Core.List.{List}
 use Prim.Native.Nat.{ℕ, _≤_, _<_}
 use native.Mathlib.Omega.{arith}
 use lib.Dec.{eqb}
+use lib.IntN.{ℤ}
 use lib.ListN.{length, take}
 use Rattle.order.specs.Order.{ascending}
 use Rattle.order.specs.Lists.{all}
-use Rattle.site.specs.declared.Site.{Site}
-use Rattle.site.specs.SiteList.{Columns, sites}
+use Rattle.site.specs.Site.{Site}
+use Rattle.site.specs.SiteList.{Columns, raised, sites}
 use Rattle.site.specs.Terms.{Level}
-use Rattle.site.specs.Refusal.{listsRefusal}
+use Rattle.site.specs.Refusal.{listRefusal, listsRefusal}
+use Rattle.site.proofs.Accepted.{accepted-coordinates, accepted-heights}
 use Rattle.site.proofs.SiteList.{sites-length}
 use Rattle.site.proofs.Tests.{and-first, and-second}
 use Rattle.site.proofs.Answer.{first-refused, next-decides}
@@ -21,7 +23,7 @@ use Rattle.entry.specs.Results.{Results, entriesOf, roomFor}
 use Rattle.entry.proofs.Results.{length-entries}
 use Rattle.campaign.specs.declared.Campaign.{Campaign}
 use Rattle.campaign.specs.Grid.{lawfulMarks}
-use Rattle.campaign.specs.Internal.{lawfulSlots, soundPlan, soundEntries}
+use Rattle.campaign.specs.Internal.{LawfulColumns, lawfulSlots, soundPlan, soundEntries}
 use Rattle.campaign.specs.Soundness.{firstEnds, secondEnds, soundEntry, sound, campaignRefusal}
 use Rattle.campaign.proofs.LawfulEnds.{lawful-cut}
 use Rattle.campaign.proofs.SoundPlan.{plan-parts, settled-in-use}
@@ -113,6 +115,11 @@ module _ (c : Campaign) (a b : Columns) (r : Results) (la : Level a) (lb : Level
           total-decides most below is = count-decides c (sites a) (sites b) most below is ∙ sym past-entries
 
 -- ---- the refusal
+
+-- The coordinate columns of an accepted list.
+pub accepted-columns : (xs ys : List ℤ) (ns : List ℕ) (hs : List ℤ) → listRefusal (raised xs ys ns hs) ≡ 0 → LawfulColumns xs ys hs
+accepted-columns xs ys ns hs ok =
+    record { plane = accepted-coordinates (raised xs ys ns hs) ok; heights = accepted-heights xs ys ns hs ok }
 
 module _ (c : Campaign) (a b : Columns) (r : Results) {q : ℕ} (is : q ≡ listsRefusal a b) where
   pub lists-refused : (q ≡ 0 → ⊥) → q ≡ campaignRefusal c a b r

@@ -5,22 +5,20 @@ use mathlib.Core.List.{List}
 use Prim.Native.Nat.{ℕ, _≤_, _<_}
 use native.Mathlib.Omega.{arith}
 use lib.Dec.{leb, ltb, eqb}
-use lib.IntN.{pos}
 use lib.ListN.{length, getD}
 use borrow.Author.Tests.{lt-ltb, le-ltb, le-leb, lt-leb, eq-eqb, ne-eqb, ltb-true, eqb-true}
 use Rattle.order.proofs.Lists.{length-keep}
-use Rattle.site.specs.declared.Site.{Site}
-use Rattle.site.specs.Site.{squaredDistance}
-use Rattle.site.specs.SiteList.{Columns, site, sites, siteAt}
+use Rattle.site.specs.Site.{Site, squaredDistance}
+use Rattle.site.specs.SiteList.{Columns, sites, siteAt}
 use Rattle.site.specs.Terms.{Level}
-use Rattle.site.proofs.SiteList.{sites-length, site-at}
+use Rattle.site.proofs.SiteList.{columnsAt, sites-length, site-at}
 use Rattle.entry.specs.declared.Entry.{Entry}
 use Rattle.entry.specs.Entry.{entry, apart}
 use Rattle.entry.specs.Results.{Results, entriesOf, roomFor}
 use Rattle.entry.proofs.Results.{length-entries, entry-at}
 use Rattle.campaign.specs.Grid.{jobOf, settled, stripHolding}
 use Rattle.campaign.specs.Soundness.{soundEntry}
-use Rattle.site.proofs.Distance.{numberless}
+use Rattle.site.proofs.Distance.{unnumbered, numberless}
 use Rattle.site.proofs.Tests.{and-first, and-second}
 use Rattle.campaign.proofs.Grid.{OfJob}
 
@@ -109,11 +107,10 @@ sound-of-job marks ends ends' a b e h =
 
 -- The squared distance of the sites at two places, whatever their numbers.
 pub apart-at : (a b : Columns) → Level a → Level b → (i j : ℕ) → i < length (a .x) → j < length (b .x) → {d : ℕ}
-    → d ≡ squaredDistance (site (getD (a .x) i (pos 0)) (getD (a .y) i (pos 0)) 0)
-    (site (getD (b .x) j (pos 0)) (getD (b .y) j (pos 0)) 0)
+    → d ≡ squaredDistance (unnumbered (columnsAt a i)) (unnumbered (columnsAt b j))
     → d ≡ squaredDistance (siteAt (sites a) i) (siteAt (sites b) j)
 apart-at a b la lb i j h g is =
-    is ∙ sym (ap₂ squaredDistance (site-at a la i h) (site-at b lb j g) ∙ numberless _ _ _ _ _ _)
+    is ∙ sym (ap₂ squaredDistance (site-at a la i h) (site-at b lb j g) ∙ numberless (columnsAt a i) (columnsAt b j))
 
 -- ---- the entries of the columns
 

@@ -10,18 +10,16 @@ use lib.ListN.{length, take}
 use lib.Seq.{length-take-le}
 use borrow.Author.Tests.{leb-true}
 use Rattle.order.specs.Lists.{keep}
-use Rattle.site.specs.declared.Site.{Site}
-use Rattle.site.specs.Terms.{Coordinates}
+use Rattle.site.specs.Site.{Site}
 use Rattle.site.proofs.Tests.{and-first, and-second}
 use Rattle.entry.specs.Entry.{lawfulK}
 use Rattle.entry.proofs.Rank.{k-limits}
 use Rattle.sweep.specs.Strip.{strip, pairs}
-use Rattle.sweep.specs.Terms.{StripIn}
 use Rattle.campaign.specs.declared.Campaign.{Campaign}
 use Rattle.campaign.specs.declared.Strip.{Strip}
 use Rattle.campaign.specs.Grid.{lawfulEnds, stripAt, jobOf, jobs, lawfulMarks, settled, settledJobs, jobPairs}
 use Rattle.campaign.specs.Soundness.{firstEnds, secondEnds}
-use Rattle.campaign.specs.Internal.{stripFrom, stripTo, StripOf, lawfulSlots, JobAsked, soundPlan}
+use Rattle.campaign.specs.Internal.{LawfulColumns, stripFrom, stripTo, StripOf, SomeStrip, lawfulSlots, JobAsked, soundPlan}
 use Rattle.campaign.proofs.LawfulEnds.{lawful-cut, strip-inside}
 
 -- ---- the tests in their order
@@ -125,6 +123,10 @@ module _ {c : Campaign} {n m s t : ℕ} (w : JobAsked c n m (jobOf s t)) where
       strip-inside (lawful-cut m (secondEnds c) (asked-parts .second)) t
       (in-use-below' c long (asked-parts .cols) (w .column))
 
+some-strip : {xs ys hs : List ℤ} {s : Strip} → LawfulColumns xs ys hs → s .from < s .to → s .to ≤ length xs → SomeStrip xs ys hs s
+some-strip h some inside =
+    record { strip = record { lawful = h .plane; heights = h .heights; range = omega arith; inside = inside }; some = some }
+
 module _ (c : Campaign) {s t : ℕ} {p q : Strip} (is : StripOf (take (c .«first_strips») (c .«first_ends»)) s p)
     (js : StripOf (take (c .«second_strips») (c .«second_ends»)) t q) where
   -- The strips of a job by their places.
@@ -141,14 +143,11 @@ module _ (c : Campaign) {s t : ℕ} {p q : Strip} (is : StripOf (take (c .«firs
             (arith, g, js .to),
       )
 
-  pub strips-in : {ax ay bx by : List ℤ} → Coordinates ax ay → Coordinates bx by → JobAsked c (length ax) (length bx) (jobOf s t)
-      → length (c .«first_ends») ≡ 32 → length (c .«second_ends») ≡ 32
-      → StripIn ax ay (p .from) (p .to) × StripIn bx by (q .from) (q .to)
+  pub strips-in : {ax ay ah bx by bh : List ℤ} → LawfulColumns ax ay ah → LawfulColumns bx by bh
+      → JobAsked c (length ax) (length bx) (jobOf s t) → length (c .«first_ends») ≡ 32 → length (c .«second_ends») ≡ 32
+      → SomeStrip ax ay ah p × SomeStrip bx by bh q
   strips-in h g w long long' =
-      let l = places w long long' in (
-        record { lawful = h; range = omega (arith, l .0); inside = l .1 },
-        record { lawful = g; range = omega (arith, l .2); inside = l .3 },
-      )
+      let l = places w long long' in (some-strip h (l .0) (l .1), some-strip g (l .2) (l .3))
 
   pub strips-are : (a b : List Site) → (strip (p .from) (p .to) a ≡ stripAt (firstEnds c) a s) ×
       (strip (q .from) (q .to) b ≡ stripAt (secondEnds c) b t)

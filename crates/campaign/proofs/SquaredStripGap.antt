@@ -1,36 +1,35 @@
 -- The squared gap of two strips: by the columns, and that it bounds the squared distance of each of their pairs.
-use mathlib.Core.Path.{_≡_, refl, sym, ap, ap₂, _∙_}
+use mathlib.Core.Path.{_≡_, sym, ap, ap₂, _∙_}
 use mathlib.Core.Bool.{true}
-use mathlib.Core.List.{List, [], _∷_, map, List·Memᴰ, Memᴰ·map}
+use mathlib.Core.List.{List, [], _∷_, List·Memᴰ, Memᴰ·map}
 use Prim.Native.Nat.{ℕ, _-_, _≤_}
+use native.Mathlib.Omega.{arith}
 use lib.IntN.{ℤ}
 use lib.Signed.{ltZ}
-use lib.ListN.{take, drop}
+use lib.ListN.{drop}
 use Rattle.order.specs.Lists.{all, All}
 use Rattle.order.specs.Terms.{Sorted}
-use Rattle.order.proofs.Lists.{mem-all, all-keep, all-part, map-take, map-drop}
+use Rattle.order.proofs.Lists.{mem-all, all-keep, all-part}
 use Rattle.order.proofs.Sorted.{sorted-take, sorted-drop}
-use Rattle.site.specs.declared.Site.{Site}
 use Rattle.site.specs.Site.{within}
-use Rattle.site.specs.SiteList.{Columns, columnsOf, sites}
+use Rattle.site.specs.SiteList.{raised, sites}
 use Rattle.site.specs.Terms.{Level}
 use Rattle.site.proofs.PositionOrder.{coordinates-sorted}
-use Rattle.site.proofs.SiteList.{sites-columns}
 use Rattle.entry.specs.declared.Entry.{Entry}
 use Rattle.entry.specs.Entry.{apart}
 use Rattle.boxes.specs.Box.{boxAround, boxOf, squaredBoxGap}
-use Rattle.boxes.proofs.Box.{box-within, box-gap-under}
+use Rattle.boxes.proofs.Box.{box-within, heights-within, box-gap-under, part-of-three}
 use Rattle.sweep.specs.Strip.{Placed, strip, sitesOf, pair, product, pairs}
 use Rattle.sweep.specs.Terms.{StripIn}
 use Rattle.sweep.proofs.Strip.{strip-sites}
 use Rattle.sweep.proofs.ProductLaws.{mem-product}
 use Rattle.campaign.specs.declared.Strip.{Strip}
 use Rattle.campaign.specs.Grid.{squaredStripGap}
-use Rattle.campaign.specs.Internal.{part}
+use Rattle.campaign.specs.Internal.{SomeStrip, part}
 
 -- ---- a strip's columns
 
-module _ {xs ys : List ℤ} (s : Strip) (h : StripIn xs ys (s .from) (s .to)) where
+module _ {xs ys hs : List ℤ} (s : Strip) (h : StripIn xs ys hs (s .from) (s .to)) where
   pub part-sorted : Sorted ltZ (part s xs)
   part-sorted =
       sorted-take ltZ (s .to - s .from) (drop (s .from) xs)
@@ -40,37 +39,33 @@ module _ {xs ys : List ℤ} (s : Strip) (h : StripIn xs ys (s .from) (s .to)) wh
   part-inside l g = all-part within (s .to - s .from) (s .from) l g
 
   -- The edges of its box are inside the limits.
-  pub part-within : {r : List ℤ} → r ≡ boxAround (part s xs ∷ part s ys ∷ []) → all within r ≡ true
+  pub part-within : {r : List ℤ} → r ≡ boxAround (part s xs ∷ part s ys ∷ part s hs ∷ []) → all within r ≡ true
   unfolding All
   part-within e =
       rw e
-      (box-within (part s xs ∷ part s ys ∷ [])
-      (part-inside xs (h .lawful .xs-within), (part-inside ys (h .lawful .ys-within), tt)))
+      (box-within (part s xs ∷ part s ys ∷ part s hs ∷ []) (
+        part-inside xs (h .lawful .xs-within),
+        (part-inside ys (h .lawful .ys-within), (part-inside hs (heights-within hs (h .heights .within)), tt)),
+      ))
 
 -- The box of a strip by the columns.
-part-sites : (s : Strip) (c : Columns) → Level c → (f : Site → ℤ) (g : Columns → List ℤ)
-    → ((l : List Site) → map f l ≡ g (columnsOf l))
-    → map f (sitesOf (strip (s .from) (s .to) (sites c))) ≡ part s (g c)
-part-sites s c level f g is =
-    ap (map f) (strip-sites (s .from) (s .to) (sites c))
-    ∙ map-take f (s .to - s .from) (drop (s .from) (sites c))
-    ∙ ap (take (s .to - s .from)) (map-drop f (s .from) (sites c))
-    ∙ ap (part s) (is (sites c) ∙ ap g (sites-columns c level))
-
-pub strip-box : (s : Strip) (c : Columns) → Level c
-    → boxAround (part s (c .x) ∷ part s (c .y) ∷ []) ≡ boxOf (sitesOf (strip (s .from) (s .to) (sites c)))
-unfolding boxOf columnsOf
-strip-box s c level =
+pub strip-box : {xs ys hs : List ℤ} {ns : List ℕ} {s : Strip} → SomeStrip xs ys hs s → Level (raised xs ys ns hs)
+    → boxAround (part s xs ∷ part s ys ∷ part s hs ∷ []) ≡ boxOf (sitesOf (strip (s .from) (s .to) (sites (raised xs ys ns hs))))
+unfolding boxOf
+strip-box {xs} {ys} {hs} {ns} {s} h level =
     sym
-    (ap₂ (λ (x y : List ℤ). boxAround (x ∷ y ∷ [])) (part-sites s c level (λ t. t .x) (λ l. l .x) (λ l. refl))
-    (part-sites s c level (λ t. t .y) (λ l. l .y) (λ l. refl)))
+    (ap boxOf (strip-sites (s .from) (s .to) (sites (raised xs ys ns hs)))
+    ∙ ap boxAround
+    (part-of-three xs ys ns hs level (s .to - s .from) (s .from) (omega (arith, h .some)) (omega (arith, h .some, h .strip .inside))))
 
-pub strips-gap : (p q : Strip) (a b : Columns) → Level a → Level b → {r r' : List ℤ} {n : ℕ}
-    → r ≡ boxAround (part p (a .x) ∷ part p (a .y) ∷ []) → r' ≡ boxAround (part q (b .x) ∷ part q (b .y) ∷ [])
+pub strips-gap : {ax ay ah bx by bh : List ℤ} {an bn : List ℕ} {p q : Strip} → SomeStrip ax ay ah p → SomeStrip bx by bh q
+    → Level (raised ax ay an ah) → Level (raised bx by bn bh) → {r r' : List ℤ} {n : ℕ}
+    → r ≡ boxAround (part p ax ∷ part p ay ∷ part p ah ∷ []) → r' ≡ boxAround (part q bx ∷ part q by ∷ part q bh ∷ [])
     → n ≡ squaredBoxGap r r'
-    → n ≡ squaredStripGap (strip (p .from) (p .to) (sites a)) (strip (q .from) (q .to) (sites b))
+    → n ≡ squaredStripGap (strip (p .from) (p .to) (sites (raised ax ay an ah)))
+    (strip (q .from) (q .to) (sites (raised bx by bn bh)))
 unfolding squaredStripGap
-strips-gap p q a b la lb e e' w = w ∙ ap₂ squaredBoxGap (e ∙ strip-box p a la) (e' ∙ strip-box q b lb)
+strips-gap h g la lb e e' w = w ∙ ap₂ squaredBoxGap (e ∙ strip-box h la) (e' ∙ strip-box g lb)
 
 -- ---- the pairs of two strips
 

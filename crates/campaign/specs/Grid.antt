@@ -6,7 +6,7 @@ use lib.Dec.{leb, ltb, eqb}
 use lib.ListN.{length, getD, set}
 use Rattle.order.specs.Order.{ascending}
 use Rattle.order.specs.Lists.{keep, last}
-use Rattle.site.specs.declared.Site.{Site}
+use Rattle.site.specs.Site.{Site}
 use Rattle.entry.specs.declared.Entry.{Entry}
 use Rattle.boxes.specs.Box.{boxOf, squaredBoxGap}
 use Rattle.sweep.specs.Strip.{Placed, strip, sitesOf, product, pairs}
@@ -70,6 +70,7 @@ jobPairs ends ends' a b j = pairs (stripAt ends a (j .first)) (stripAt ends' b (
 unfoldable pub jobsPairs : List ℕ → List ℕ → List Site → List Site → List Job → List Entry
 jobsPairs ends ends' a b l = flatMap (jobPairs ends ends' a b) l
 
--- "The gap of two strips should come from the strips' boxes", each around the strip's own sites; squared. (02 a.)
+-- "The gap of two strips should come from the strips' boxes", each around the strip's own sites, with the edges of their
+-- heights too; squared. (02 a, 02 l.)
 unfoldable pub squaredStripGap : List Placed → List Placed → ℕ
 squaredStripGap p q = squaredBoxGap (boxOf (sitesOf p)) (boxOf (sitesOf q))

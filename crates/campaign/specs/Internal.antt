@@ -4,30 +4,40 @@ use mathlib.Core.Bool.{true, Bool, _&&_, _||_}
 use mathlib.Core.List.{List, _∷_}
 use Prim.Native.Nat.{ℕ, _-_, _/_, _%_, _≤_, _<_}
 use lib.Dec.{leb, ltb, eqb}
-use lib.ListN.{getD, take, drop}
+use lib.ListN.{length, getD, take, drop}
 use lib.IntN.{ℤ}
 use denote.Ref.{RefT}
 use Rattle.order.specs.Order.{ascending}
 use Rattle.order.specs.Lists.{all}
 use Rattle.column.specs.Lent.{Lent}
-use Rattle.site.specs.declared.Site.{Site}
-use Rattle.site.specs.Terms.{Coordinates, Numbered}
+use Rattle.site.specs.Site.{Site}
+use Rattle.site.specs.Terms.{Coordinates, Heights, Numbered}
 use Rattle.entry.specs.Entry.{rankBefore, lawfulK}
 use Rattle.entry.specs.Results.{Results, entriesOf, roomFor}
+use Rattle.sweep.specs.Terms.{StripIn}
 use Rattle.campaign.specs.declared.Strip.{Strip}
 use Rattle.campaign.specs.declared.Campaign.{Campaign}
+use Rattle.campaign.specs.declared.Outcome.{Outcome}
+use Rattle.campaign.specs.declared.JobDone.{JobDone}
 use Rattle.campaign.specs.Grid.{lawfulEnds, Job, lawfulMarks}
 use Rattle.campaign.specs.Soundness.{firstEnds, secondEnds, soundEntry}
 
--- The coordinate columns of two lawful lists.
-abbrev pub BothCoordinates : RefT (List ℤ) → RefT (List ℤ) → RefT (List ℤ) → RefT (List ℤ) → Type 0
-BothCoordinates ax ay bx by = Coordinates (ax .now) (ay .now) × Coordinates (bx .now) (by .now)
+-- The coordinate columns of a lawful list, and of two.
+pub record LawfulColumns (xs ys hs : List ℤ) : Type 0 where
+  pub plane : Coordinates xs ys
+  pub heights : Heights (length xs) hs
+
+abbrev pub BothCoordinates :
+    RefT (List ℤ) → RefT (List ℤ) → RefT (List ℤ) → RefT (List ℤ) → RefT (List ℤ) → RefT (List ℤ) → Type 0
+BothCoordinates ax ay ah bx by bh =
+    LawfulColumns (ax .now) (ay .now) (ah .now) × LawfulColumns (bx .now) (by .now) (bh .now)
 
 -- What holds of the two lists that were lent, whatever the numbers of their sites.
 abbrev pub NumberedLent :
-    Lent (List ℤ) → Lent (List ℤ) → Lent (List ℤ) → Lent (List ℤ) → (List Site → List Site → Type 0) → Type 0
-NumberedLent ax ay bx by holds =
-    Numbered (ax .entry .now) (ay .entry .now) (bx .entry .now) (by .entry .now) holds
+    Lent (List ℤ) → Lent (List ℤ) → Lent (List ℤ) → Lent (List ℤ) → Lent (List ℤ) → Lent (List ℤ) →
+    (List Site → List Site → Type 0) → Type 0
+NumberedLent ax ay ah bx by bh holds =
+    Numbered (ax .entry .now) (ay .entry .now) (ah .entry .now) (bx .entry .now) (by .entry .now) (bh .entry .now) holds
 
 -- Where strip `s` starts, and where it ends.
 unfoldable pub stripFrom : List ℕ → ℕ → ℕ
@@ -40,6 +50,11 @@ stripTo ends s = getD ends s 0
 pub record StripOf (ends : List ℕ) (s : ℕ) (r : Strip) : Type 0 where
   pub from : r .from ≡ stripFrom ends s
   pub to : r .to ≡ stripTo ends s
+
+-- A strip with a site or more, of a lawful list by its coordinate columns.
+pub record SomeStrip (xs ys hs : List ℤ) (s : Strip) : Type 0 where
+  pub strip : StripIn xs ys hs (s .from) (s .to)
+  pub some : s .from < s .to
 
 -- The part of a column that a strip has.
 abbrev pub part : Strip → List ℤ → List ℤ
@@ -77,3 +92,7 @@ unfoldable pub soundEntries : Campaign → List Site → List Site → Results �
 soundEntries c a b r =
     let l = entriesOf (c .entries) r in
     ascending rankBefore l && all (soundEntry (c .marks) (firstEnds c) (secondEnds c) a b) l
+
+-- The campaign and how a job ended.
+abbrev pub jobDone : Campaign → Outcome → JobDone
+jobDone c outcome = record { campaign = c; outcome = outcome }

@@ -6,9 +6,8 @@ use lib.Dec.{leb, ltb, eqb}
 use lib.ListN.{length, take}
 use Rattle.order.specs.Order.{ascending}
 use Rattle.order.specs.Lists.{all}
-use Rattle.site.specs.declared.Site.{Site}
 use Rattle.site.specs.Answer.{refuseIf, orElse}
-use Rattle.site.specs.Site.{squaredDistance}
+use Rattle.site.specs.Site.{Site, squaredDistance}
 use Rattle.site.specs.SiteList.{Columns, sites, siteAt}
 use Rattle.site.specs.Refusal.{listsRefusal}
 use Rattle.entry.specs.declared.Entry.{Entry}

@@ -2,7 +2,6 @@
 use super::Campaign;
 use super::JobDone;
 use super::Opened;
-use super::Outcome;
 use super::Status;
 use super::jobs;
 use super::marks;
@@ -29,9 +28,11 @@ pub fn open(
     ax: &[i32],
     ay: &[i32],
     an: &[u32],
+    ah: &[i32],
     bx: &[i32],
     by: &[i32],
     bn: &[u32],
+    bh: &[i32],
     k: u32,
     first_ends: &[u32],
     second_ends: &[u32],
@@ -40,8 +41,8 @@ pub fn open(
     second: &[u32],
 ) -> Opened
     ensures { λ r.
-        let a = lentList ax ay an .entry in
-        let b = lentList bx by bn .entry in
+        let a = lentList ax ay an ah .entry in
+        let b = lentList bx by bn bh .entry in
         let l = lentResults distance first second .entry in
         let answer = openAnswer a b k (now («first_ends» .entry)) (now («second_ends» .entry)) l in
         ⌜ (openedAnswer r ≡ answer) × (r .campaign ≡ afterwards (λ c. c) answer noCampaign) ⌝ }
@@ -50,9 +51,11 @@ pub fn open(
         ax,
         ay,
         an,
+        ah,
         bx,
         by,
         bn,
+        bh,
         k,
         first_ends,
         second_ends,
@@ -78,20 +81,22 @@ pub fn status(
     ax: &[i32],
     ay: &[i32],
     an: &[u32],
+    ah: &[i32],
     bx: &[i32],
     by: &[i32],
     bn: &[u32],
+    bh: &[i32],
     distance: &[u64],
     first: &[u32],
     second: &[u32],
 ) -> Status
     ensures { λ r.
-        let a = lentList ax ay an .entry in
-        let b = lentList bx by bn .entry in
+        let a = lentList ax ay an ah .entry in
+        let b = lentList bx by bn bh .entry in
         let l = lentResults distance first second .entry in
         ⌜ statusOf r ≡ statusAnswer c a b l ⌝ }
 {
-    let refused = soundness::refusal(c, ax, ay, an, bx, by, bn, distance, first, second);
+    let refused = soundness::refusal(c, ax, ay, an, ah, bx, by, bn, bh, distance, first, second);
     if refused != 0 {
         return Status::Refused(refused);
     }
@@ -104,50 +109,68 @@ pub fn status(
     }
 }
 
-// Settles one job, swept or skipped: the list becomes the first K of its entries and the job's pairs. (01: job.)
+// Settles job (s, t), swept or skipped: the list becomes the first K of its entries and the job's pairs. (01: job.)
 pub fn job(
     c: Campaign,
     ax: &[i32],
     ay: &[i32],
     an: &[u32],
+    ah: &[i32],
     bx: &[i32],
     by: &[i32],
     bn: &[u32],
+    bh: &[i32],
     distance: &mut [u64],
     first: &mut [u32],
     second: &mut [u32],
-    first_strip: u32,
-    second_strip: u32,
+    s: u32,
+    t: u32,
     way: Way,
 ) -> JobDone
     ensures { λ r.
-        let a = lentList ax ay an .entry in
-        let b = lentList bx by bn .entry in
+        let a = lentList ax ay an ah .entry in
+        let b = lentList bx by bn bh .entry in
         let l = lentResults distance first second in
-        let answer = jobAnswer way c a b (l .entry) (jobOf «first_strip» «second_strip») in
+        let answer = jobAnswer way c a b (l .entry) (jobOf s t) in
         ⌜ (jobDoneAnswer r (l .exit) ≡ answer) × ((r .campaign ≡ afterwards (λ v. v .campaign) answer c)
         × (l .exit ≡ afterwards (λ v. v .results) answer (l .entry))) ⌝ }
 {
-    let s = first_strip;
-    let t = second_strip;
-    let refused = jobs::refusal(c, ax, ay, an, bx, by, bn, distance, first, second, s, t);
+    let refused = jobs::refusal(
+        c,
+        ax,
+        ay,
+        an,
+        ah,
+        bx,
+        by,
+        bn,
+        bh,
+        distance,
+        first,
+        second,
+        s,
+        t,
+    );
     if refused != 0 {
-        return JobDone {
-            campaign: c,
-            outcome: Outcome::Refused(refused),
-        };
+        return jobs::refused(c, refused);
     }
-    if jobs::skips(c, ax, ay, bx, by, distance, s, t) {
-        return JobDone {
-            campaign: jobs::settle(c, s, t, c.entries),
-            outcome: Outcome::Skipped,
-        };
+    if jobs::skips(c, ax, ay, ah, bx, by, bh, distance, s, t) {
+        return jobs::skipped(c, s, t);
     }
-    let swept = jobs::swept(c, ax, ay, bx, by, distance, first, second, s, t, way);
-    let looks = swept.looks;
-    let distances = swept.distances;
-    JobDone {
-        campaign: jobs::settle(c, s, t, swept.entries),
-        outcome: Outcome::Swept { looks, distances },
-    }
+    let swept = jobs::swept(
+        c,
+        ax,
+        ay,
+        ah,
+        bx,
+        by,
+        bh,
+        distance,
+        first,
+        second,
+        s,
+        t,
+        way,
+    );
+    jobs::done(c, s, t, swept)
 }

@@ -1,5 +1,7 @@
 // One job: its refusal, whether it is skipped, its sweep, its mark.
 use super::Campaign;
+use super::JobDone;
+use super::Outcome;
 use super::ends;
 use super::marks;
 use super::soundness;
@@ -18,7 +20,7 @@ ghost use Rattle.sweep.specs.Sweep.{sweep};
 ghost use Rattle.sweep.specs.Terms.{SweptTo};
 ghost use Rattle.campaign.specs.Grid.{stripAt, jobOf};
 ghost use Rattle.campaign.specs.Soundness.{firstEnds, secondEnds};
-ghost use Rattle.campaign.specs.Internal.{BothCoordinates, NumberedLent, JobAsked};
+ghost use Rattle.campaign.specs.Internal.{BothCoordinates, NumberedLent, JobAsked, jobDone};
 ghost use Rattle.campaign.specs.Calls.{jobRefusal, skips, afterJob};
 
 // The refusal of a job; 0 for none.
@@ -27,9 +29,11 @@ pub(super) fn refusal(
     ax: &[i32],
     ay: &[i32],
     an: &[u32],
+    ah: &[i32],
     bx: &[i32],
     by: &[i32],
     bn: &[u32],
+    bh: &[i32],
     distance: &[u64],
     first: &[u32],
     second: &[u32],
@@ -37,12 +41,12 @@ pub(super) fn refusal(
     t: u32,
 ) -> u32
     ensures { λ r.
-        let a = lentList ax ay an .entry in
-        let b = lentList bx by bn .entry in
+        let a = lentList ax ay an ah .entry in
+        let b = lentList bx by bn bh .entry in
         let l = lentResults distance first second .entry in
         ⌜ r ≡ jobRefusal c a b l (jobOf s t) ⌝ }
 {
-    let refused = soundness::refusal(c, ax, ay, an, bx, by, bn, distance, first, second);
+    let refused = soundness::refusal(c, ax, ay, an, ah, bx, by, bn, bh, distance, first, second);
     if refused != 0 {
         return refused;
     }
@@ -65,18 +69,20 @@ pub(super) fn skips(
     c: Campaign,
     ax: &[i32],
     ay: &[i32],
+    ah: &[i32],
     bx: &[i32],
     by: &[i32],
+    bh: &[i32],
     distance: &[u64],
     s: u32,
     t: u32,
 ) -> bool
-    requires { ⌜ BothCoordinates ax ay bx by ⌝ }
+    requires { ⌜ BothCoordinates ax ay ah bx by bh ⌝ }
     requires { ⌜ JobAsked c (length (now ax)) (length (now bx)) (jobOf s t) ⌝ }
     requires { ⌜ (c .entries ≤ c .k) × (c .k ≤ length (now distance)) ⌝ }
     ensures { λ r.
         let held = results (now (distance .entry)) in
-        ⌜ NumberedLent ax ay bx by (λ a b. (first second : List ℕ)
+        ⌜ NumberedLent ax ay ah bx by bh (λ a b. (first second : List ℕ)
         → roomFor (c .k) (held first second) ≡ true
         → r ≡ skips c a b (entriesOf (c .entries) (held first second)) (jobOf s t)) ⌝ }
 {
@@ -87,7 +93,7 @@ pub(super) fn skips(
     let second_ends = c.second_ends;
     let p = ends::strip(first_ends, c.first_strips, s);
     let q = ends::strip(second_ends, c.second_strips, t);
-    let gap = strips::squared_gap(ax, ay, bx, by, p, q);
+    let gap = strips::squared_gap(ax, ay, ah, bx, by, bh, p, q);
     let last = c.entries as usize - 1;
     distance[last] < gap
 }
@@ -97,8 +103,10 @@ pub(super) fn swept(
     c: Campaign,
     ax: &[i32],
     ay: &[i32],
+    ah: &[i32],
     bx: &[i32],
     by: &[i32],
+    bh: &[i32],
     distance: &mut [u64],
     first: &mut [u32],
     second: &mut [u32],
@@ -106,13 +114,13 @@ pub(super) fn swept(
     t: u32,
     way: Way,
 ) -> Swept
-    requires { ⌜ BothCoordinates ax ay bx by ⌝ }
+    requires { ⌜ BothCoordinates ax ay ah bx by bh ⌝ }
     requires { ⌜ JobAsked c (length (now ax)) (length (now bx)) (jobOf s t) ⌝ }
     requires { ⌜ Ready (c .k) (c .entries) (results (now distance) (now first) (now second)) ⌝ }
     ensures { λ r.
         let l = lentResults distance first second in
         let old = entriesOf (c .entries) (l .entry) in
-        ⌜ NumberedLent ax ay bx by (λ a b.
+        ⌜ NumberedLent ax ay ah bx by bh (λ a b.
         SweptTo (sweep way (c .k) (stripAt (firstEnds c) a s) (stripAt (secondEnds c) b t) old)
         (l .entry) (l .exit) r) ⌝ }
 {
@@ -124,8 +132,10 @@ pub(super) fn swept(
         way,
         ax,
         ay,
+        ah,
         bx,
         by,
+        bh,
         p.from,
         p.to,
         q.from,
@@ -149,4 +159,40 @@ pub(super) fn settle(c: Campaign, s: u32, t: u32, count: u32) -> Campaign
     let after = marks::settle(before, s as usize, t as usize);
     settled.marks = after;
     settled
+}
+
+// A job that is refused: the campaign as it was.
+pub(super) fn refused(c: Campaign, number: u32) -> JobDone
+    ensures { λ r. ⌜ r ≡ jobDone c (Outcome.Refused number) ⌝ }
+{
+    JobDone {
+        campaign: c,
+        outcome: Outcome::Refused(number),
+    }
+}
+
+// A job that is skipped: settled, with as many entries.
+pub(super) fn skipped(c: Campaign, s: u32, t: u32) -> JobDone
+    requires { ⌜ (s < 32) × (t < 32) ⌝ }
+    ensures { λ r. ⌜ r ≡ jobDone (afterJob c (c .entries) (jobOf s t)) Outcome.Skipped ⌝ }
+{
+    JobDone {
+        campaign: settle(c, s, t, c.entries),
+        outcome: Outcome::Skipped,
+    }
+}
+
+// A job that was swept: settled, with the entries, looks and distances of the sweep.
+pub(super) fn done(c: Campaign, s: u32, t: u32, swept: Swept) -> JobDone
+    requires { ⌜ (s < 32) × (t < 32) ⌝ }
+    ensures { λ r. ⌜
+        r ≡ jobDone (afterJob c (swept .entries) (jobOf s t)) (Outcome.Swept (swept .looks) (swept .distances))
+        ⌝ }
+{
+    let looks = swept.looks;
+    let distances = swept.distances;
+    JobDone {
+        campaign: settle(c, s, t, swept.entries),
+        outcome: Outcome::Swept { looks, distances },
+    }
 }

@@ -13,9 +13,11 @@ pub(super) fn refusal(
     ax: &[i32],
     ay: &[i32],
     an: &[u32],
+    ah: &[i32],
     bx: &[i32],
     by: &[i32],
     bn: &[u32],
+    bh: &[i32],
     k: u32,
     first_ends: &[u32],
     second_ends: &[u32],
@@ -24,12 +26,12 @@ pub(super) fn refusal(
     second: &[u32],
 ) -> u32
     ensures { λ r.
-        let a = lentList ax ay an .entry in
-        let b = lentList bx by bn .entry in
+        let a = lentList ax ay an ah .entry in
+        let b = lentList bx by bn bh .entry in
         let l = lentResults distance first second .entry in
         ⌜ r ≡ openRefusal a b k (now («first_ends» .entry)) (now («second_ends» .entry)) l ⌝ }
 {
-    let refused = site::lists_refusal(ax, ay, an, bx, by, bn);
+    let refused = site::lists_refusal(ax, ay, an, ah, bx, by, bn, bh);
     if refused != 0 {
         return refused;
     }

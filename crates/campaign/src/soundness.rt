@@ -24,12 +24,21 @@ ghost use Rattle.campaign.specs.Internal.{
 ghost use Rattle.campaign.specs.Soundness.{soundEntry, sound, campaignRefusal};
 
 // The squared distance of the sites at two places.
-fn distance_at(ax: &[i32], ay: &[i32], bx: &[i32], by: &[i32], i: usize, j: usize) -> u64
-    requires { ⌜ BothCoordinates ax ay bx by ⌝ }
+fn distance_at(
+    ax: &[i32],
+    ay: &[i32],
+    ah: &[i32],
+    bx: &[i32],
+    by: &[i32],
+    bh: &[i32],
+    i: usize,
+    j: usize,
+) -> u64
+    requires { ⌜ BothCoordinates ax ay ah bx by bh ⌝ }
     requires { ⌜ (i < length (now ax)) × (j < length (now bx)) ⌝ }
-    ensures { λ r. ⌜ NumberedLent ax ay bx by (λ a b. r ≡ squaredDistance (siteAt a i) (siteAt b j)) ⌝ }
+    ensures { λ r. ⌜ NumberedLent ax ay ah bx by bh (λ a b. r ≡ squaredDistance (siteAt a i) (siteAt b j)) ⌝ }
 {
-    site::squared_distance(ax[i], ay[i], bx[j], by[j])
+    site::squared_distance(ax[i], ay[i], ah[i], bx[j], by[j], bh[j])
 }
 
 // Whether the entries stand in rank order.
@@ -57,17 +66,19 @@ fn sound_entry(
     e: Entry,
     ax: &[i32],
     ay: &[i32],
+    ah: &[i32],
     bx: &[i32],
     by: &[i32],
+    bh: &[i32],
     first_ends: &[u32],
     second_ends: &[u32],
     marks: &[u8],
 ) -> bool
-    requires { ⌜ BothCoordinates ax ay bx by ⌝ }
+    requires { ⌜ BothCoordinates ax ay ah bx by bh ⌝ }
     requires { ⌜ (length (now «first_ends») ≤ 32) × (length (now «second_ends») ≤ 32) ⌝ }
     ensures { λ r.
         let faultless = soundEntry (now (marks .entry)) (now («first_ends» .entry)) (now («second_ends» .entry)) in
-        ⌜ NumberedLent ax ay bx by (λ a b. r ≡ faultless a b e) ⌝ }
+        ⌜ NumberedLent ax ay ah bx by bh (λ a b. r ≡ faultless a b e) ⌝ }
 {
     let i = e.first as usize;
     let j = e.second as usize;
@@ -80,7 +91,7 @@ fn sound_entry(
     if e.distance == 0 {
         return false;
     }
-    if e.distance != distance_at(ax, ay, bx, by, i, j) {
+    if e.distance != distance_at(ax, ay, ah, bx, by, bh, i, j) {
         return false;
     }
     marks::is_settled(
@@ -98,24 +109,26 @@ fn all_sound(
     count: usize,
     ax: &[i32],
     ay: &[i32],
+    ah: &[i32],
     bx: &[i32],
     by: &[i32],
+    bh: &[i32],
     first_ends: &[u32],
     second_ends: &[u32],
     marks: &[u8],
 ) -> bool
     requires { ⌜ roomFor count (results (now distance) (now first) (now second)) ≡ true ⌝ }
-    requires { ⌜ BothCoordinates ax ay bx by ⌝ }
+    requires { ⌜ BothCoordinates ax ay ah bx by bh ⌝ }
     requires { ⌜ (length (now «first_ends») ≤ 32) × (length (now «second_ends») ≤ 32) ⌝ }
     ensures { λ r.
         let l = lentResults distance first second .entry in
         let faultless = soundEntry (now (marks .entry)) (now («first_ends» .entry)) (now («second_ends» .entry)) in
-        ⌜ NumberedLent ax ay bx by (λ a b. r ≡ all (faultless a b) (entriesOf count l)) ⌝ }
+        ⌜ NumberedLent ax ay ah bx by bh (λ a b. r ≡ all (faultless a b) (entriesOf count l)) ⌝ }
 {
     let mut i = 0;
     while i < count {
         let e = entry::entry_at(distance, first, second, i);
-        if !sound_entry(e, ax, ay, bx, by, first_ends, second_ends, marks) {
+        if !sound_entry(e, ax, ay, ah, bx, by, bh, first_ends, second_ends, marks) {
             return false;
         }
         i += 1;
@@ -147,18 +160,20 @@ fn sound_entries(
     c: Campaign,
     ax: &[i32],
     ay: &[i32],
+    ah: &[i32],
     bx: &[i32],
     by: &[i32],
+    bh: &[i32],
     distance: &[u64],
     first: &[u32],
     second: &[u32],
 ) -> bool
-    requires { ⌜ BothCoordinates ax ay bx by ⌝ }
+    requires { ⌜ BothCoordinates ax ay ah bx by bh ⌝ }
     requires { ⌜ (c .«first_strips» ≤ 32) × (c .«second_strips» ≤ 32) ⌝ }
     requires { ⌜ Room (c .k) (c .entries) (results (now distance) (now first) (now second)) ⌝ }
     ensures { λ r.
         let l = lentResults distance first second .entry in
-        ⌜ NumberedLent ax ay bx by (λ a b. r ≡ soundEntries c a b l) ⌝ }
+        ⌜ NumberedLent ax ay ah bx by bh (λ a b. r ≡ soundEntries c a b l) ⌝ }
 {
     let count = c.entries as usize;
     let rows = c.first_strips as usize;
@@ -179,8 +194,10 @@ fn sound_entries(
         count,
         ax,
         ay,
+        ah,
         bx,
         by,
+        bh,
         &first_ends[..rows],
         &second_ends[..cols],
         &marks,
@@ -193,16 +210,18 @@ fn sound(
     c: Campaign,
     ax: &[i32],
     ay: &[i32],
+    ah: &[i32],
     bx: &[i32],
     by: &[i32],
+    bh: &[i32],
     distance: &[u64],
     first: &[u32],
     second: &[u32],
 ) -> bool
-    requires { ⌜ BothCoordinates ax ay bx by ⌝ }
+    requires { ⌜ BothCoordinates ax ay ah bx by bh ⌝ }
     ensures { λ r.
         let l = lentResults distance first second .entry in
-        ⌜ NumberedLent ax ay bx by (λ a b. r ≡ sound c a b l) ⌝ }
+        ⌜ NumberedLent ax ay ah bx by bh (λ a b. r ≡ sound c a b l) ⌝ }
 {
     if !sound_plan(c, ax.len(), bx.len()) {
         return false;
@@ -213,13 +232,13 @@ fn sound(
     if c.k < c.entries {
         return false;
     }
-    if !sound_entries(c, ax, ay, bx, by, distance, first, second) {
+    if !sound_entries(c, ax, ay, ah, bx, by, bh, distance, first, second) {
         return false;
     }
     if c.entries == c.k {
         return true;
     }
-    c.entries as u64 == totals::settled_pairs(c, ax, ay, bx, by)
+    c.entries as u64 == totals::settled_pairs(c, ax, ay, ah, bx, by, bh)
 }
 
 // The refusal of a campaign, its lists and its columns; 0 for none.
@@ -228,24 +247,26 @@ pub(super) fn refusal(
     ax: &[i32],
     ay: &[i32],
     an: &[u32],
+    ah: &[i32],
     bx: &[i32],
     by: &[i32],
     bn: &[u32],
+    bh: &[i32],
     distance: &[u64],
     first: &[u32],
     second: &[u32],
 ) -> u32
     ensures { λ r.
-        let a = lentList ax ay an .entry in
-        let b = lentList bx by bn .entry in
+        let a = lentList ax ay an ah .entry in
+        let b = lentList bx by bn bh .entry in
         let l = lentResults distance first second .entry in
         ⌜ r ≡ campaignRefusal c a b l ⌝ }
 {
-    let refused = site::lists_refusal(ax, ay, an, bx, by, bn);
+    let refused = site::lists_refusal(ax, ay, an, ah, bx, by, bn, bh);
     if refused != 0 {
         return refused;
     }
-    if sound(c, ax, ay, bx, by, distance, first, second) {
+    if sound(c, ax, ay, ah, bx, by, bh, distance, first, second) {
         0
     } else {
         7

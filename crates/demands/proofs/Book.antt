@@ -12,7 +12,7 @@ use Rattle.order.specs.Lists.{all, keep, All, Distinct}
 use Rattle.order.proofs.Order.{byTest, never-both}
 use Rattle.order.proofs.Lists.{all-holds, keep-whole, all-append, all-cons, all-nil, distinct-append}
 use Rattle.order.proofs.Best.{length-best, best-perm}
-use Rattle.site.specs.declared.Site.{Site}
+use Rattle.site.specs.Site.{Site}
 use Rattle.entry.specs.declared.Entry.{Entry}
 use Rattle.entry.specs.Entry.{rankBefore, bestK}
 use Rattle.entry.proofs.Rank.{rank-order}

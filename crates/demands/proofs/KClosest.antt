@@ -14,7 +14,7 @@ use Rattle.order.proofs.Sorted.{mem-best, distinct-best, sorted-best, sort-sort
 use Rattle.order.proofs.Choice.{sort-weights, no-equal-choice-better, best-none-better}
 use Rattle.column.specs.Column.{overwritten}
 use Rattle.column.proofs.Overwritten.{take-overwritten}
-use Rattle.site.specs.declared.Site.{Site}
+use Rattle.site.specs.Site.{Site}
 use Rattle.site.specs.Answer.{answered}
 use Rattle.site.specs.SiteList.{Columns, sites}
 use Rattle.site.proofs.Answer.{answered-values}

@@ -5,7 +5,7 @@ use Prim.Native.Nat.{ℕ, _*_}
 use lib.Dec.{ltb, eqb}
 use lib.ListN.{length}
 use Rattle.order.specs.Lists.{all}
-use Rattle.site.specs.declared.Site.{Site}
+use Rattle.site.specs.Site.{Site}
 use Rattle.site.specs.Answer.{refuseIf, orElse}
 use Rattle.entry.specs.declared.Entry.{Entry}
 use Rattle.entry.specs.Entry.{bestK}

@@ -8,9 +8,8 @@ use lib.Dec.{ltb}
 use lib.ListN.{length, take}
 use Rattle.order.specs.Order.{on, lex, ascending}
 use Rattle.order.specs.Lists.{Distinct}
-use Rattle.site.specs.declared.Site.{Site}
 use Rattle.site.specs.Answer.{answered}
-use Rattle.site.specs.Site.{square}
+use Rattle.site.specs.Site.{Site, square}
 use Rattle.site.specs.SiteList.{Columns, sites}
 use Rattle.site.specs.Refusal.{listsRefusal}
 use Rattle.entry.specs.declared.Entry.{Entry}

@@ -7,7 +7,7 @@ use lib.Dec.{ltb}
 use lib.ListN.{length, getD, take}
 use Rattle.order.specs.Sort.{sort}
 use Rattle.order.specs.Lists.{Distinct}
-use Rattle.site.specs.declared.Site.{Site}
+use Rattle.site.specs.Site.{Site}
 use Rattle.site.specs.Answer.{answered, numberOf}
 use Rattle.site.specs.SiteList.{Columns, sites}
 use Rattle.entry.specs.declared.Entry.{Entry}

@@ -1,13 +1,13 @@
--- The fixed examples M1 to M10 of document 01: what the definitions compute beside what it states, both as numbers.
+-- The fixed examples M1 to M10 of document 01, with every height 0: what the definitions compute beside what it states, both
+-- as numbers.
 use mathlib.Core.Path.{_≡_}
 use mathlib.Core.List.{List, [], _∷_, map, flatMap}
 use Prim.Native.Nat.{ℕ}
 use lib.IntN.{ℤ, pos, negsuc}
 use lib.ListN.{length, replicate}
-use Rattle.site.specs.declared.Site.{Site}
 use Rattle.site.specs.Answer.{afterwards}
-use Rattle.site.specs.Site.{squaredDistance}
-use Rattle.site.specs.SiteList.{Columns, columnsOf, site}
+use Rattle.site.specs.Site.{Site, squaredDistance}
+use Rattle.site.specs.SiteList.{Columns, onGround, raisedSite, columnsOf}
 use Rattle.entry.specs.declared.Entry.{Entry}
 use Rattle.entry.specs.Results.{Results, results, entriesOf}
 use Rattle.sweep.specs.declared.Way.the-variants.{Classic, ReverseRun}
@@ -39,7 +39,13 @@ steps a b (j ∷ l) c r =
 unfoldable pub run : List Site → List Site → ℕ → List ℕ → List ℕ → List Job → List ℕ
 run a b k ends ends' l =
     let r = results (replicate k 0) (replicate k 0) (replicate k 0) in
-    afterwards (λ c. steps (columnsOf a) (columnsOf b) l c r) (openAnswer (columnsOf a) (columnsOf b) k ends ends' r) []
+    let first = onGround (columnsOf a) in
+    let second = onGround (columnsOf b) in
+    afterwards (λ c. steps first second l c r) (openAnswer first second k ends ends' r) []
+
+-- A site on the ground.
+abbrev site : ℤ → ℤ → ℕ → Site
+site x y number = raisedSite x y number (pos 0)
 
 -- M1 to M10 in their order: what is computed, and what is stated.
 unfoldable pub examples : List (List ℕ × List ℕ)

@@ -1,6 +1,6 @@
 -- Own examples beside the definitions of the case listing: each is computed.
 use mathlib.Core.Path.{_≡_, refl}
-use mathlib.Core.List.{List, [], _∷_, _++_, flatMap}
+use mathlib.Core.List.{List, [], _∷_, _++_, zipWith, flatMap}
 use Prim.Native.Nat.{ℕ}
 use lib.IntN.{pos}
 use lib.ListN.{take, drop, replicate}
@@ -12,7 +12,7 @@ use Rattle.site_file.specs.Calls.{contentsRefusal, readRefusal}
 use Rattle.site.specs.Answer.{orElse}
 use Rattle.site.specs.SiteList.{site, siteAt}
 use Rattle.site.specs.Refusal.{contentRefusal}
-use Rattle.site.specs.Site.{within, lawfulSite, gap, square, squaredDistance, siteBefore}
+use Rattle.site.specs.Site.{between, within, heightWithin, allWithin, lawfulSite, gap, square, squaredDistance, siteBefore}
 use Rattle.order.specs.Lists.{keep, all, sum}
 use Rattle.order.specs.Order.{lex, ascending}
 use Rattle.order.specs.Sort.{insert, sort}
@@ -45,8 +45,8 @@ listings : (listing sampleInput ≡ sampleText)
 unfolding
     sampleInput sampleText bytes powersBelow decimal keep line siteAt entryLines listingText refusedText
     listingRefusal listing word signed startIn countIn siteIn sitesFrom sitesIn contentsRefusal readRefusal orElse
-    contentRefusal within lawfulSite gap square squaredDistance siteBefore all sum lex ascending insert sort
-    rankBefore apart kList bestK placedFrom whole pair product flatMap pairs lawfulK
+    contentRefusal between within heightWithin allWithin lawfulSite gap square squaredDistance siteBefore all sum lex ascending insert sort
+    rankBefore apart kList bestK placedFrom whole pair product flatMap zipWith pairs lawfulK
 listings = (refl, refl, refl, refl)
 
 -- An input that is too long, whatever it holds.
@@ -59,5 +59,5 @@ co-sited : (listingText 1 (site (pos 0) (pos 0) 5 ∷ []) (site (pos 0) (pos 0) 
     × (listingText 9 (site (pos 2) (pos 3) 5 ∷ site (pos 2) (pos 3) 6 ∷ []) (site (pos 2) (pos 3) 5 ∷ []) ≡ bytes "pairs 0 of 0\n")
 unfolding
     bytes powersBelow decimal keep line siteAt entryLines listingText gap square squaredDistance sum lex insert sort
-    rankBefore apart kList bestK placedFrom whole pair product flatMap pairs
+    rankBefore apart kList bestK placedFrom whole pair product flatMap zipWith pairs
 co-sited = (refl, refl)

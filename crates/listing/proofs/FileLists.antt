@@ -1,7 +1,7 @@
 -- Sites of a file, read into columns one by one.
 use mathlib.Core.Path.{_≡_, refl, sym, ap, _∙_}
-use mathlib.Core.List.{List, map}
-use Prim.Native.Nat.{ℕ, suc, _+_, _≤_, _<_}
+use mathlib.Core.List.{List, [], _∷_, map}
+use Prim.Native.Nat.{ℕ, zero, suc, _+_, _≤_, _<_}
 use native.Mathlib.Numerals.{add-one}
 use native.Mathlib.Omega.{arith}
 use lib.IntN.{ℤ, pos}
@@ -10,20 +10,21 @@ use lib.Seq.{length-take-le, take-suc, take-suc-set, take-all}
 use mir.Syntax.{w32}
 use mir.Val.{SFits, toZ, ofZ}
 use mir.Facts.{toZ-ofZ}
-use Rattle.site.specs.declared.Site.{Site}
+use Rattle.site.specs.Site.{Site}
 use Rattle.site.specs.SiteList.{Columns, columns, sites, siteAt, columnsOf}
 use Rattle.site.specs.Answer.{refused, answered, orElse}
 use Rattle.site.specs.Refusal.{listsRefusal}
-use Rattle.site.proofs.SiteList.{nowhere, columns-sites}
+use Rattle.site.proofs.SiteList.{nowhere, columns-sites, columns-length}
 use Rattle.site_file.specs.declared.Which.{Which}
 use Rattle.site_file.specs.declared.Which.the-variants.{First, Second}
 use Rattle.site_file.specs.declared.SiteRead.{SiteRead}
 use Rattle.site_file.specs.declared.SiteRead.the-variants.{Found, Refused}
-use Rattle.site_file.specs.File.{countIn, sitesIn}
+use Rattle.site_file.specs.declared.FileSite.{FileSite}
+use Rattle.site_file.specs.File.{siteOfFile, countIn, sitesIn}
 use Rattle.site_file.specs.Calls.{contentsRefusal, siteAnswer, siteReadAnswer}
 use Rattle.site_file.proofs.File.{list-length}
 use Rattle.site_file.proofs.ReadAnswer.{inside, read-laid, site-found}
-use Rattle.site_file.proofs.SitesIn.{columns-accepted}
+use Rattle.site_file.proofs.SitesIn.{list-flat, columns-accepted}
 use Rattle.listing.specs.Listing.{listingText}
 use Rattle.listing.specs.Internal.{fileText, Put, Lawful, Sized, FileLists}
 
@@ -53,7 +54,7 @@ module _ {A : Type 0} (values : List A) where
 -- ---- the sites of a list
 
 -- What is stored of a site that was read.
-module _ (i : ℕ) {s t : Site} (e : s ≡ t) where
+module _ (i : ℕ) {s : FileSite} {t : Site} (e : siteOfFile s ≡ t) where
   pub x-stored : (xs : List ℤ) → SFits w32 (s .x) → set xs i (toZ w32 (ofZ w32 (s .x))) ≡ set xs i (t .x)
   x-stored xs h = ap (set xs i) (toZ-ofZ h ∙ ap (λ r. r .x) e)
 
@@ -69,10 +70,10 @@ module _ (file : List ℕ) (w : Which) (i : ℕ) (r : SiteRead) (answer : siteRe
   found : siteReadAnswer r ≡ answered (siteAt (sitesIn file w) i)
   found = answer ∙ site-found file w i none h
 
-  pub found-site : {s : Site} → r ≡ Found s → s ≡ siteAt (sitesIn file w) i
+  pub found-site : {s : FileSite} → r ≡ Found s → siteOfFile s ≡ siteAt (sitesIn file w) i
   unfolding siteReadAnswer
   found-site {s} e =
-      let same : answered s ≡ answered (siteAt (sitesIn file w) i) = sym (ap siteReadAnswer e) ∙ found in
+      let same : answered (siteOfFile s) ≡ answered (siteAt (sitesIn file w) i) = sym (ap siteReadAnswer e) ∙ found in
       cc
 
   pub found-always : {n : ℕ} → r ≡ Refused n → ⊥
@@ -155,14 +156,29 @@ module _ (file : List ℕ) (k : ℕ) {a b : Columns} (p : a ≡ columnsOf (sites
         room = f .room;
       }
 
+  pub read-few : (countIn file First ≤ 4_000) × (countIn file Second ≤ 4_000) → (length (a .x) ≤ 4_000) × (length (b .x) ≤ 4_000)
+  read-few few = (
+    rw (p, columns-length (sitesIn file First), list-length file First) (few .0),
+    rw (q, columns-length (sitesIn file Second), list-length file Second) (few .1),
+  )
+
   pub read-text : {z : ℕ} {before after : List ℕ} → Put 0 (listingText k (sites a) (sites b)) before after z
       → Put 0 (fileText k file) before after z
-  read-text t = rw (p, q, columns-sites (sitesIn file First), columns-sites (sitesIn file Second)) at t
+  read-text t = rw (p, q, columns-sites (sitesIn file First) (list-flat file First), columns-sites (sitesIn file Second) (list-flat file Second)) at t
 
 -- The lists of a file of at most 48,016 bytes have at most 4,000 sites.
 pub file-few : {file : List ℕ} {k : ℕ} {buffer : List ℕ} → FileLists file k buffer × (length file ≤ 48_016)
     → (w : Which) {n : ℕ} → n ≡ countIn file w → n ≤ 4_000
 file-few {file} f w e = let g = inside file w (read-laid file (f .0 .accepted)) in omega (arith, f .1)
+
+-- So many zeros are the heights of sites on the ground.
+pub zeros-grounded : (xs : List ℤ) → length xs ≤ 4_000 → take (length xs) (replicate 4_000 (pos 0)) ≡ map (λ x. pos 0) xs
+zeros-grounded xs h = zeros xs 4_000 h
+  where
+    zeros : (xs : List ℤ) (n : ℕ) → length xs ≤ n → take (length xs) (replicate n (pos 0)) ≡ map (λ x. pos 0) xs
+    zeros [] n h = refl
+    zeros (x ∷ xs) zero h = absurd (omega arith)
+    zeros (x ∷ xs) (suc n) h = ap (λ (l : List ℤ). pos 0 ∷ l) (zeros xs n (omega arith))
 
 -- The first elements of a column of 4,000 zeros.
 pub zeros-part : {A : Type 0} (z : A) (n : ℕ) → n ≤ 4_000 → n ≡ length (take n (replicate 4_000 z))

@@ -1,20 +1,22 @@
 -- The text of two lists from their number columns and their K list.
 use mathlib.Core.Path.{_≡_, refl, sym, ap, _∙_}
 use mathlib.Core.Bool.{true}
-use mathlib.Core.List.{List, [], _∷_}
+use mathlib.Core.List.{List, [], _∷_, map}
 use Prim.Native.Nat.{ℕ, suc, _+_, _*_, _≤_}
 use native.Mathlib.Omega.{arith}
+use lib.IntN.{ℤ, pos}
 use lib.ListN.{length, replicate, List·getD-eq-default}
 use borrow.Author.Tests.{ltb-true, ltb-false}
 use lib.Dec.{ltb}
 use Rattle.order.proofs.Order.{byTest}
 use Rattle.order.proofs.Best.{length-best}
-use Rattle.site.specs.SiteList.{Columns, sites, siteAt}
+use Rattle.site.specs.SiteList.{Columns, raised, Plane, onGround, sites, siteAt}
 use Rattle.site.specs.Terms.{Level, Numbered}
 use Rattle.site.specs.Answer.{orElse}
 use Rattle.site.specs.Refusal.{listRefusal, listsRefusal}
 use Rattle.site.proofs.Answer.{answered-values, refused-number}
-use Rattle.site.proofs.Accepted.{accepted-level, accepted-coordinates, both-accepted}
+use Rattle.site.proofs.Accepted.{accepted-level, accepted-coordinates, accepted-heights, both-accepted}
+use Rattle.site.proofs.Ground.{ground-lists}
 use Rattle.site.proofs.SiteList.{nowhere, sites-length, site-at}
 use Rattle.entry.specs.declared.Entry.{Entry}
 use Rattle.entry.specs.Entry.{rankBefore, bestK}
@@ -30,8 +32,11 @@ use Rattle.pairs.specs.declared.Listed.{Listed}
 use Rattle.pairs.specs.declared.Listed.the-variants.{Entries, Refused}
 use Rattle.pairs.specs.KList.{kList, kListRefusal, kListAnswer, listedAnswer}
 use Rattle.pairs.proofs.KList.{whole-strip}
+use Rattle.plane.specs.Plane.{HeightsOfZero}
+use Rattle.plane.proofs.PairLists.{pairs-same}
+use Rattle.plane.proofs.Plane.{heights-of-zero}
 use Rattle.listing.specs.Listing.{entryLines, listingText}
-use Rattle.listing.specs.Internal.{heading, numberAt, entriesText, Put, Lawful}
+use Rattle.listing.specs.Internal.{heading, numberAt, entriesText, Put, Lawful, Grounded}
 
 -- A site's number stands in the column of numbers.
 pub site-number : (c : Columns) → Level c → (i : ℕ) → siteAt (sites c) i .number ≡ numberAt (c .number) i
@@ -67,22 +72,44 @@ module _ (a b : Columns) (lists : listsRefusal a b ≡ 0) where
   both-level : Level a × Level b
   both-level = (accepted-level a (both .0), accepted-level b (both .1))
 
-  -- What the count of all pairs asks, and tells.
-  pub count-asks : StripIn (a .x) (a .y) 0 (length (a .x)) × StripIn (b .x) (b .y) 0 (length (b .x))
-  count-asks = (
-    record { lawful = accepted-coordinates a (both .0); range = omega arith; inside = omega arith },
-    record { lawful = accepted-coordinates b (both .1); range = omega arith; inside = omega arith },
-  )
-
-  abbrev Counted : ℕ → Type 0
-  Counted n =
-      Numbered (a .x) (a .y) (b .x) (b .y)
+  abbrev Counted : List ℤ → List ℤ → ℕ → Type 0
+  Counted ah bh n =
+      Numbered (a .x) (a .y) ah (b .x) (b .y) bh
       (λ p q. n ≡ length (pairs (strip 0 (length (a .x)) p) (strip 0 (length (b .x)) q)))
 
-  all-counted : {n : ℕ} → Counted n → n ≡ length (allPairs (sites a) (sites b))
-  all-counted w =
-      rw (whole-strip a (both .0), whole-strip b (both .1)) at
-      (w .numbered (a .number) (b .number) (both-level .0) (both-level .1))
+  -- With every height 0.
+  module _ (pa : Plane a) (pb : Plane b) {ah bh : List ℤ} (e : Grounded (a .x) ah) (f : Grounded (b .x) bh) where
+    up : (listRefusal (onGround a) ≡ 0) × (listRefusal (onGround b) ≡ 0)
+    up = both-accepted (onGround a) (onGround b) (ground-lists a b pa pb ∙ lists)
+
+    -- What the count of all pairs asks, and tells.
+    pub count-asks : StripIn (a .x) (a .y) ah 0 (length (a .x)) × StripIn (b .x) (b .y) bh 0 (length (b .x))
+    count-asks = (
+      record {
+        lawful = accepted-coordinates a (both .0);
+        heights = rw e (accepted-heights _ _ _ _ (up .0));
+        range = omega arith;
+        inside = omega arith;
+      },
+      record {
+        lawful = accepted-coordinates b (both .1);
+        heights = rw f (accepted-heights _ _ _ _ (up .1));
+        range = omega arith;
+        inside = omega arith;
+      },
+    )
+
+    all-counted : {n : ℕ} → Counted ah bh n → n ≡ length (allPairs (sites a) (sites b))
+    all-counted {n} w =
+        let grounded : Counted (map (λ x. pos 0) (a .x)) (map (λ x. pos 0) (b .x)) n = rw (e, f) at w in
+        let counted = grounded .numbered (a .number) (b .number) (accepted-level (onGround a) (up .0)) (accepted-level (onGround b) (up .1)) in
+        rw (whole-strip (onGround a) (up .0), whole-strip (onGround b) (up .1)) at counted ∙ ap length (pairs-same a b pa pb)
+
+-- The K list of two lists of the plane that are lent with every height 0.
+pub on-plane : (way : Way) (a b : Columns) (k : ℕ) (r : Results) {ah bh : List ℤ} → Plane a → Plane b → Grounded (a .x) ah → Grounded (b .x) bh
+    → kListAnswer way (raised (a .x) (a .y) (a .number) ah) (raised (b .x) (b .y) (b .number) bh) k r ≡ kListAnswer way a b k r
+unfolding HeightsOfZero
+on-plane way a b k r pa pb e f = rw (e, f) (heights-of-zero a b pa pb .kLists way k r)
 
 -- ---- the K list in the result columns
 
@@ -125,15 +152,16 @@ module _ (way : Way) (a b : Columns) (k : ℕ) (r : Results) {buffer : List ℕ}
         omega (arith, lawful .room, few, values .1),
       )
 
-      pub text-written : {total z : ℕ} {before after : List ℕ} → Counted a b (lawful .lists) total
+      pub text-written : {total z : ℕ} {before after : List ℕ} {ah bh : List ℤ} → Plane a → Plane b → Grounded (a .x) ah → Grounded (b .x) bh
+          → Counted a b (lawful .lists) ah bh total
           → Put 0 (entriesText (a .number) (b .number) total (entriesOf count s)) before after z
           → Put 0 (listingText k (sites a) (sites b)) before after z
       unfolding found
-      text-written {total} all p =
+      text-written {total} pa pb ga gb all p =
           let same : entriesOf count s ≡ kList k (sites a) (sites b) =
           rw (values .0, values .1) (entries-holding found r) in
           let level = both-level a b (lawful .lists) in
-          rw (listing-text k a b (level .0) (level .1), ← same, ← all-counted a b (lawful .lists) all) p
+          rw (listing-text k a b (level .0) (level .1), ← same, ← all-counted a b (lawful .lists) pa pb ga gb all) p
 
 -- Result columns of 4,096 zeros have room.
 pub zeros-room : roomFor 4_096 (results (replicate 4_096 0) (replicate 4_096 0) (replicate 4_096 0)) ≡ true

@@ -3,6 +3,7 @@ use mathlib.Core.Path.{_≡_}
 use mathlib.Core.Bool.{true}
 use mathlib.Core.List.{List, [], _∷_, _++_, map}
 use Prim.Native.Nat.{ℕ, _+_, _/_, _%_, _≤_, _<_}
+use lib.IntN.{ℤ, pos}
 use lib.ListN.{length, getD}
 use Rattle.column.specs.Column.{stored}
 use Rattle.column.specs.Lent.{Lent}
@@ -62,6 +63,10 @@ pub record Lawful (a b : Columns) (k : ℕ) (buffer : List ℕ) : Type 0 where
   pub lists : listsRefusal a b ≡ 0
   pub some : lawfulK k ≡ true
   pub room : 344_115 ≤ length buffer
+
+-- A column of heights that are all 0, as many as the sites.
+abbrev pub Grounded : List ℤ → List ℤ → Type 0
+Grounded xs hs = hs ≡ map (λ x. pos 0) xs
 
 -- Columns of a given length.
 pub record Sized (n : ℕ) (c : Columns) : Type 0 where

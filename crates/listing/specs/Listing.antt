@@ -6,7 +6,7 @@ use Prim.Native.Char.{code}
 use Prim.Native.String.{String, [] as noText, _∷_ as _before_}
 use lib.Dec.{ltb}
 use lib.ListN.{length, drop}
-use Rattle.site.specs.declared.Site.{Site}
+use Rattle.site.specs.Site.{Site}
 use Rattle.site.specs.Answer.{refuseIf, orElse}
 use Rattle.site.specs.SiteList.{siteAt}
 use Rattle.entry.specs.declared.Entry.{Entry}

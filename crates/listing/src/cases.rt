@@ -10,21 +10,24 @@ ghost use mathlib.Core.Path.{_≡_};
 ghost use mathlib.Core.Bool.{true};
 ghost use Prim.Native.Nat.{_≤_};
 ghost use lib.ListN.{length};
-ghost use Rattle.site.specs.SiteList.{columns, lentList, sites};
+ghost use Rattle.site.specs.SiteList.{columns, lentPlane, sites};
 ghost use Rattle.column.specs.Column.{overwritten};
 ghost use Rattle.entry.specs.Results.{results, roomFor};
 ghost use Rattle.site_file.specs.File.{countIn};
 ghost use Rattle.listing.specs.Listing.{listingText, listing};
-ghost use Rattle.listing.specs.Internal.{fileText, Puts, Lawful, Sized, FileLists};
+ghost use Rattle.listing.specs.Internal.{fileText, Puts, Lawful, Grounded, Sized, FileLists};
 
-// Writes the text for two lists, whose K list the result columns take: the position past it.
+// Writes the text for two lists of the plane, whose K list the result columns take: the position past it. They are lent with
+// every height 0.
 fn list_with(
     ax: &[i32],
     ay: &[i32],
     an: &[u32],
+    ah: &[i32],
     bx: &[i32],
     by: &[i32],
     bn: &[u32],
+    bh: &[i32],
     k: u32,
     distance: &mut [u64],
     first: &mut [u32],
@@ -32,14 +35,29 @@ fn list_with(
     out: &mut [u8],
 ) -> usize
     requires { ⌜ Lawful (columns (now ax) (now ay) (now an)) (columns (now bx) (now by) (now bn)) k (now out) ⌝ }
+    requires { ⌜ Grounded (now ax) (now ah) × Grounded (now bx) (now bh) ⌝ }
     requires { ⌜ roomFor 4096 (results (now distance) (now first) (now second)) ≡ true ⌝ }
     ensures { λ r.
-        let a = lentList ax ay an .entry in
-        let b = lentList bx by bn .entry in
+        let a = lentPlane ax ay an .entry in
+        let b = lentPlane bx by bn .entry in
         ⌜ Puts 0 (listingText k (sites a) (sites b)) out r ⌝ }
 {
     let way = Way::ReverseRun;
-    match pairs::k_list(way, ax, ay, an, bx, by, bn, k, distance, first, second) {
+    match pairs::k_list(
+        way,
+        ax,
+        ay,
+        an,
+        ah,
+        bx,
+        by,
+        bn,
+        bh,
+        k,
+        distance,
+        first,
+        second,
+    ) {
         Listed::Entries {
             count,
             looks: _,
@@ -47,14 +65,14 @@ fn list_with(
         } => {
             let n = ax.len();
             let m = bx.len();
-            let total = sweep::count_pairs(ax, ay, bx, by, 0, n, 0, m);
+            let total = sweep::count_pairs(ax, ay, ah, bx, by, bh, 0, n, 0, m);
             body::put_text(an, bn, distance, first, second, count as usize, total, out)
         }
         Listed::Refused(number) => line::put_refused(out, 0, number),
     }
 }
 
-// Writes the text for two lists: the position past it.
+// Writes the text for two lists of the plane, of at most 4,000 sites each: the position past it.
 fn list_columns(
     ax: &[i32],
     ay: &[i32],
@@ -66,11 +84,16 @@ fn list_columns(
     out: &mut [u8],
 ) -> usize
     requires { ⌜ Lawful (columns (now ax) (now ay) (now an)) (columns (now bx) (now by) (now bn)) k (now out) ⌝ }
+    requires { ⌜ (length (now ax) ≤ 4_000) × (length (now bx) ≤ 4_000) ⌝ }
     ensures { λ r.
-        let a = lentList ax ay an .entry in
-        let b = lentList bx by bn .entry in
+        let a = lentPlane ax ay an .entry in
+        let b = lentPlane bx by bn .entry in
         ⌜ Puts 0 (listingText k (sites a) (sites b)) out r ⌝ }
 {
+    let n = ax.len();
+    let m = bx.len();
+    let first_heights = [0i32; 4000];
+    let second_heights = [0i32; 4000];
     let mut distance = [0u64; 4096];
     let mut first = [0u32; 4096];
     let mut second = [0u32; 4096];
@@ -78,9 +101,11 @@ fn list_columns(
         ax,
         ay,
         an,
+        &first_heights[..n],
         bx,
         by,
         bn,
+        &second_heights[..m],
         k,
         &mut distance,
         &mut first,
@@ -102,6 +127,7 @@ fn list_sites(
     out: &mut [u8],
 ) -> usize
     requires { ⌜ FileLists (now file) k (now out) ⌝ }
+    requires { ⌜ (countIn (now file) Which.First ≤ 4_000) × (countIn (now file) Which.Second ≤ 4_000) ⌝ }
     requires { ⌜ Sized (countIn (now file) Which.First) (columns (now ax) (now ay) (now an)) ⌝ }
     requires { ⌜ Sized (countIn (now file) Which.Second) (columns (now bx) (now by) (now bn)) ⌝ }
     ensures { λ r. ⌜ Puts 0 (fileText k (now (file .entry))) out r ⌝ }

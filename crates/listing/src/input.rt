@@ -5,7 +5,7 @@ use site_file::Which;
 ghost use mathlib.Core.Path.{_≡_};
 ghost use Prim.Native.Nat.{_<_};
 ghost use lib.ListN.{set};
-ghost use Rattle.site.specs.SiteList.{columns, lentList, siteAt, columnsOf};
+ghost use Rattle.site.specs.SiteList.{columns, lentPlane, siteAt, columnsOf};
 ghost use Rattle.site_file.specs.File.{countIn, sitesIn};
 ghost use Rattle.site_file.specs.Calls.{contentsRefusal, readRefusal};
 ghost use Rattle.listing.specs.Listing.{listingRefusal};
@@ -45,7 +45,7 @@ pub(super) fn read_sites(
 )
     requires { ⌜ contentsRefusal (now file) ≡ 0 ⌝ }
     requires { ⌜ Sized (countIn (now file) which) (columns (now x) (now y) (now number)) ⌝ }
-    ensures { λ _. ⌜ lentList x y number .exit ≡ columnsOf (sitesIn (now (file .entry)) which) ⌝ }
+    ensures { λ _. ⌜ lentPlane x y number .exit ≡ columnsOf (sitesIn (now (file .entry)) which) ⌝ }
 {
     let count = x.len();
     let mut i = 0;

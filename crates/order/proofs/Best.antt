@@ -6,7 +6,7 @@ use Prim.Native.Nat.{ℕ, zero, suc, _+_, min}
 use native.Mathlib.Omega.{arith}
 use lib.ListN.{length, take, length-take}
 use lib.Seq.{take-take}
-use Rattle.order.proofs.Order.{StrictOrder, byTest, never-both, irrefl}
+use Rattle.order.proofs.Order.{StrictOrder, byTest, never-both, irrefl, before-trans}
 use Rattle.order.specs.Sort.{insert, sort}
 
 -- The first `k` of a list by the order, or all where there are fewer.
@@ -107,7 +107,7 @@ module _ {A : Type 0} {before : A → A → Bool} (o : StrictOrder before) where
   comm-at a b p (h ∷ t) =
       byTest (before h b)
       (λ hb.
-      let ha : before h a ≡ true = o .trans h b a hb p in
+      let ha : before h a ≡ true = before-trans o h b a hb p in
       rw (insert-later before b h t hb, insert-later before a h t ha, insert-later before a h _ ha, insert-later before b h _ hb)
       (ap (λ (r : List A). h ∷ r) (comm-at a b p t)))
       (λ hb. rw (insert-here before b h t hb, insert-later before a b (h ∷ t) p)

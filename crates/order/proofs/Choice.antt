@@ -10,7 +10,7 @@ use lib.ListN.{length, take, drop, getD, take-append-drop, length-take, length-d
 use borrow.Author.Tests.{le-ltb}
 use Rattle.order.specs.Terms.{Sorted}
 use Rattle.order.proofs.Sorted.{Ascends, sort-is-perm, mem-sort, sort-mem, sorted-sort, sort-sorted, ascends-sort, ascends-sorted, ascends-apart, mem-later}
-use Rattle.order.proofs.Order.{StrictOrder, byTest, irrefl, weak-trans, ltb-order}
+use Rattle.order.proofs.Order.{StrictOrder, byTest, irrefl, before-trans, ltb-order}
 use Rattle.order.specs.Lists.{All, Distinct}
 use Rattle.order.specs.Sort.{sort}
 use Rattle.order.proofs.Best.{best, length-sort, length-best, sort-perm}
@@ -28,7 +28,7 @@ module _ {A : Type 0} {before : A → A → Bool} (o : StrictOrder before) where
   unfolding Dominates Sorted All
   dominates-front a l [] s h = tt
   dominates-front a [] (c ∷ cs) s h = absurd h
-  dominates-front a (b ∷ l) (c ∷ cs) s h = (weak-trans o a b c (s .0 .0) (h .0), dominates-front b l cs (s .1) (h .1))
+  dominates-front a (b ∷ l) (c ∷ cs) s h = (o .weak a b c (s .0 .0) (h .0), dominates-front b l cs (s .1) (h .1))
 
   -- A list that ascends dominates each that ascends and has its members among the first's.
   dominates-members : (l cs : List A) → Ascends before l → Ascends before cs → ((x : A) → List·Memᴰ x cs → List·Memᴰ x l)
@@ -46,7 +46,7 @@ module _ {A : Type 0} {before : A → A → Bool} (o : StrictOrder before) where
       (λ (r : List·Memᴰ c l).
       let first : before a c ≡ true = all-mem (λ y. before a y ≡ true) (s .0) r in
       let later : All (λ x. before a x ≡ true) cs =
-      all-weaken (λ x. before c x ≡ true) (λ x. before a x ≡ true) (λ x u. o .trans a c x first u) cs (t .0) in
+      all-weaken (λ x. before c x ≡ true) (λ x. before a x ≡ true) (λ x u. before-trans o a c x first u) cs (t .0) in
       dominates-front a l (c ∷ cs) (ascends-sorted o (a ∷ l) s)
       (dominates-members l (c ∷ cs) (s .1) t
       (λ x m. mem-later o a x l (all-mem (λ y. before a y ≡ true) {l = c ∷ cs} (first, later) m) (f x m))))

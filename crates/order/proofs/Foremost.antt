@@ -5,13 +5,13 @@ use mathlib.Core.List.{List, [], _∷_, foldl}
 use Rattle.order.specs.Lists.{All, last}
 use Rattle.order.specs.Order.{after, firstOf, foremost}
 use Rattle.order.specs.Terms.{Sorted}
-use Rattle.order.proofs.Order.{StrictOrder, byTest, irrefl, weak-trans}
+use Rattle.order.proofs.Order.{StrictOrder, byTest, irrefl}
 
 -- A strict order the other way round is one.
 pub after-order : {A : Type 0} {before : A → A → Bool} → StrictOrder before → StrictOrder (after before)
 after-order o = record {
   asym = λ a b h. o .asym b a h;
-  trans = λ a b c h g. o .trans c b a g h;
+  weak = λ a b c h g. o .weak c b a g h;
   total = λ a b h g. o .total a b g h;
 }
 
@@ -52,7 +52,7 @@ module _ {A : Type 0} {before : A → A → Bool} (o : StrictOrder before) where
       let r = foldl (firstOf before) m l in
       let rest = none-before m l in
       let here = first-of-none a b in
-      (weak-trans o r m a (rest .0) (here .0), (weak-trans o r m b (rest .0) (here .1), rest .1))
+      (o .weak r m a (rest .0) (here .0), (o .weak r m b (rest .0) (here .1), rest .1))
 
   -- No element comes before it.
   pub foremost-none : (d : A) (l : List A) → All (λ b. before b (foremost before d l) ≡ false) l

@@ -9,12 +9,6 @@ use lib.Signed.{ltZ}
 use borrow.Author.Tests.{ltb-true, ltb-false, lt-ltb, le-ltb}
 use Rattle.order.specs.Order.{on, lex}
 
--- A strict total order: never both ways, transitive, and two elements of which neither comes first are the same.
-pub record StrictOrder {A : Type 0} (before : A → A → Bool) : Type 0 where
-  pub asym : (a b : A) → before a b ≡ true → before b a ≡ false
-  pub trans : (a b c : A) → before a b ≡ true → before b c ≡ true → before a c ≡ true
-  pub total : (a b : A) → before a b ≡ false → before b a ≡ false → a ≡ b
-
 -- A proof by the two values of a test.
 pub byTest : {P : Type 0} → (b : Bool) → (b ≡ true → P) → (b ≡ false → P) → P
 byTest true t f = t refl
@@ -31,45 +25,50 @@ pub record OrderUpTo {A : Type 0} (same : A → A → Type 0) (before : A → A 
   pub weak : (a b c : A) → before b a ≡ false → before c b ≡ false → before c a ≡ false
   pub total : (a b : A) → before a b ≡ false → before b a ≡ false → same a b
 
-module _ {A : Type 0} {before : A → A → Bool} where
-  -- Nothing comes before itself.
-  pub irrefl : StrictOrder before → (a : A) → before a a ≡ false
-  irrefl o a = byTest (before a a) (λ t. o .asym a a t) (λ f. f)
+-- A strict order: an order up to equality.
+abbrev pub StrictOrder : {A : Type 0} → (A → A → Bool) → Type 0
+StrictOrder before = OrderUpTo (λ a b. a ≡ b) before
 
-  -- Not coming before is transitive.
-  pub weak-trans : StrictOrder before → (a b c : A) → before b a ≡ false → before c b ≡ false → before c a ≡ false
-  weak-trans o a b c p q =
-      byTest (before c a)
-      (λ t. byTest (before a b) (λ u. never-both (o .trans c a b t u) q) (λ u. let e : a ≡ b = o .total a b u p in rw e q))
-      (λ f. f)
+module _ {A : Type 0} {same : A → A → Type 0} {before : A → A → Bool} (o : OrderUpTo same before) where
+  -- Nothing comes before itself.
+  pub irrefl : (a : A) → before a a ≡ false
+  irrefl a = byTest (before a a) (λ t. o .asym a a t) (λ f. f)
+
+  -- Coming before is transitive.
+  pub before-trans : (a b c : A) → before a b ≡ true → before b c ≡ true → before a c ≡ true
+  before-trans a b c p q = byTest (before a c) (λ t. t) (λ f. never-both q (o .weak c a b f (o .asym a b p)))
 
   -- `a` comes before what does not come before `b`, where it comes before `b`.
-  pub before-weak : StrictOrder before → (a b c : A) → before a b ≡ true → before c b ≡ false → before a c ≡ true
-  before-weak o a b c p q = byTest (before a c) (λ t. t) (λ f. never-both p (weak-trans o b c a q f))
+  pub before-weak : (a b c : A) → before a b ≡ true → before c b ≡ false → before a c ≡ true
+  before-weak a b c p q = byTest (before a c) (λ t. t) (λ f. never-both p (o .weak b c a q f))
 
   -- What does not come after `b` comes before what `b` comes before.
-  pub weak-before : StrictOrder before → (a b c : A) → before b a ≡ false → before b c ≡ true → before a c ≡ true
-  weak-before o a b c p q = byTest (before a c) (λ t. t) (λ f. never-both q (weak-trans o c a b f p))
-
-  -- A strict order is an order up to equality.
-  pub up-to-equality : StrictOrder before → OrderUpTo (λ a b. a ≡ b) before
-  up-to-equality o = record { asym = o .asym; weak = weak-trans o; total = o .total }
+  pub weak-before : (a b c : A) → before b a ≡ false → before b c ≡ true → before a c ≡ true
+  weak-before a b c p q = byTest (before a c) (λ t. t) (λ f. never-both q (o .weak c a b f p))
 
   -- An order up to a sameness that is equality is strict.
-  pub strict : {same : A → A → Type 0} → OrderUpTo same before → ((a b : A) → same a b → a ≡ b) → StrictOrder before
-  strict o equal = record {
-    asym = o .asym;
-    trans = λ a b c p q. byTest (before a c) (λ t. t) (λ f. never-both q (o .weak c a b f (o .asym a b p)));
-    total = λ a b p q. equal a b (o .total a b p q);
-  }
+  pub strict : ((a b : A) → same a b → a ≡ b) → StrictOrder before
+  strict equal = record { asym = o .asym; weak = o .weak; total = λ a b p q. equal a b (o .total a b p q) }
+
+-- What is transitive and tells any two apart that are not the same is a strict order.
+pub by-trans : {A : Type 0} {before : A → A → Bool} → ((a b : A) → before a b ≡ true → before b a ≡ false)
+    → ((a b c : A) → before a b ≡ true → before b c ≡ true → before a c ≡ true)
+    → ((a b : A) → before a b ≡ false → before b a ≡ false → a ≡ b) → StrictOrder before
+by-trans {before = before} asym trans total = record {
+  asym = asym;
+  weak = λ a b c p q.
+      byTest (before c a)
+      (λ t. byTest (before a b) (λ u. never-both (trans c a b t u) q) (λ u. let e : a ≡ b = total a b u p in rw e q))
+      (λ f. f);
+  total = total;
+}
 
 -- Smaller first, of numbers.
 pub ltb-order : StrictOrder ltb
-ltb-order = record {
-  asym = λ a b h. le-ltb b a (omega (arith, ltb-true a b h));
-  trans = λ a b c h g. lt-ltb a c (omega (arith, ltb-true a b h, ltb-true b c g));
-  total = λ a b h g. omega (arith, ltb-false a b h, ltb-false b a g);
-}
+ltb-order =
+    by-trans (λ a b h. le-ltb b a (omega (arith, ltb-true a b h)))
+    (λ a b c h g. lt-ltb a c (omega (arith, ltb-true a b h, ltb-true b c g)))
+    (λ a b h g. omega (arith, ltb-false a b h, ltb-false b a g))
 
 ltZ-asym : (a b : ℤ) → ltZ a b ≡ true → ltZ b a ≡ false
 ltZ-asym (pos a) (pos b) h = ltb-order .asym a b h
@@ -78,13 +77,13 @@ ltZ-asym (negsuc a) (pos b) h = refl
 ltZ-asym (negsuc a) (negsuc b) h = ltb-order .asym b a h
 
 ltZ-trans : (a b c : ℤ) → ltZ a b ≡ true → ltZ b c ≡ true → ltZ a c ≡ true
-ltZ-trans (pos a) (pos b) (pos c) h g = ltb-order .trans a b c h g
+ltZ-trans (pos a) (pos b) (pos c) h g = before-trans ltb-order a b c h g
 ltZ-trans (pos a) (pos b) (negsuc c) h g = g
 ltZ-trans (pos a) (negsuc b) c h g = never-both h refl
 ltZ-trans (negsuc a) (pos b) (pos c) h g = refl
 ltZ-trans (negsuc a) (pos b) (negsuc c) h g = never-both g refl
 ltZ-trans (negsuc a) (negsuc b) (pos c) h g = refl
-ltZ-trans (negsuc a) (negsuc b) (negsuc c) h g = ltb-order .trans c b a g h
+ltZ-trans (negsuc a) (negsuc b) (negsuc c) h g = before-trans ltb-order c b a g h
 
 ltZ-total : (a b : ℤ) → ltZ a b ≡ false → ltZ b a ≡ false → a ≡ b
 ltZ-total (pos a) (pos b) h g = ap pos (ltb-order .total a b h g)
@@ -94,7 +93,7 @@ ltZ-total (negsuc a) (negsuc b) h g = ap negsuc (ltb-order .total a b g h)
 
 -- Smaller first, of integers.
 pub ltZ-order : StrictOrder ltZ
-ltZ-order = record { asym = ltZ-asym; trans = ltZ-trans; total = ltZ-total }
+ltZ-order = by-trans ltZ-asym ltZ-trans ltZ-total
 
 -- By a key.
 pub on-order : {A K : Type 0} {same : K → K → Type 0} {less : K → K → Bool} → OrderUpTo same less
@@ -107,11 +106,11 @@ on-order o key = record {
 
 -- By a number, smaller first.
 pub by-number : {A : Type 0} (key : A → ℕ) → OrderUpTo (λ a b. key a ≡ key b) (on ltb key)
-by-number key = on-order (up-to-equality ltb-order) key
+by-number key = on-order ltb-order key
 
 -- By an integer, smaller first.
 pub by-integer : {A : Type 0} (key : A → ℤ) → OrderUpTo (λ a b. key a ≡ key b) (on ltZ key)
-by-integer key = on-order (up-to-equality ltZ-order) key
+by-integer key = on-order ltZ-order key
 
 module _ {A : Type 0} (less next : A → A → Bool) where
   pub lex-less : (a b : A) → less a b ≡ true → lex less next a b ≡ true

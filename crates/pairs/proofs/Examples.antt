@@ -1,12 +1,12 @@
 -- Examples of the two lists: what M1 to M10 do not tell apart.
 use mathlib.Core.Path.{_≡_, refl}
-use mathlib.Core.List.{[], _∷_, flatMap}
+use mathlib.Core.List.{[], _∷_, flatMap, zipWith}
 use lib.IntN.{pos}
 use Rattle.order.specs.Lists.{keep, sum}
 use Rattle.order.specs.Order.{lex}
 use Rattle.order.specs.Sort.{insert, sort}
 use Rattle.site.specs.Site.{gap, square, squaredDistance}
-use Rattle.site.specs.SiteList.{site}
+use Rattle.site.specs.SiteList.{site, raisedSite}
 use Rattle.entry.specs.Entry.{entry, rankBefore, apart, bestK}
 use Rattle.sweep.specs.Strip.{placedFrom, whole, pair, product, pairs}
 use Rattle.pairs.specs.KList.{kList}
@@ -18,5 +18,12 @@ co-sited : (kList 2 (site (pos 0) (pos 0) 1 ∷ []) (site (pos 0) (pos 0) 2 ∷ 
     × (distanceList 0 (site (pos 0) (pos 0) 1 ∷ []) (site (pos 0) (pos 0) 2 ∷ site (pos 3) (pos 4) 3 ∷ []) ≡ [])
 unfolding
     keep sum lex insert sort gap square squaredDistance rankBefore apart bestK placedFrom whole pair product flatMap pairs
-    kList distanceList
+    kList distanceList zipWith
 co-sited = (refl, refl, refl)
+
+-- Cells at one x and y and at two heights are a pair: 3 apart, within 3 and not within 2.
+heights : (distanceList 3 (raisedSite (pos 0) (pos 0) 1 (pos 0) ∷ []) (raisedSite (pos 0) (pos 0) 1 (pos 3) ∷ []) ≡ entry 9 0 0 ∷ [])
+    × (distanceList 2 (raisedSite (pos 0) (pos 0) 1 (pos 0) ∷ []) (raisedSite (pos 0) (pos 0) 1 (pos 3) ∷ []) ≡ [])
+unfolding
+    keep sum gap square squaredDistance apart placedFrom whole pair product flatMap pairs distanceList zipWith
+heights = (refl, refl)

@@ -4,11 +4,12 @@ use mathlib.Core.Bool.{Bool, true, false, not}
 use mathlib.Core.List.{List, []}
 use Prim.Native.Nat.{ℕ}
 use native.Mathlib.Omega.{arith}
+use lib.IntN.{ℤ}
 use lib.ListN.{length}
 use Rattle.order.specs.Terms.{Sorted}
 use Rattle.order.proofs.Best.{best-nil}
 use Rattle.site.specs.Answer.{Answer, refused, answered, afterwards, refuseIf, orElse}
-use Rattle.site.specs.SiteList.{Columns, sites}
+use Rattle.site.specs.SiteList.{Columns, raised, sites}
 use Rattle.site.specs.Refusal.{listRefusal, listsRefusal}
 use Rattle.site.proofs.Answer.{
   answer-values,
@@ -21,7 +22,14 @@ use Rattle.site.proofs.Answer.{
   orElse-second,
   fault-none,
 }
-use Rattle.site.proofs.Accepted.{accepted-level, accepted-length, accepted-order, accepted-coordinates, both-accepted}
+use Rattle.site.proofs.Accepted.{
+  accepted-level,
+  accepted-length,
+  accepted-order,
+  accepted-coordinates,
+  accepted-heights,
+  both-accepted,
+}
 use Rattle.entry.specs.declared.Entry.{Entry}
 use Rattle.entry.specs.Entry.{rankBefore, bestK, lawfulK}
 use Rattle.entry.proofs.Rank.{k-limits}
@@ -96,19 +104,6 @@ module _ (a b : Columns) (k : ℕ) (r : Results) where
     unfolding kListRefusal
     rest-accepted = orElse-second (listsRefusal a b) _ ok
 
-    -- What the sweep asks.
-    pub sweep-asks : SweepAsked (a .x) (a .y) (b .x) (b .y) 0 (length (a .x)) 0 (length (b .x)) k 0 r
-    sweep-asks =
-        let m = k-limits k (fault-none (lawfulK k) 3 (orElse-first _ _ rest-accepted)) in
-        let room = fault-none (roomFor k r) 5 (orElse-second _ _ rest-accepted) in
-        record {
-          a = record { lawful = accepted-coordinates a (lists-accepted .0); range = omega arith; inside = omega arith };
-          b = record { lawful = accepted-coordinates b (lists-accepted .1); range = omega arith; inside = omega arith };
-          some = m .0;
-          few = m .1;
-          ready = record { room = room; most = omega arith; sorted = sorted-none r };
-        }
-
     over-whole : (way : Way)
         → sweep way k (strip 0 (length (a .x)) (sites a)) (strip 0 (length (b .x)) (sites b)) (entriesOf 0 r)
         ≡ sweep way k (whole (sites a)) (whole (sites b)) []
@@ -117,19 +112,52 @@ module _ (a b : Columns) (k : ℕ) (r : Results) where
         let l = lists-accepted in
         ap₂ (λ (p q : List Placed). sweep way k p q []) (whole-strip a (l .0)) (whole-strip b (l .1))
 
-    -- What it then answers and leaves.
-    pub swept-is : (way : Way) {after : Results} {answer : Swept}
-        → SweptStrips way (a .x) (a .y) (b .x) (b .y) 0 (length (a .x)) 0 (length (b .x)) k 0 r after answer
-        → let values = kListValues after (answer .entries) (answer .looks .0) (answer .distances .0) in
-        (answered values ≡ kListAnswer way a b k r)
-        × (after ≡ afterwards (λ v. v .results) (kListAnswer way a b k r) r)
-    unfolding kListAnswer
-    swept-is way {after} {answer} w =
-        let s = sweep way k (whole (sites a)) (whole (sites b)) [] in
-        let l = lists-accepted in
-        let u = w .numbered (a .number) (b .number) (accepted-level a (l .0)) (accepted-level b (l .1)) in
-        let v : SweptTo s r after answer = subst (λ (t : State). SweptTo t r after answer) (over-whole way) u in
-        let e = values-are s (kList k (sites a) (sites b)) (sweep-k-list way k a b (l .0) (l .1)) v in (
-          ap {B = Answer KListValues} answered e ∙ answer-values ok,
-          ap (λ v. v .results) e ∙ after-answered (λ v. v .results) _ r ok,
-        )
+module _ (ax ay : List ℤ) (an : List ℕ) (ah bx by : List ℤ) (bn : List ℕ) (bh : List ℤ) (k : ℕ) (r : Results)
+    (ok : kListRefusal (raised ax ay an ah) (raised bx by bn bh) k r ≡ 0) where
+  abbrev a : Columns
+  a = raised ax ay an ah
+
+  abbrev b : Columns
+  b = raised bx by bn bh
+
+  -- What the sweep asks.
+  pub sweep-asks : SweepAsked ax ay ah bx by bh 0 (length ax) 0 (length bx) k 0 r
+  sweep-asks =
+      let l = lists-accepted a b k r ok in
+      let rest = rest-accepted a b k r ok in
+      let m = k-limits k (fault-none (lawfulK k) 3 (orElse-first _ _ rest)) in
+      let room = fault-none (roomFor k r) 5 (orElse-second _ _ rest) in
+      record {
+        a = record {
+          lawful = accepted-coordinates a (l .0);
+          heights = accepted-heights ax ay an ah (l .0);
+          range = omega arith;
+          inside = omega arith;
+        };
+        b = record {
+          lawful = accepted-coordinates b (l .1);
+          heights = accepted-heights bx by bn bh (l .1);
+          range = omega arith;
+          inside = omega arith;
+        };
+        some = m .0;
+        few = m .1;
+        ready = record { room = room; most = omega arith; sorted = sorted-none r };
+      }
+
+  -- What it then answers and leaves.
+  pub swept-is : (way : Way) {after : Results} {answer : Swept}
+      → SweptStrips way ax ay ah bx by bh 0 (length ax) 0 (length bx) k 0 r after answer
+      → let values = kListValues after (answer .entries) (answer .looks .0) (answer .distances .0) in
+      (answered values ≡ kListAnswer way a b k r)
+      × (after ≡ afterwards (λ v. v .results) (kListAnswer way a b k r) r)
+  unfolding kListAnswer
+  swept-is way {after} {answer} w =
+      let s = sweep way k (whole (sites a)) (whole (sites b)) [] in
+      let l = lists-accepted a b k r ok in
+      let u = w .numbered an bn (accepted-level a (l .0)) (accepted-level b (l .1)) in
+      let v : SweptTo s r after answer = subst (λ (t : State). SweptTo t r after answer) (over-whole a b k r ok way) u in
+      let e = values-are s (kList k (sites a) (sites b)) (sweep-k-list way k a b (l .0) (l .1)) v in (
+        ap {B = Answer KListValues} answered e ∙ answer-values ok,
+        ap (λ v. v .results) e ∙ after-answered (λ v. v .results) _ r ok,
+      )

@@ -12,9 +12,8 @@ use lib.ListN.{length, getD}
 use lib.Signed.{leZ}
 use mir.Syntax.{w32, w64}
 use mir.Val.{Fits}
-use Rattle.site.specs.declared.Site.{Site}
-use Rattle.site.specs.Site.{within, gap, square, squaredDistance}
-use Rattle.site.specs.SiteList.{site}
+use Rattle.site.specs.Site.{Site, between, within, gap, square, squaredDistance}
+use Rattle.site.specs.SiteList.{raisedSite}
 use Rattle.site.specs.Terms.{positionAt, Coordinates}
 use Rattle.site.proofs.Accepted.{coordinate-x}
 use Rattle.site.proofs.PositionOrder.{not-before-x}
@@ -25,7 +24,7 @@ use Rattle.pairs.specs.declared.Run.{Run}
 use Rattle.pairs.specs.Internal.{offset, offsetAt, Rising, Skipped, Behind, RunOf, near}
 
 within-tests : (x : ℤ) → within x ≡ true → (leZ (negsuc 999_999_999) x && leZ x (pos 1_000_000_000)) ≡ true
-unfolding within
+unfolding within between
 within-tests x h = h
 
 -- An offset by sides.
@@ -72,24 +71,26 @@ square-lt m n h =
     omega arith
 
 -- A site further than `e` in x is not near.
-pub far : (x y : ℤ) (s : Site) (e : ℕ) → e < gap x (s .x) → near (square e) x y s ≡ false
+pub far : (x y h : ℤ) (s : Site) (e : ℕ) → e < gap x (s .x) → near (square e) x y h s ≡ false
 unfolding near
-far x y s e h =
-    rw (lt-leb (squaredDistance (site x y 0) s) (square e)
-    (omega (arith, square-lt e (gap x (s .x)) h, squared-gap-x (site x y 0) s)))
+far x y h s e beyond =
+    let here = raisedSite x y 0 h in
+    rw (lt-leb (squaredDistance here s) (square e)
+    (omega (arith, square-lt e (gap x (s .x)) beyond, squared-gap-x here s)))
 
 -- Nor is one further than `e` in y, by a difference that wraps.
-pub far-y : (x y : ℤ) (s : Site) (e : ℕ) {a b r : ℕ} → within y ≡ true → within (s .y) ≡ true → e < 2 ^ 32 → r < 2 ^ 64
+pub far-y : (x y h : ℤ) (s : Site) (e : ℕ) {a b r : ℕ} → within y ≡ true → within (s .y) ≡ true → e < 2 ^ 32 → r < 2 ^ 64
     → a ≡ offset (s .y) → a < 2 ^ 32 → b ≡ offset y → b < 2 ^ 32 → (r + b) % 2 ^ 64 ≡ a + e → 2 * e < r
-    → near (e * e) x y s ≡ false
+    → near (e * e) x y h s ≡ false
 unfolding near square
-far-y x y s e {a} {b} {r} h k u v p g q f w t =
+far-y x y h s e {a} {b} {r} i k u v p g q f w t =
+    let here = raisedSite x y 0 h in
     let beyond : e < gap y (s .y) =
     byTest (ltb (a + e) b)
-    (λ l. far-left y (s .y) e h k (omega (arith, ltb-true (a + e) b l)))
-    (λ l. far-right y (s .y) e h k (omega (arith, ltb-false (a + e) b l))) in
-    rw (lt-leb (squaredDistance (site x y 0) s) (e * e)
-    (omega (arith, square-lt e (gap y (s .y)) beyond, squared-gap-y (site x y 0) s)))
+    (λ l. far-left y (s .y) e i k (omega (arith, ltb-true (a + e) b l)))
+    (λ l. far-right y (s .y) e i k (omega (arith, ltb-false (a + e) b l))) in
+    rw (lt-leb (squaredDistance here s) (e * e)
+    (omega (arith, square-lt e (gap y (s .y)) beyond, squared-gap-y here s)))
 
 -- Of each place of a range: of none, and of one more.
 pub between-none : (P : ℕ → Type 0) (f : ℕ) (k : ℕ) → f ≤ k → k < f → P k

@@ -5,9 +5,8 @@ use lib.Dec.{leb, ltb}
 use lib.ListN.{length}
 use Rattle.order.specs.Lists.{keep}
 use Rattle.column.specs.Column.{overwritten}
-use Rattle.site.specs.declared.Site.{Site}
 use Rattle.site.specs.Answer.{Answer, refused, answered, answerUnless, refuseIf, orElse}
-use Rattle.site.specs.Site.{square}
+use Rattle.site.specs.Site.{Site, square}
 use Rattle.site.specs.SiteList.{Columns, sites}
 use Rattle.site.specs.Refusal.{listsRefusal}
 use Rattle.entry.specs.declared.Entry.{Entry}

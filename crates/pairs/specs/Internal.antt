@@ -9,13 +9,12 @@ use lib.ListN.{length, getD}
 use Rattle.order.specs.Lists.{keep}
 use Rattle.column.specs.Column.{stored}
 use Rattle.column.specs.Lent.{Lent}
-use Rattle.site.specs.declared.Site.{Site}
-use Rattle.site.specs.Site.{within, gap, square, squaredDistance}
-use Rattle.site.specs.SiteList.{site}
-use Rattle.site.specs.Terms.{Coordinates}
+use Rattle.site.specs.Site.{Site, within, heightWithin, gap, square, squaredDistance}
+use Rattle.site.specs.SiteList.{raisedSite}
+use Rattle.site.specs.Terms.{Coordinates, Heights}
 use Rattle.entry.specs.declared.Entry.{Entry}
 use Rattle.sweep.specs.Strip.{Placed, pair, pairs}
-use Rattle.sweep.specs.Terms.{rightward}
+use Rattle.sweep.specs.Terms.{spotOf, rightward}
 use Rattle.pairs.specs.declared.Run.{Run}
 
 -- How far a coordinate is right of the least `i32`.
@@ -49,29 +48,32 @@ pub record RunOf (a b : List ℤ) (e i : ℕ) (run : Run) : Type 0 where
   pub above : (k : ℕ) → run .right ≤ k → k < length b → offsetAt a i + e < offsetAt b k
 
 -- A site whose squared distance from a position is at most a limit, and 1 or more.
-unfoldable pub near : ℕ → ℤ → ℤ → Site → Bool
-near limit x y s = let d = squaredDistance (site x y 0) s in leb d limit && leb 1 d
+unfoldable pub near : ℕ → ℤ → ℤ → ℤ → Site → Bool
+near limit x y h s = let d = squaredDistance (raisedSite x y 0 h) s in leb d limit && leb 1 d
 
 -- The near ones of the sites from place `from` up to, not including, place `to`.
-unfoldable pub nearSites : ℕ → ℤ → ℤ → List ℤ → List ℤ → ℕ → ℕ → List Placed
-nearSites limit x y xs ys from to = keep (λ o. near limit x y (o .site)) (rightward xs ys from (to - from))
+unfoldable pub nearSites : ℕ → ℤ → ℤ → ℤ → List ℤ → List ℤ → List ℤ → ℕ → ℕ → List Placed
+nearSites limit x y h xs ys hs from to =
+    keep (λ o. near limit x y h (o .site)) (rightward xs ys hs from (to - from))
 
--- The pairs of a reference with them.
-abbrev pub rowPairs : ℕ → Placed → List ℤ → List ℤ → ℕ → ℕ → List Entry
-rowPairs e o xs ys from to = map (pair o) (nearSites (e * e) (o .site .x) (o .site .y) xs ys from to)
+-- The pairs of a reference, by its position and its place, with them.
+abbrev pub rowPairs : ℕ → ℤ → ℤ → ℤ → ℕ → List ℤ → List ℤ → List ℤ → ℕ → ℕ → List Entry
+rowPairs e x y h place xs ys hs from to =
+    map (pair (spotOf x y h place)) (nearSites (e * e) x y h xs ys hs from to)
 
 -- The pairs of the first list's sites from place `from` on that are within `e`: from 0 on, a distance list.
-unfoldable pub nearPairs : ℕ → List ℤ → List ℤ → List ℤ → List ℤ → ℕ → List Entry
-nearPairs e ax ay bx by from =
+unfoldable pub nearPairs : ℕ → List ℤ → List ℤ → List ℤ → List ℤ → List ℤ → List ℤ → ℕ → List Entry
+nearPairs e ax ay ah bx by bh from =
     keep (λ p. leb (p .distance) (square e))
-    (pairs (rightward ax ay from (length ax - from)) (rightward bx by 0 (length bx - 0)))
+    (pairs (rightward ax ay ah from (length ax - from)) (rightward bx by bh 0 (length bx - 0)))
 
--- A position inside the limits, and a run of two coordinate columns.
-pub record Reference (x y : ℤ) (xs ys : List ℤ) (run : Run) : Type 0 where
+-- A position inside the limits, and the coordinate columns of a lawful list.
+pub record Reference (x y h : ℤ) (xs ys hs : List ℤ) : Type 0 where
   pub inside-x : within x ≡ true
   pub inside-y : within y ≡ true
+  pub inside-height : heightWithin h ≡ true
   pub others : Coordinates xs ys
-  pub ends : run .right ≤ length xs
+  pub heights : Heights (length xs) hs
 
 -- Both columns have room for the places of some pairs from place `n` on.
 pub record Room (l : List Entry) (n : ℕ) (first second : List ℕ) : Type 0 where

@@ -3,8 +3,8 @@ use mathlib.Core.Bool.{not}
 use mathlib.Core.List.{List, []}
 use Prim.Native.Nat.{ℕ}
 use lib.ListN.{length}
-use Rattle.site.specs.declared.Site.{Site}
 use Rattle.site.specs.Answer.{Answer, refused, answered, answerUnless, refuseIf, orElse}
+use Rattle.site.specs.Site.{Site}
 use Rattle.site.specs.SiteList.{Columns, sites}
 use Rattle.site.specs.Refusal.{listsRefusal}
 use Rattle.entry.specs.declared.Entry.{Entry}

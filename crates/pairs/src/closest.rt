@@ -12,20 +12,22 @@ fn k_list_refusal(
     ax: &[i32],
     ay: &[i32],
     an: &[u32],
+    ah: &[i32],
     bx: &[i32],
     by: &[i32],
     bn: &[u32],
+    bh: &[i32],
     k: u32,
     distance: &[u64],
     first: &[u32],
     second: &[u32],
 ) -> u32
     ensures { λ r.
-        let a = lentList ax ay an .entry in
-        let b = lentList bx by bn .entry in
+        let a = lentList ax ay an ah .entry in
+        let b = lentList bx by bn bh .entry in
         ⌜ r ≡ kListRefusal a b k (lentResults distance first second .entry) ⌝ }
 {
-    let refusal = site::lists_refusal(ax, ay, an, bx, by, bn);
+    let refusal = site::lists_refusal(ax, ay, an, ah, bx, by, bn, bh);
     if refusal != 0 {
         return refusal;
     }
@@ -44,22 +46,24 @@ pub fn k_list(
     ax: &[i32],
     ay: &[i32],
     an: &[u32],
+    ah: &[i32],
     bx: &[i32],
     by: &[i32],
     bn: &[u32],
+    bh: &[i32],
     k: u32,
     distance: &mut [u64],
     first: &mut [u32],
     second: &mut [u32],
 ) -> Listed
     ensures { λ r.
-        let a = lentList ax ay an .entry in
-        let b = lentList bx by bn .entry in
+        let a = lentList ax ay an ah .entry in
+        let b = lentList bx by bn bh .entry in
         let l = lentResults distance first second in
         let answer = kListAnswer way a b k (l .entry) in
         ⌜ (listedAnswer r (l .exit) ≡ answer) × (l .exit ≡ afterwards (λ v. v .results) answer (l .entry)) ⌝ }
 {
-    let refusal = k_list_refusal(ax, ay, an, bx, by, bn, k, distance, first, second);
+    let refusal = k_list_refusal(ax, ay, an, ah, bx, by, bn, bh, k, distance, first, second);
     if refusal != 0 {
         return Listed::Refused(refusal);
     }
@@ -69,8 +73,10 @@ pub fn k_list(
         way,
         ax,
         ay,
+        ah,
         bx,
         by,
+        bh,
         0,
         n,
         0,

@@ -3,16 +3,13 @@ use super::Run;
 use super::Within;
 use super::window;
 ghost use mathlib.Core.Path.{_≡_};
-ghost use mathlib.Core.Bool.{true};
-ghost use Prim.Native.Nat.{_*_, _<_};
-ghost use lib.IntN.{pos};
-ghost use lib.ListN.{length, getD};
+ghost use Prim.Native.Nat.{_*_, _≤_, _<_};
+ghost use lib.ListN.{length};
 ghost use Rattle.column.specs.Lent.{the, _of_};
-ghost use Rattle.site.specs.Site.{within};
 ghost use Rattle.site.specs.Answer.{afterwards};
 ghost use Rattle.site.specs.SiteList.{lentList};
-ghost use Rattle.site.specs.Terms.{positionAt, Coordinates};
-ghost use Rattle.sweep.specs.Terms.{spotOf};
+ghost use Rattle.site.specs.Terms.{Coordinates, Heights};
+ghost use Rattle.sweep.specs.Terms.{spot};
 ghost use Rattle.pairs.specs.DistanceList.{distanceRefusal, distanceAnswer, withinAnswer};
 ghost use Rattle.pairs.specs.Internal.{
   near,
@@ -25,34 +22,33 @@ ghost use Rattle.pairs.specs.Internal.{
 };
 
 // Whether a site is no more than `e` from a position, and not at it. A difference of y beyond `e` decides alone.
-fn is_near(x: i32, y: i32, bx: &[i32], by: &[i32], j: usize, e: u32) -> bool
-    requires { ⌜
-        (within x ≡ true) × (within y ≡ true) × (j < length (now bx)) × (j < length (now by))
-        × (within (getD (now bx) j (pos 0)) ≡ true) × (within (getD (now by) j (pos 0)) ≡ true)
-        ⌝ }
-    ensures { λ r. ⌜ r ≡ near (e * e) x y ((the positionAt of bx of by) .entry j) ⌝ }
+fn is_near(x: i32, y: i32, h: i32, bx: &[i32], by: &[i32], bh: &[i32], j: usize, e: u32) -> bool
+    requires { ⌜ (Reference x y h (now bx) (now by) (now bh)) × (j < length (now bx)) ⌝ }
+    ensures { λ r.
+        let other = (the spot of bx of by of bh) .entry j in
+        ⌜ r ≡ near (e * e) x y h (other .site) ⌝ }
 {
     let reach = e as u64;
     let above = std::num::wrapping_sub_u64(window::offset(by[j]) + reach, window::offset(y));
     if 2 * reach < above {
         return false;
     }
-    let squared = site::squared_distance(x, y, bx[j], by[j]);
+    let squared = site::squared_distance(x, y, h, bx[j], by[j], bh[j]);
     squared <= reach * reach && 1 <= squared
 }
 
 // How many sites of a run are near a position.
-fn count_row(x: i32, y: i32, bx: &[i32], by: &[i32], run: Run, e: u32) -> u64
-    requires { ⌜ Reference x y (now bx) (now by) run ⌝ }
+fn count_row(x: i32, y: i32, h: i32, bx: &[i32], by: &[i32], bh: &[i32], run: Run, e: u32) -> u64
+    requires { ⌜ (Reference x y h (now bx) (now by) (now bh)) × (run .right ≤ length (now bx)) ⌝ }
     ensures { λ r.
-        let near = (the (nearSites (e * e) x y) of bx of by) .entry in
+        let near = (the (nearSites (e * e) x y h) of bx of by of bh) .entry in
         ⌜ r ≡ length (near (run .left) (run .right)) ⌝ }
 {
     let mut count: u64 = 0;
     let mut j = run.left;
     let end = run.right;
     while j < end {
-        if is_near(x, y, bx, by, j, e) {
+        if is_near(x, y, h, bx, by, bh, j, e) {
             count += 1;
         }
         j += 1;
@@ -61,10 +57,11 @@ fn count_row(x: i32, y: i32, bx: &[i32], by: &[i32], run: Run, e: u32) -> u64
 }
 
 // How many pairs of two lawful lists are within `e`.
-fn count_all(ax: &[i32], ay: &[i32], bx: &[i32], by: &[i32], e: u32) -> u64
-    requires { ⌜ (Coordinates (now ax) (now ay)) × (Coordinates (now bx) (now by)) ⌝ }
+fn count_all(ax: &[i32], ay: &[i32], ah: &[i32], bx: &[i32], by: &[i32], bh: &[i32], e: u32) -> u64
+    requires { ⌜ (Coordinates (now ax) (now ay)) × (Heights (length (now ax)) (now ah)) ⌝ }
+    requires { ⌜ (Coordinates (now bx) (now by)) × (Heights (length (now bx)) (now bh)) ⌝ }
     ensures { λ r.
-        let near = (the (nearPairs e) of ax of ay of bx of by) .entry in
+        let near = (the (nearPairs e) of ax of ay of ah of bx of by of bh) .entry in
         ⌜ r ≡ length (near 0) ⌝ }
 {
     let mut count: u64 = 0;
@@ -72,7 +69,7 @@ fn count_all(ax: &[i32], ay: &[i32], bx: &[i32], by: &[i32], e: u32) -> u64
     let mut i = 0;
     while i < ax.len() {
         run = window::next_run(ax, bx, i, run, e);
-        count += count_row(ax[i], ay[i], bx, by, run, e);
+        count += count_row(ax[i], ay[i], ah[i], bx, by, bh, run, e);
         i += 1;
     }
     count
@@ -82,9 +79,11 @@ fn count_all(ax: &[i32], ay: &[i32], bx: &[i32], by: &[i32], e: u32) -> u64
 fn write_row(
     x: i32,
     y: i32,
+    h: i32,
     place: u32,
     bx: &[i32],
     by: &[i32],
+    bh: &[i32],
     run: Run,
     e: u32,
     n: usize,
@@ -92,18 +91,19 @@ fn write_row(
     second: &mut [u32],
 ) -> usize
     requires { ⌜
-        (Reference x y (now bx) (now by) run)
-        × (Room (rowPairs e (spotOf x y place) (now bx) (now by) (run .left) (run .right)) n (now first) (now second))
+        (Reference x y h (now bx) (now by) (now bh))
+        × (run .right ≤ length (now bx))
+        × (Room (rowPairs e x y h place (now bx) (now by) (now bh) (run .left) (run .right)) n (now first) (now second))
         ⌝ }
     ensures { λ r.
-        let row = (the (rowPairs e (spotOf x y place)) of bx of by) .entry in
+        let row = (the (rowPairs e x y h place) of bx of by of bh) .entry in
         ⌜ Writes (row (run .left) (run .right)) n first second r ⌝ }
 {
     let mut at = n;
     let mut j = run.left;
     let end = run.right;
     while j < end {
-        if is_near(x, y, bx, by, j, e) {
+        if is_near(x, y, h, bx, by, bh, j, e) {
             first[at] = place;
             second[at] = j as u32;
             at += 1;
@@ -117,19 +117,21 @@ fn write_row(
 fn write_all(
     ax: &[i32],
     ay: &[i32],
+    ah: &[i32],
     bx: &[i32],
     by: &[i32],
+    bh: &[i32],
     e: u32,
     first: &mut [u32],
     second: &mut [u32],
 ) -> usize
+    requires { ⌜ (Coordinates (now ax) (now ay)) × (Heights (length (now ax)) (now ah)) ⌝ }
+    requires { ⌜ (Coordinates (now bx) (now by)) × (Heights (length (now bx)) (now bh)) ⌝ }
     requires { ⌜
-        (Coordinates (now ax) (now ay))
-        × (Coordinates (now bx) (now by))
-        × (Room (nearPairs e (now ax) (now ay) (now bx) (now by) 0) 0 (now first) (now second))
+        Room (nearPairs e (now ax) (now ay) (now ah) (now bx) (now by) (now bh) 0) 0 (now first) (now second)
         ⌝ }
     ensures { λ r.
-        let near = (the (nearPairs e) of ax of ay of bx of by) .entry in
+        let near = (the (nearPairs e) of ax of ay of ah of bx of by of bh) .entry in
         ⌜ Writes (near 0) 0 first second r ⌝ }
 {
     let mut n: usize = 0;
@@ -137,7 +139,20 @@ fn write_all(
     let mut i = 0;
     while i < ax.len() {
         run = window::next_run(ax, bx, i, run, e);
-        n = write_row(ax[i], ay[i], i as u32, bx, by, run, e, n, first, second);
+        n = write_row(
+            ax[i],
+            ay[i],
+            ah[i],
+            i as u32,
+            bx,
+            by,
+            bh,
+            run,
+            e,
+            n,
+            first,
+            second,
+        );
         i += 1;
     }
     n
@@ -148,23 +163,25 @@ fn distance_refusal(
     ax: &[i32],
     ay: &[i32],
     an: &[u32],
+    ah: &[i32],
     bx: &[i32],
     by: &[i32],
     bn: &[u32],
+    bh: &[i32],
     e: u32,
     first: &[u32],
     second: &[u32],
 ) -> u32
     ensures { λ r.
-        let a = lentList ax ay an .entry in
-        let b = lentList bx by bn .entry in
+        let a = lentList ax ay an ah .entry in
+        let b = lentList bx by bn bh .entry in
         ⌜ r ≡ distanceRefusal a b e (now (first .entry)) (now (second .entry)) ⌝ }
 {
-    let refusal = site::lists_refusal(ax, ay, an, bx, by, bn);
+    let refusal = site::lists_refusal(ax, ay, an, ah, bx, by, bn, bh);
     if refusal != 0 {
         return refusal;
     }
-    let count = count_all(ax, ay, bx, by, e);
+    let count = count_all(ax, ay, ah, bx, by, bh, e);
     if (first.len() as u64) < count {
         return 6;
     }
@@ -179,16 +196,18 @@ pub fn distance_list(
     ax: &[i32],
     ay: &[i32],
     an: &[u32],
+    ah: &[i32],
     bx: &[i32],
     by: &[i32],
     bn: &[u32],
+    bh: &[i32],
     e: u32,
     first: &mut [u32],
     second: &mut [u32],
 ) -> Within
     ensures { λ r.
-        let a = lentList ax ay an .entry in
-        let b = lentList bx by bn .entry in
+        let a = lentList ax ay an ah .entry in
+        let b = lentList bx by bn bh .entry in
         let answer = distanceAnswer a b e (now (first .entry)) (now (second .entry)) in
         ⌜
         (withinAnswer r (now (first .exit)) (now (second .exit)) ≡ answer)
@@ -196,10 +215,10 @@ pub fn distance_list(
         × (now (second .exit) ≡ afterwards (λ v. v .second) answer (now (second .entry))))
         ⌝ }
 {
-    let refusal = distance_refusal(ax, ay, an, bx, by, bn, e, first, second);
+    let refusal = distance_refusal(ax, ay, an, ah, bx, by, bn, bh, e, first, second);
     if refusal != 0 {
         return Within::Refused(refusal);
     }
-    let count = write_all(ax, ay, bx, by, e, first, second);
+    let count = write_all(ax, ay, ah, bx, by, bh, e, first, second);
     Within::Pairs(count as u64)
 }

@@ -1,5 +1,5 @@
 -- What an accepted list is: a lawful one, and the other way round.
-use mathlib.Core.Path.{_≡_, sym, _∙_}
+use mathlib.Core.Path.{_≡_, refl, sym, _∙_}
 use mathlib.Core.Logic.{_↔_}
 use mathlib.Core.Bool.{true, false, not, cond, _&&_}
 use mathlib.Core.List.{List}
@@ -9,23 +9,25 @@ use borrow.Author.Tests.{leb-true, ltb-true, ltb-false}
 use lib.Dec.{leb, ltb}
 use lib.IntN.{ℤ, pos}
 use lib.ListN.{length, getD}
+use lib.Signed.{ltZ}
 use Rattle.order.specs.Order.{ascending}
 use Rattle.order.specs.Lists.{all, All}
+use Rattle.order.specs.Terms.{Sorted}
 use Rattle.order.proofs.Order.{byTest, irrefl}
-use Rattle.order.proofs.Sorted.{Ascends, ascending-ascends, ascends-ascending, ascends-sorted, sorted-at}
-use Rattle.order.proofs.Lists.{all-holds, holds-all, all-at}
-use Rattle.site.specs.declared.Site.{Site}
+use Rattle.order.proofs.Sorted.{Ascends, ascending-ascends, ascends-ascending, ascends-sorted, sorted-at, at-sorted}
+use Rattle.order.proofs.Lists.{all-holds, holds-all, all-at, at-all}
 use Rattle.site.specs.Answer.{orElse}
-use Rattle.site.specs.Site.{within, lawfulSite, siteBefore}
-use Rattle.site.specs.SiteList.{Columns, sites, siteAt}
-use Rattle.site.specs.Terms.{Level, positionAt, Coordinates}
+use Rattle.site.specs.Site.{Site, within, heightWithin, furtherLimits, allWithin, lawfulSite, siteBefore}
+use Rattle.site.specs.SiteList.{Columns, raised, sites, siteAt}
+use Rattle.site.specs.Terms.{Level, positionAt, Coordinates, Heights}
 use Rattle.site.specs.Refusal.{equalLengths, sizeFault, contentRefusal, listRefusal, listsRefusal}
 use Rattle.site.proofs.Tests.{and-first, and-second}
 use Rattle.site.proofs.Answer.{orElse-first, orElse-second, fault-none}
 use Rattle.site.proofs.SiteBefore.{site-order}
 use Rattle.site.proofs.SiteList.{nowhere, columnsAt, sites-length, sites-at, site-at}
-use Rattle.site.proofs.PositionOrder.{position-not-first}
-use Rattle.site.proofs.Refusal.{lawful-columns, equal-level, content-left}
+use Rattle.site.proofs.PositionOrder.{position-not-first, not-before-x}
+use Rattle.site.proofs.Integers.{le-lt-not}
+use Rattle.site.proofs.Refusal.{lawful-is, lawful-up, equal-level, content-left}
 
 -- Sites that no test refuses, by the tests and one by one.
 module _ (l : List Site) (ok : contentRefusal l ≡ 0) where
@@ -46,6 +48,20 @@ module _ (l : List Site) (ok : contentRefusal l ≡ 0) where
 pub content-lawful : (l : List Site) → All (λ s. lawfulSite s ≡ true) l → Ascends siteBefore l → contentRefusal l ≡ 0
 unfolding contentRefusal orElse
 content-lawful l h k = simp (holds-all lawfulSite l h, ascends-ascending siteBefore l k)
+
+-- The x of a list in order never fall.
+pub ascending-sorted : (c : Columns) → Level c → ascending siteBefore (sites c) ≡ true → Sorted ltZ (c .x)
+ascending-sorted c level up =
+    let order = ascends-sorted site-order (sites c) (ascending-ascends site-order (sites c) up) in
+    at-sorted ltZ (c .x) (pos 0) (λ k m h g.
+    let s = sorted-at siteBefore (sites c) nowhere k m order h (omega (arith, sites-length c level)) in
+    le-lt-not (getD (c .x) k (pos 0)) (getD (c .x) m (pos 0))
+    (not-before-x (columnsAt c m) (columnsAt c k) (rw (sites-at c level k nowhere (omega arith), sites-at c level m nowhere g) at s)))
+
+-- A height at a place of columns inside the limits.
+pub height-at : {n : ℕ} {hs : List ℤ} → Heights n hs → (i : ℕ) → i < n → heightWithin (getD hs i (pos 0)) ≡ true
+height-at {n} {hs} h i inside =
+    all-at (λ z. heightWithin z ≡ true) hs i (pos 0) (omega (arith, h .equal)) (all-holds heightWithin hs (h .within))
 
 -- A coordinate at a place of columns inside the limits.
 module _ {xs ys : List ℤ} (h : Coordinates xs ys) (i : ℕ) (inside : i < length xs) where
@@ -95,16 +111,30 @@ module _ (c : Columns) (ok : listRefusal c ≡ 0) where
       (rw (sites-at c accepted-level i nowhere (omega arith), sites-at c accepted-level j nowhere k) at s))
       (λ f. let e : i ≡ j = omega (arith, ltb-false i j f) in rw e (irrefl site-order (positionAt (c .x) (c .y) j)))
 
+  -- The site at each place is lawful.
+  lawful-at : (i : ℕ) → i < length (c .x) → lawfulSite (columnsAt c i) ≡ true
+  lawful-at i h =
+      let s = all-at (λ s. lawfulSite s ≡ true) (sites c) i nowhere (omega (arith, accepted-length)) (content-inside (sites c) accepted-content) in
+      rw (sites-at c accepted-level i nowhere h) at s
+
+  x-at : (i : ℕ) → i < length (c .x) → within (getD (c .x) i (pos 0)) ≡ true
+  x-at i h = let s = columnsAt c i in and-first (within (s .x)) _ (sym (lawful-is s) ∙ lawful-at i h)
+
+  y-at : (i : ℕ) → i < length (c .x) → within (getD (c .y) i (pos 0)) ≡ true
+  y-at i h =
+      let s = columnsAt c i in
+      let rest = within (s .y) && allWithin furtherLimits (s .further) in
+      and-first (within (s .y)) (allWithin furtherLimits (s .further)) (and-second (within (s .x)) rest (sym (lawful-is s) ∙ lawful-at i h))
+
   pub accepted-coordinates : Coordinates (c .x) (c .y)
-  accepted-coordinates =
-      let within-both : (all within (c .x) && all within (c .y)) ≡ true = sym (lawful-columns c accepted-level) ∙ accepted-inside in
-      record {
-        equal = sym (accepted-level .y);
-        few = accepted-few;
-        xs-within = and-first (all within (c .x)) (all within (c .y)) within-both;
-        ys-within = and-second (all within (c .x)) (all within (c .y)) within-both;
-        rising = accepted-rising;
-      }
+  accepted-coordinates = record {
+    equal = sym (accepted-level .y);
+    few = accepted-few;
+    xs-within = holds-all within (c .x) (at-all (λ z. within z ≡ true) (c .x) (pos 0) x-at);
+    ys-within =
+        holds-all within (c .y) (at-all (λ z. within z ≡ true) (c .y) (pos 0) (λ i h. y-at i (omega (arith, accepted-level .y))));
+    rising = accepted-rising;
+  }
 
   -- The site at a place, and its coordinates.
   module _ (i : ℕ) (h : i < length (c .x)) where
@@ -117,12 +147,29 @@ module _ (c : Columns) (ok : listRefusal c ≡ 0) where
     pub inside-y : within (getD (c .y) i (pos 0)) ≡ true
     inside-y = coordinate-y accepted-coordinates i h
 
+-- The heights of an accepted list.
+pub accepted-heights : (xs ys : List ℤ) (ns : List ℕ) (hs : List ℤ) → listRefusal (raised xs ys ns hs) ≡ 0 → Heights (length xs) hs
+unfolding All
+accepted-heights xs ys ns hs ok =
+    let c = raised xs ys ns hs in
+    let same : length hs ≡ length xs = accepted-level c ok .further .0 in
+    record {
+      equal = sym same;
+      within =
+          holds-all heightWithin hs (at-all (λ z. heightWithin z ≡ true) hs (pos 0) (λ i h.
+          let s = columnsAt c i in
+          let height = getD hs i (pos 0) in
+          and-second (within (s .y)) (heightWithin height)
+          (and-second (within (s .x)) (within (s .y) && heightWithin height)
+          (sym (lawful-up s height refl) ∙ lawful-at c ok i (omega arith)))));
+    }
+
 -- Two accepted lists.
 pub both-accepted : (a b : Columns) → listsRefusal a b ≡ 0 → (listRefusal a ≡ 0) × (listRefusal b ≡ 0)
 unfolding listsRefusal
 both-accepted a b h = (orElse-first (listRefusal a) (listRefusal b) h, orElse-second (listRefusal a) (listRefusal b) h)
 
--- "Three columns of equal length, 0 to 65,535 sites, strictly ascending", each site inside the limits.
+-- Columns "of equal length, 0 to 65,535 sites, strictly ascending", each site inside the limits.
 pub record LawfulList (c : Columns) : Type 0 where
   pub level : Level c
   pub few : length (c .x) ≤ 65_535

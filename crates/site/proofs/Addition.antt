@@ -1,20 +1,23 @@
 -- The refusal of an addition, by the tests in their order.
 use mathlib.Core.Path.{_≡_, ap, ap₂, _∙_}
-use mathlib.Core.Bool.{Bool, true, false, not, cond, _&&_, _||_}
+use mathlib.Core.Bool.{Bool, true, false, not, cond, _&&_, _||_, and-false}
+use mathlib.Core.List.{List}
 use Prim.Native.Nat.{ℕ, _+_, _≤_, _<_}
 use native.Mathlib.Omega.{arith}
 use borrow.Author.Tests.{ne-eqb, eq-eqb, lt-leb, le-leb, leb-false}
 use lib.Dec.{leb}
-use lib.ListN.{length, length-take}
-use Rattle.site.specs.declared.Site.{Site}
+use lib.IntN.{ℤ}
+use lib.ListN.{length, take, length-take}
+use Rattle.order.specs.Lists.{all}
+use Rattle.order.proofs.Lists.{all-map, all-weaken}
 use Rattle.site.specs.declared.Added.the-variants.{At, Refused}
 use Rattle.site.specs.Answer.{afterwards, orElse}
-use Rattle.site.specs.Site.{within, lawfulSite}
-use Rattle.site.specs.SiteList.{Columns, sites, inUse}
+use Rattle.site.specs.Site.{Site, lawfulSite}
+use Rattle.site.specs.SiteList.{Columns, raised, sites, inUse}
 use Rattle.site.specs.Terms.{Level}
 use Rattle.site.specs.Refusal.{equalLengths, sizeFault, contentRefusal, listRefusal}
 use Rattle.site.specs.Addition.{placeOf, present, addRefusal, AddValues, insertSite, addAnswer, addedAnswer}
-use Rattle.site.proofs.Refusal.{lawful-is, level-equal, equal-level, content-left}
+use Rattle.site.proofs.Refusal.{level-equal, equal-level, content-left}
 use Rattle.site.proofs.Tests.{and-first, or-first, or-second}
 use Rattle.site.proofs.Answer.{answer-values, answer-refused, after-refused, after-answered, first-refused, orElse-first, orElse-second, no-fault, fault-none}
 
@@ -47,6 +50,10 @@ module _ (c : Columns) (n : ℕ) (s : Site) where
     in-use-level h = record {
       y = simp length-take (omega (arith, level .y));
       number = simp length-take (omega (arith, level .number));
+      further =
+          all-map (λ column. length column ≡ length (take n (c .x))) (take n) (c .further)
+          (all-weaken (λ column. length column ≡ length (c .x)) (λ column. length (take n column) ≡ length (take n (c .x)))
+          (λ column e. simp length-take (omega arith)) (c .further) (level .further));
     }
 
     module _ (few : n ≤ 65_535) where
@@ -71,31 +78,33 @@ module _ (c : Columns) (n : ℕ) (s : Site) where
         add-content {r} e h = rw use-left (first-refused rest e h)
 
         module _ (ok : listRefusal (inUse n c) ≡ 0) where
-          pub add-outside-x : within (s .x) ≡ false → 2 ≡ addRefusal c n s
+          pub add-outside : lawfulSite s ≡ false → 2 ≡ addRefusal c n s
           unfolding orElse
-          add-outside-x h = simp (use-left, ok, lawful-is, h)
+          add-outside h = simp (use-left, ok, h)
 
-          pub add-outside-y : within (s .x) ≡ true → within (s .y) ≡ false → 2 ≡ addRefusal c n s
-          unfolding orElse
-          add-outside-y g h = simp (use-left, ok, lawful-is, g, h)
-
-          module _ (p : within (s .x) ≡ true) (q : within (s .y) ≡ true) where
+          module _ (p : lawfulSite s ≡ true) where
             pub add-full : length (c .x) ≤ n → 6 ≡ addRefusal c n s
             unfolding orElse
-            add-full h = simp (use-left, ok, lawful-is, p, q, le-leb (length (c .x)) n h)
+            add-full h = simp (use-left, ok, p, le-leb (length (c .x)) n h)
 
             module _ (room : n < length (c .x)) where
               pub add-most : 65_535 ≤ n → 6 ≡ addRefusal c n s
               unfolding orElse
-              add-most h = simp (use-left, ok, lawful-is, p, q, lt-leb (length (c .x)) n room, le-leb 65_535 n h)
+              add-most h = simp (use-left, ok, p, lt-leb (length (c .x)) n room, le-leb 65_535 n h)
 
               pub add-present : n < 65_535 → present s (sites (inUse n c)) ≡ true → 11 ≡ addRefusal c n s
               unfolding orElse
-              add-present h k = simp (use-left, ok, lawful-is, p, q, lt-leb (length (c .x)) n room, lt-leb 65_535 n h, k)
+              add-present h k = simp (use-left, ok, p, lt-leb (length (c .x)) n room, lt-leb 65_535 n h, k)
 
               pub add-ok : n < 65_535 → present s (sites (inUse n c)) ≡ false → 0 ≡ addRefusal c n s
               unfolding orElse
-              add-ok h k = simp (use-left, ok, lawful-is, p, q, lt-leb (length (c .x)) n room, lt-leb 65_535 n h, k)
+              add-ok h k = simp (use-left, ok, p, lt-leb (length (c .x)) n room, lt-leb 65_535 n h, k)
+
+-- With heights: a column of theirs that is not as long as the others.
+pub add-unequal-height : (xs ys : List ℤ) (ns : List ℕ) (hs : List ℤ) (n : ℕ) (s : Site) → (length xs ≡ length hs → ⊥)
+    → 1 ≡ addRefusal (raised xs ys ns hs) n s
+unfolding addRefusal sizeFault equalLengths orElse all
+add-unequal-height xs ys ns hs n s h = simp (ne-eqb (length xs) (length hs) h, and-false)
 
 -- What an accepted addition has.
 module _ (c : Columns) (n : ℕ) (s : Site) (ok : addRefusal c n s ≡ 0) where

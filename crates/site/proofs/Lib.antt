@@ -12,6 +12,7 @@ pub mod SiteList
 pub mod Numbered
 pub mod Refusal
 pub mod Accepted
+pub mod Ground
 pub mod PlaceOf
 pub mod Addition
 pub mod InsertSite

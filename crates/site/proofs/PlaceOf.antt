@@ -1,18 +1,19 @@
 -- The place of a site, and whether it is there, for loops that count.
-use mathlib.Core.Path.{_≡_, ap}
-use mathlib.Core.Bool.{Bool, not, cond, _||_}
-use mathlib.Core.List.{List, [], _∷_}
+use mathlib.Core.Path.{_≡_, refl, ap}
+use mathlib.Core.Bool.{Bool, not, cond, _&&_, _||_}
+use mathlib.Core.List.{List, [], _∷_, map}
 use Prim.Native.Nat.{ℕ, suc, _+_, _≤_, _<_}
 use native.Mathlib.Numerals.{add-one}
 use native.Mathlib.Omega.{arith}
 use lib.Dec.{eqb}
 use lib.ListN.{length, drop, getD, drop-of-length-le}
 use lib.Seq.{drop-cons}
-use Rattle.order.specs.Lists.{keep}
-use Rattle.site.specs.declared.Site.{Site}
-use Rattle.site.specs.Site.{siteBefore}
+use Rattle.order.specs.Lists.{all, keep}
+use Rattle.order.specs.Order.{lex}
+use Rattle.site.specs.Site.{Site, siteBefore}
 use Rattle.site.specs.Addition.{placeOf, present}
 use Rattle.order.proofs.Order.{byTest}
+use Rattle.site.proofs.SiteList.{flat-site}
 use Rattle.site.proofs.Counting.{failing, all-failing}
 
 module _ (s : Site) where
@@ -41,3 +42,20 @@ apart s t = siteBefore t s || siteBefore s t
 pub present-failing : (s : Site) (l : List Site) → present s l ≡ not (eqb (failing (apart s) l) 0)
 unfolding present apart
 present-failing s l = ap not (all-failing (apart s) l)
+
+-- Neither looks at what is beside x, y and number.
+module _ (s : Site) where
+  pub place-flat : (l : List Site) → placeOf (flat-site s) (map flat-site l) ≡ placeOf s l
+  unfolding placeOf keep siteBefore lex
+  place-flat [] = refl
+  place-flat (t ∷ l) = byTest (siteBefore t s) (λ h. rw h (ap suc (place-flat l))) (λ h. rw h (place-flat l))
+
+  all-flat : (l : List Site)
+      → all (λ t. siteBefore t (flat-site s) || siteBefore (flat-site s) t) (map flat-site l) ≡ all (λ t. siteBefore t s || siteBefore s t) l
+  unfolding all siteBefore lex
+  all-flat [] = refl
+  all-flat (t ∷ l) = ap (λ (b : Bool). (siteBefore t s || siteBefore s t) && b) (all-flat l)
+
+  pub present-flat : (l : List Site) → present (flat-site s) (map flat-site l) ≡ present s l
+  unfolding present
+  present-flat l = ap not (all-flat l)

@@ -10,9 +10,8 @@ use lib.Signed.{ltZ, leZ}
 use Rattle.order.specs.Terms.{Sorted}
 use Rattle.order.proofs.Sorted.{at-sorted}
 use Rattle.order.proofs.Order.{byTest, never-both, irrefl, before-weak}
-use Rattle.site.specs.declared.Site.{Site}
 use Rattle.site.specs.SiteList.{site}
-use Rattle.site.specs.Site.{squaredDistance, siteBefore}
+use Rattle.site.specs.Site.{Site, squaredDistance, siteBefore}
 use Rattle.site.specs.Terms.{positionAt, Coordinates}
 use Rattle.site.proofs.Answer.{byNumber}
 use Rattle.site.proofs.Distance.{squared-distance-none}
@@ -63,3 +62,8 @@ coordinates-sorted {xs} {ys} c =
 pub before-later : {xs ys : List ℤ} → Coordinates xs ys → (s : Site) (i j : ℕ) → i ≤ j → j < length xs
     → siteBefore s (positionAt xs ys i) ≡ true → siteBefore s (positionAt xs ys j) ≡ true
 before-later {xs} {ys} c s i j h k b = before-weak site-order s (positionAt xs ys i) (positionAt xs ys j) b (c .rising i j h k)
+
+-- Positions of which neither comes first are the same.
+pub same-position : (s t : Site) → siteBefore (position s) (position t) ≡ false → siteBefore (position t) (position s) ≡ false
+    → position s ≡ position t
+same-position s t p q = let e = site-order .total (position s) (position t) p q in λ i. site (e .0 i) (e .1 i) (e .2 i)

@@ -1,17 +1,17 @@
 -- Adding a site to the sites in use.
 use mathlib.Core.Bool.{Bool, not, _||_}
-use mathlib.Core.List.{List}
+use mathlib.Core.List.{List, zipWith}
 use Prim.Native.Nat.{ℕ, _+_}
 use lib.Dec.{leb}
 use lib.ListN.{length}
 use Rattle.order.specs.Lists.{all, keep}
 use Rattle.column.specs.Column.{inserted}
-use Rattle.site.specs.declared.Site.{Site}
+use Rattle.site.specs.declared.Site as told
 use Rattle.site.specs.declared.Added.{Added}
 use Rattle.site.specs.declared.Added.the-variants.{At, Refused}
 use Rattle.site.specs.Answer.{Answer, refused, answered, answerUnless, refuseIf, orElse}
-use Rattle.site.specs.Site.{lawfulSite, siteBefore}
-use Rattle.site.specs.SiteList.{Columns, columns, sites, inUse}
+use Rattle.site.specs.Site.{Site, lawfulSite, siteBefore}
+use Rattle.site.specs.SiteList.{Columns, raisedSite, sites, inUse}
 use Rattle.site.specs.Refusal.{sizeFault, contentRefusal}
 
 -- The place of a site in a list: how many of its sites come before it.
@@ -34,7 +34,12 @@ addRefusal c count s =
 -- "Adding puts the site at its place and moves later ones up by one."
 unfoldable pub insertSite : ℕ → ℕ → Site → Columns → Columns
 insertSite p count s c =
-    columns (inserted p count (s .x) (c .x)) (inserted p count (s .y) (c .y)) (inserted p count (s .number) (c .number))
+    record {
+      x = inserted p count (s .x) (c .x);
+      y = inserted p count (s .y) (c .y);
+      number = inserted p count (s .number) (c .number);
+      further = zipWith (inserted p count) (s .further) (c .further);
+    }
 
 -- The columns afterwards, "the site's place and the new count in use".
 pub record AddValues : Type 0 where
@@ -49,6 +54,10 @@ unfoldable pub addAnswer : Columns → ℕ → Site → Answer AddValues
 addAnswer c count s =
     let p = placeOf s (sites (inUse count c)) in
     answerUnless (addRefusal c count s) (addValues (insertSite p count s c) p (count + 1))
+
+-- The site that the struct of the code is.
+abbrev pub siteOf : told.Site → Site
+siteOf s = raisedSite (s .x) (s .y) (s .number) (s .height)
 
 -- The number and the values for each case of `Added`, with the columns at exit.
 unfoldable pub addedAnswer : Added → Columns → Answer AddValues

@@ -6,15 +6,16 @@ use lib.Dec.{leb, eqb}
 use lib.ListN.{length}
 use Rattle.order.specs.Order.{ascending}
 use Rattle.order.specs.Lists.{all}
-use Rattle.site.specs.declared.Site.{Site}
 use Rattle.site.specs.declared.Checked.{Checked}
 use Rattle.site.specs.declared.Checked.the-variants.{Sites, Refused}
 use Rattle.site.specs.Answer.{Answer, refused, answered, answerUnless, refuseIf, orElse}
-use Rattle.site.specs.Site.{lawfulSite, siteBefore}
+use Rattle.site.specs.Site.{Site, lawfulSite, siteBefore}
 use Rattle.site.specs.SiteList.{Columns, sites}
 
 unfoldable pub equalLengths : Columns → Bool
-equalLengths c = eqb (length (c .x)) (length (c .y)) && eqb (length (c .x)) (length (c .number))
+equalLengths c =
+    eqb (length (c .x)) (length (c .y)) && eqb (length (c .x)) (length (c .number))
+    && all (λ column. eqb (length (c .x)) (length column)) (c .further)
 
 -- "1: columns unequal, more than 65,535 sites, or (adding) a count of sites in use above the columns' length."
 unfoldable pub sizeFault : Columns → ℕ → Bool

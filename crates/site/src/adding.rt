@@ -6,17 +6,25 @@ ghost use mathlib.Core.Path.{_≡_};
 ghost use mathlib.Core.Bool.{cond, _||_};
 ghost use Prim.Native.Nat.{_≤_, _<_};
 ghost use lib.ListN.{length};
-ghost use Rattle.site.specs.Site.{siteBefore};
+ghost use Rattle.site.specs.Site.{lawfulSite, siteBefore};
 ghost use Rattle.site.specs.Answer.{afterwards};
-ghost use Rattle.site.specs.SiteList.{site, columns, lentList, sites, siteAt};
+ghost use Rattle.site.specs.SiteList.{site, raisedSite, columns, lentPlane, lentList, sites, siteAt};
 ghost use Rattle.site.specs.Terms.{Level};
-ghost use Rattle.site.specs.Addition.{placeOf, present, addRefusal, insertSite, addAnswer, addedAnswer};
+ghost use Rattle.site.specs.Addition.{
+  placeOf,
+  present,
+  addRefusal,
+  insertSite,
+  siteOf,
+  addAnswer,
+  addedAnswer,
+};
 
 // 1 where the site at `i` comes before another, else 0.
 fn earlier_at(x: &[i32], y: &[i32], number: &[u32], i: usize, sx: i32, sy: i32, sn: u32) -> u32
     requires { ⌜ (Level (columns (now x) (now y) (now number))) × (i < length (now x)) ⌝ }
     ensures { λ r.
-        let l = sites (lentList x y number .entry) in
+        let l = sites (lentPlane x y number .entry) in
         ⌜ r ≡ cond (siteBefore (siteAt l i) (site sx sy sn)) 1 0 ⌝ }
 {
     if lists::before(x[i], y[i], number[i], sx, sy, sn) {
@@ -47,7 +55,7 @@ fn same(ax: i32, ay: i32, an: u32, bx: i32, by: i32, bn: u32) -> u32
 fn same_at(x: &[i32], y: &[i32], number: &[u32], i: usize, sx: i32, sy: i32, sn: u32) -> u32
     requires { ⌜ (Level (columns (now x) (now y) (now number))) × (i < length (now x)) ⌝ }
     ensures { λ r.
-        let a = siteAt (sites (lentList x y number .entry)) i in
+        let a = siteAt (sites (lentPlane x y number .entry)) i in
         let b = site sx sy sn in
         ⌜ r ≡ cond (siteBefore a b || siteBefore b a) 0 1 ⌝ }
 {
@@ -57,7 +65,7 @@ fn same_at(x: &[i32], y: &[i32], number: &[u32], i: usize, sx: i32, sy: i32, sn:
 // The place of a site in a list: how many of its sites come before it.
 fn place_of(x: &[i32], y: &[i32], number: &[u32], sx: i32, sy: i32, sn: u32) -> u32
     requires { ⌜ (Level (columns (now x) (now y) (now number))) × (length (now x) ≤ 65_535) ⌝ }
-    ensures { λ r. ⌜ r ≡ placeOf (site sx sy sn) (sites (lentList x y number .entry)) ⌝ }
+    ensures { λ r. ⌜ r ≡ placeOf (site sx sy sn) (sites (lentPlane x y number .entry)) ⌝ }
 {
     let mut place: u32 = 0;
     let mut i = 0;
@@ -71,7 +79,7 @@ fn place_of(x: &[i32], y: &[i32], number: &[u32], sx: i32, sy: i32, sn: u32) -> 
 // Whether a site stands in a list.
 fn is_present(x: &[i32], y: &[i32], number: &[u32], sx: i32, sy: i32, sn: u32) -> bool
     requires { ⌜ (Level (columns (now x) (now y) (now number))) × (length (now x) ≤ 65_535) ⌝ }
-    ensures { λ r. ⌜ r ≡ present (site sx sy sn) (sites (lentList x y number .entry)) ⌝ }
+    ensures { λ r. ⌜ r ≡ present (site sx sy sn) (sites (lentPlane x y number .entry)) ⌝ }
 {
     let mut same: u32 = 0;
     let mut i = 0;
@@ -82,14 +90,40 @@ fn is_present(x: &[i32], y: &[i32], number: &[u32], sx: i32, sy: i32, sn: u32) -
     same != 0
 }
 
+// Whether the coordinates of a site are inside the limits.
+fn lawful(sx: i32, sy: i32, sh: i32) -> bool
+    ensures { λ r. ⌜ r ≡ lawfulSite (raisedSite sx sy 0 sh) ⌝ }
+{
+    if !Site::within(sx) {
+        return false;
+    }
+    if !Site::within(sy) {
+        return false;
+    }
+    Site::height_within(sh)
+}
+
 // The refusal of an addition, 1, 2, 3, 6 or 11; 0 for none.
-fn add_refusal(x: &[i32], y: &[i32], number: &[u32], count: u32, sx: i32, sy: i32, sn: u32) -> u32
-    ensures { λ r. ⌜ r ≡ addRefusal (lentList x y number .entry) count (site sx sy sn) ⌝ }
+fn add_refusal(
+    x: &[i32],
+    y: &[i32],
+    number: &[u32],
+    height: &[i32],
+    count: u32,
+    sx: i32,
+    sy: i32,
+    sn: u32,
+    sh: i32,
+) -> u32
+    ensures { λ r. ⌜ r ≡ addRefusal (lentList x y number height .entry) count (raisedSite sx sy sn sh) ⌝ }
 {
     if x.len() != y.len() {
         return 1;
     }
     if x.len() != number.len() {
+        return 1;
+    }
+    if x.len() != height.len() {
         return 1;
     }
     if 65_535 < count {
@@ -99,14 +133,11 @@ fn add_refusal(x: &[i32], y: &[i32], number: &[u32], count: u32, sx: i32, sy: i3
     if x.len() < n {
         return 1;
     }
-    let refusal = lists::list_refusal(&x[..n], &y[..n], &number[..n]);
+    let refusal = lists::list_refusal(&x[..n], &y[..n], &number[..n], &height[..n]);
     if refusal != 0 {
         return refusal;
     }
-    if !Site::within(sx) {
-        return 2;
-    }
-    if !Site::within(sy) {
+    if !lawful(sx, sy, sh) {
         return 2;
     }
     if x.len() <= n {
@@ -121,30 +152,48 @@ fn add_refusal(x: &[i32], y: &[i32], number: &[u32], count: u32, sx: i32, sy: i3
     0
 }
 
-// A site at a place of the three columns, the rest of the first `n` moved up by one.
-fn insert_site(x: &mut [i32], y: &mut [i32], number: &mut [u32], place: usize, n: usize, s: Site)
-    requires { ⌜ (place ≤ n) × (n < length (now x)) × (n < length (now y)) × (n < length (now number)) ⌝ }
-    ensures { λ _. let c = lentList x y number in ⌜ c .exit ≡ insertSite place n s (c .entry) ⌝ }
+// A site at a place of the four columns, the rest of the first `n` moved up by one.
+fn insert_site(
+    x: &mut [i32],
+    y: &mut [i32],
+    number: &mut [u32],
+    height: &mut [i32],
+    place: usize,
+    n: usize,
+    s: Site,
+)
+    requires { ⌜
+        (place ≤ n) × (n < length (now x)) × (n < length (now y)) × (n < length (now number)) × (n < length (now height))
+        ⌝ }
+    ensures { λ _. let c = lentList x y number height in ⌜ c .exit ≡ insertSite place n (siteOf s) (c .entry) ⌝ }
 {
     column::insert_i32(x, place, n, s.x);
     column::insert_i32(y, place, n, s.y);
     column::insert_u32(number, place, n, s.number);
+    column::insert_i32(height, place, n, s.height);
 }
 
 // A site at its place, later ones moved up by one. (01: adding a site.)
-pub fn add(x: &mut [i32], y: &mut [i32], number: &mut [u32], count: u32, s: Site) -> Added
+pub fn add(
+    x: &mut [i32],
+    y: &mut [i32],
+    number: &mut [u32],
+    height: &mut [i32],
+    count: u32,
+    s: Site,
+) -> Added
     ensures { λ r.
-        let c = lentList x y number in
-        let answer = addAnswer (c .entry) count s in
+        let c = lentList x y number height in
+        let answer = addAnswer (c .entry) count (siteOf s) in
         ⌜ (addedAnswer r (c .exit) ≡ answer) × (c .exit ≡ afterwards (λ v. v .columns) answer (c .entry)) ⌝ }
 {
-    let refusal = add_refusal(x, y, number, count, s.x, s.y, s.number);
+    let refusal = add_refusal(x, y, number, height, count, s.x, s.y, s.number, s.height);
     if refusal != 0 {
         return Added::Refused(refusal);
     }
     let n = count as usize;
     let place = place_of(&x[..n], &y[..n], &number[..n], s.x, s.y, s.number);
-    insert_site(x, y, number, place as usize, n, s);
+    insert_site(x, y, number, height, place as usize, n, s);
     Added::At {
         place,
         count: count + 1,

@@ -1,4 +1,5 @@
-// A site and its limits, the squared distance of two sites, a lawful list: checking one, and adding a site to one.
+// A site and its limits, the squared distance of two sites, a lawful list: checking one, and adding a site to one. A list has
+// heights; the plane, which the site file keeps, has none.
 mod adding;
 mod lists;
 mod positions;
@@ -8,18 +9,21 @@ pub use lists::before;
 pub use lists::check;
 pub use lists::list_refusal;
 pub use lists::lists_refusal;
+pub use lists::plane_refusal;
 pub use positions::at_most;
 pub use positions::gap;
+pub use positions::plane_distance;
 pub use positions::squared_distance;
 pub use positions::squared_gap;
 ghost use mathlib.Core.Path.{_≡_};
-ghost use Rattle.site.specs.Site.{within};
+ghost use Rattle.site.specs.Site.{between, within, heightWithin};
 
-// A position and a number. (01: site.)
+// A position, a number and a height. (01: site; 02 l: height.)
 pub struct Site {
     pub x: i32,
     pub y: i32,
     pub number: u32,
+    pub height: i32,
 }
 
 // What checking a list answers: how many sites it has, or the refusal's number.
@@ -34,6 +38,13 @@ pub enum Added {
     Refused(u32),
 }
 
+// Whether a coordinate is inside two limits, both allowed.
+fn between(low: i32, high: i32, c: i32) -> bool
+    ensures { λ r. ⌜ r ≡ between low high c ⌝ }
+{
+    low <= c && c <= high
+}
+
 impl Site {
     // The coordinate limits, both allowed.
     pub const MIN: i32 = -1_000_000_000;
@@ -44,6 +55,18 @@ impl Site {
     pub fn within(c: i32) -> bool
         ensures { λ r. ⌜ r ≡ within c ⌝ }
     {
-        Site::MIN <= c && c <= Site::MAX
+        between(Site::MIN, Site::MAX, c)
+    }
+
+    // The limits of a height, both allowed.
+    pub const LOWEST: i32 = -10_000;
+
+    pub const HIGHEST: i32 = 10_000;
+
+    // Whether a height is inside the limits.
+    pub fn height_within(h: i32) -> bool
+        ensures { λ r. ⌜ r ≡ heightWithin h ⌝ }
+    {
+        between(Site::LOWEST, Site::HIGHEST, h)
     }
 }

@@ -3,8 +3,8 @@ ghost use mathlib.Core.Path.{_≡_};
 ghost use mathlib.Core.Bool.{true};
 ghost use lib.IntN.{_-ℤ_};
 ghost use lib.Signed.{leZ};
-ghost use Rattle.site.specs.Site.{within, gap, square, squaredDistance};
-ghost use Rattle.site.specs.SiteList.{site};
+ghost use Rattle.site.specs.Site.{within, heightWithin, gap, square, squaredDistance};
+ghost use Rattle.site.specs.SiteList.{site, raisedSite};
 
 // Whether one coordinate is at most another.
 pub fn at_most(a: i32, b: i32) -> bool
@@ -36,10 +36,19 @@ pub fn squared_gap(a: i32, b: i32) -> u64
     g * g
 }
 
-// The squared distance of two positions inside the limits.
-pub fn squared_distance(ax: i32, ay: i32, bx: i32, by: i32) -> u64
+// The squared distance of two positions of the plane inside the limits.
+pub fn plane_distance(ax: i32, ay: i32, bx: i32, by: i32) -> u64
     requires { ⌜ (within ax ≡ true) × (within ay ≡ true) × (within bx ≡ true) × (within by ≡ true) ⌝ }
     ensures { λ r. ⌜ r ≡ squaredDistance (site ax ay 0) (site bx by 0) ⌝ }
 {
     squared_gap(ax, bx) + squared_gap(ay, by)
+}
+
+// The squared distance of two positions inside the limits.
+pub fn squared_distance(ax: i32, ay: i32, ah: i32, bx: i32, by: i32, bh: i32) -> u64
+    requires { ⌜ (within ax ≡ true) × (within ay ≡ true) × (heightWithin ah ≡ true) ⌝ }
+    requires { ⌜ (within bx ≡ true) × (within by ≡ true) × (heightWithin bh ≡ true) ⌝ }
+    ensures { λ r. ⌜ r ≡ squaredDistance (raisedSite ax ay 0 ah) (raisedSite bx by 0 bh) ⌝ }
+{
+    plane_distance(ax, ay, bx, by) + squared_gap(ah, bh)
 }

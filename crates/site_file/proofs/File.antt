@@ -1,7 +1,7 @@
 -- The sites in a file's bytes, one after another.
 use mathlib.Core.Path.{_≡_, refl, sym, ap, _∙_}
 use mathlib.Core.Bool.{Bool, true, false, and-true}
-use mathlib.Core.List.{List, _++_, flatMap}
+use mathlib.Core.List.{List, _++_, flatMap, zipWith}
 use Prim.Native.Nat.{ℕ, zero, suc, _+_, _-_, _*_, _≤_, _<_}
 use native.Mathlib.Nat.{add-zero}
 use native.Mathlib.Numerals.{add-one}
@@ -14,16 +14,16 @@ use mir.Val.{SFits, toZ, ofZ}
 use mir.Facts.{toZ-ofZ}
 use Rattle.order.specs.Order.{ascending}
 use Rattle.order.specs.Lists.{all}
-use Rattle.site.specs.declared.Site.{Site}
-use Rattle.site.specs.Site.{within, lawfulSite, siteBefore}
+use Rattle.site.specs.Site.{Site, within, allWithin, lawfulSite, siteBefore}
 use Rattle.site.specs.SiteList.{Columns, site, sites}
 use Rattle.site.specs.Terms.{Level}
 use Rattle.site.proofs.SiteList.{nowhere, sites-length, sites-at}
+use Rattle.site_file.specs.declared.FileSite.{FileSite}
 use Rattle.site_file.specs.declared.Which.{Which}
 use Rattle.site_file.specs.declared.Which.the-variants.{First, Second}
 use Rattle.site_file.specs.Bytes.{bytes4, word, unsigned, signed}
 use Rattle.column.specs.Column.{stored}
-use Rattle.site_file.specs.File.{siteBytes, startIn, countIn, siteIn, sitesFrom, sitesIn}
+use Rattle.site_file.specs.File.{siteOfFile, siteBytes, startIn, countIn, siteIn, sitesFrom, sitesIn}
 use Rattle.column.proofs.Stored.{stored-none, stored-after}
 
 -- What the contents say of each list.
@@ -45,19 +45,19 @@ module _ (file : List ℕ) (at : ℕ) where
   site-made hx hy pa px pb py pn = rw (toZ-ofZ hx, toZ-ofZ hy, px, py, pa, pb, pn)
 
   -- What the limits and the order say of sites that were read.
-  pub lawful-made : {s : Site} {p q : Bool} → s ≡ siteIn file at → SFits w32 (s .x)
+  pub lawful-made : {s : FileSite} {p q : Bool} → siteOfFile s ≡ siteIn file at → SFits w32 (s .x)
       → p ≡ within (toZ w32 (ofZ w32 (s .x))) → p ≡ true → SFits w32 (s .y) → q ≡ within (toZ w32 (ofZ w32 (s .y)))
       → q ≡ lawfulSite (siteIn file at)
-  unfolding lawfulSite all
+  unfolding lawfulSite allWithin all zipWith
   lawful-made e hx px t hy py =
       rw (← e, ← (px ∙ ap within (toZ-ofZ hx)), t, ← (py ∙ ap within (toZ-ofZ hy))) (sym (and-true _))
 
-  pub lawful-not : {s : Site} {p : Bool} → s ≡ siteIn file at → SFits w32 (s .x) → p ≡ within (toZ w32 (ofZ w32 (s .x)))
+  pub lawful-not : {s : FileSite} {p : Bool} → siteOfFile s ≡ siteIn file at → SFits w32 (s .x) → p ≡ within (toZ w32 (ofZ w32 (s .x)))
       → p ≡ false → false ≡ lawfulSite (siteIn file at)
-  unfolding lawfulSite all
+  unfolding lawfulSite allWithin all zipWith
   lawful-not e hx px t = rw (← e, ← (px ∙ ap within (toZ-ofZ hx)), t)
 
-  pub ordered-made : {s t : Site} {r : Bool} → s ≡ siteIn file at → t ≡ siteIn file (at + 12) → SFits w32 (s .x)
+  pub ordered-made : {s t : FileSite} {r : Bool} → siteOfFile s ≡ siteIn file at → siteOfFile t ≡ siteIn file (at + 12) → SFits w32 (s .x)
       → SFits w32 (s .y) → SFits w32 (t .x) → SFits w32 (t .y)
       → r ≡ siteBefore (site (toZ w32 (ofZ w32 (s .x))) (toZ w32 (ofZ w32 (s .y))) (s .number))
       (site (toZ w32 (ofZ w32 (t .x))) (toZ w32 (ofZ w32 (t .y))) (t .number))

@@ -9,8 +9,7 @@ use lib.Dec.{ltb, eqb}
 use lib.ListN.{length}
 use Rattle.order.specs.Order.{ascending}
 use Rattle.order.specs.Lists.{all}
-use Rattle.site.specs.declared.Site.{Site}
-use Rattle.site.specs.Site.{lawfulSite, siteBefore}
+use Rattle.site.specs.Site.{Site, lawfulSite, siteBefore}
 use Rattle.site.specs.Answer.{refused, answered, answerUnless, refuseIf, orElse}
 use Rattle.site.specs.SiteList.{siteAt}
 use Rattle.site.specs.Refusal.{contentRefusal}

@@ -5,7 +5,7 @@ use Prim.Native.Nat.{ℕ, zero, suc, _+_, _*_, _≤_, _<_}
 use native.Mathlib.Omega.{arith}
 use borrow.Author.Tests.{le-leb, lt-leb, leb-false, eq-eqb, ne-eqb}
 use lib.ListN.{length}
-use Rattle.site.specs.declared.Site.{Site}
+use Rattle.site.specs.Site.{Site}
 use Rattle.site.specs.Answer.{refused, answered, answerUnless, orElse}
 use Rattle.site.proofs.Answer.{answer-refused, first-refused, orElse-second, no-fault}
 use Rattle.site_file.specs.declared.Which.{Which}

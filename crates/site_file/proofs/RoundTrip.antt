@@ -7,7 +7,7 @@ use lib.ListN.{length, take, drop, length-drop, take-append-drop}
 use lib.Seq.{take-add, take-all, take-at, drop-drop}
 use Rattle.order.specs.Lists.{All}
 use Rattle.column.specs.Column.{overwritten}
-use Rattle.site.specs.declared.Site.{Site}
+use Rattle.site.specs.Site.{Site}
 use Rattle.site.specs.Answer.{answered, orElse}
 use Rattle.site.specs.SiteList.{Columns, sites, siteAt, columnsOf}
 use Rattle.site.specs.Refusal.{contentRefusal, listsRefusal}
@@ -32,7 +32,7 @@ use Rattle.site_file.proofs.Word.{Bytes, digits, bytes-back}
 use Rattle.site_file.proofs.File.{from-length, list-length}
 use Rattle.site_file.proofs.ReadAnswer.{Laid, contents-right, read-laid, read-answered, site-found}
 use Rattle.site_file.proofs.WriteAnswer.{ready, contents-length, body-end, file-length, write-ready}
-use Rattle.site_file.proofs.SitesIn.{Fit, sites-read, body-back, sites-fit, columns-numbers, columns-accepted}
+use Rattle.site_file.proofs.SitesIn.{Fit, sites-read, body-back, sites-fit, columns-numbers, list-flat, columns-accepted}
 
 -- The four words of a file's contents.
 contents-words : (n m : ℕ) → n ≤ 65_535 → m ≤ 65_535 → (r : List ℕ)
@@ -98,15 +98,15 @@ yields-site file w c place ok same count h =
 
 pub every-output-accepted : EveryOutputAccepted
 unfolding countIn
-every-output-accepted a b buffer v ha hb h =
+every-output-accepted a b buffer v pa pb ha hb h =
     let out = output-bytes a b buffer v h in
     let k = ready a b (length buffer) (out .0) in
     let na = accepted-length a (k .first) in
     let nb = accepted-length b (k .second) in
     let la : length (sites a) ≤ 65_535 = omega arith in
     let lb : length (sites b) ≤ 65_535 = omega arith in
-    let fa = sites-fit a (k .first) ha in
-    let fb = sites-fit b (k .second) hb in
+    let fa = sites-fit a pa (k .first) ha in
+    let fb = sites-fit b pb (k .second) hb in
     let file : List ℕ = fileBytes (sites a) (sites b) in
     let ok : 0 ≡ contentsRefusal file = file-contents (sites a) (sites b) la lb in
     let n : word file 4 ≡ length (a .x) = file-words (sites a) (sites b) la lb .1 ∙ na in
@@ -161,7 +161,7 @@ file-back file h g =
     rw (from-length, from-length, g .first, g .second, first, second, bodies, head) (take-append-drop 16 file)
 
 pub every-accepted-is-output : EveryAcceptedIsOutput
-unfolding sitesIn countIn listsRefusal writeAnswer
+unfolding sitesIn countIn columnsOf listsRefusal writeAnswer
 every-accepted-is-output file h ok =
     let g = read-laid file ok in
     let a : Columns = columnsOf (sitesIn file First) in
@@ -170,9 +170,11 @@ every-accepted-is-output file h ok =
     let nb : length (b .x) ≡ word file 12 = columns-length (sitesIn file Second) ∙ list-length file Second in
     let lists : listsRefusal a b ≡ 0 = or-none _ _ (columns-accepted file ok First) ∙ columns-accepted file ok Second in
     let bytes : fileBytes (sites a) (sites b) ≡ file =
-    rw (columns-sites (sitesIn file First), columns-sites (sitesIn file Second)) (file-back file h g) in (
+    rw (columns-sites (sitesIn file First) (list-flat file First), columns-sites (sitesIn file Second) (list-flat file Second)) (file-back file h g) in (
       a,
       b,
+      refl,
+      refl,
       columns-numbers file (startIn file First) (word file 4) h,
       columns-numbers file (startIn file Second) (word file 12) h,
       λ buffer room.

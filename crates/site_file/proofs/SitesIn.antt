@@ -1,24 +1,23 @@
 -- Sites written and read again, and bytes read and written again.
-use mathlib.Core.Path.{_≡_, refl, sym, ap, ap₂, _∙_}
+use mathlib.Core.Path.{_≡_, refl, sym, ap, ap₂, _∙_, subst⁻¹}
 use mathlib.Core.Bool.{true, _&&_}
-use mathlib.Core.List.{List, [], _∷_, _++_, flatMap, append-assoc}
+use mathlib.Core.List.{List, [], _∷_, _++_, map, flatMap, append-assoc}
 use Prim.Native.Nat.{ℕ, zero, suc, _+_, _*_, _≤_, _<_}
 use native.Mathlib.Nat.{add-zero}
 use native.Mathlib.Omega.{arith}
 use lib.ListN.{length, take, drop, length-append}
 use lib.Seq.{take-add, drop-drop}
 use Rattle.order.specs.Lists.{All}
-use Rattle.site.specs.declared.Site.{Site}
-use Rattle.site.specs.Site.{within, lawfulSite}
-use Rattle.site.specs.SiteList.{Columns, sites, columnsOf}
+use Rattle.site.specs.Site.{Site, within, furtherLimits, allWithin, lawfulSite}
+use Rattle.site.specs.SiteList.{Columns, Plane, sites, columnsOf}
 use Rattle.site.specs.Refusal.{contentRefusal, listRefusal}
 use Rattle.site.proofs.Tests.{and-first, and-second}
-use Rattle.site.proofs.Refusal.{lawful-is, content-left}
-use Rattle.site.proofs.SiteList.{sites-numbered, columns-sites, columns-length, columns-level}
+use Rattle.site.proofs.Refusal.{lawful-is, plane-flat, content-left}
+use Rattle.site.proofs.SiteList.{flattened, plane-flattened, sites-numbered, Flat, columns-sites, columns-length, columns-level}
 use Rattle.site.proofs.Accepted.{accepted-lawful}
 use Rattle.site_file.specs.declared.Which.{Which}
 use Rattle.site_file.specs.Bytes.{bytes4, word, unsigned}
-use Rattle.site_file.specs.File.{siteBytes, siteIn, sitesFrom, sitesIn}
+use Rattle.site_file.specs.File.{siteBytes, startIn, countIn, siteIn, sitesFrom, sitesIn}
 use Rattle.site_file.specs.Calls.{readRefusal}
 use Rattle.site_file.specs.RoundTrip.{Numbers}
 use Rattle.site_file.proofs.File.{list-length}
@@ -34,9 +33,9 @@ use Rattle.site_file.proofs.Word.{
   word-fits,
 }
 
--- A site that can be written: inside the limits, with a number of 32 bits.
+-- A site that can be written: inside the limits, with a number of 32 bits, of the plane.
 abbrev pub Fit : Site → Type 0
-Fit s = (lawfulSite s ≡ true) × (s .number < 4_294_967_296)
+Fit s = (lawfulSite s ≡ true) × (s .number < 4_294_967_296) × (Flat s)
 
 site-length : (s : Site) → length (siteBytes s) ≡ 12
 unfolding siteBytes bytes4
@@ -53,11 +52,13 @@ site-words s q hx hy hn = (digits (unsigned (s .x)) hx, digits (unsigned (s .y))
 site-first : (q : List ℕ) (s : Site) → Fit s → siteIn (siteBytes s ++ q) 0 ≡ s
 unfolding siteIn
 site-first q s h =
-    let both : (within (s .x) && within (s .y)) ≡ true = sym (lawful-is s) ∙ h .0 in
-    let wx : within (s .x) ≡ true = and-first (within (s .x)) (within (s .y)) both in
-    let wy : within (s .y) ≡ true = and-second (within (s .x)) (within (s .y)) both in
+    let further = allWithin furtherLimits (s .further) in
+    let both : (within (s .x) && (within (s .y) && further)) ≡ true = sym (lawful-is s) ∙ h .0 in
+    let wx : within (s .x) ≡ true = and-first (within (s .x)) (within (s .y) && further) both in
+    let wy : within (s .y) ≡ true = and-first (within (s .y)) further (and-second (within (s .x)) (within (s .y) && further) both) in
     let w = site-words s q (coordinate-fits (s .x) wx) (coordinate-fits (s .y) wy) (h .1) in
     rw (w .0, w .1, w .2, signed-back (s .x) wx, signed-back (s .y) wy)
+    (λ i. record { x = s .x; y = s .y; number = s .number; further = sym (h .2) i })
 
 site-past : (p l : List ℕ) → siteIn (p ++ l) (length p) ≡ siteIn l 0
 unfolding siteIn
@@ -118,18 +119,32 @@ body-back l at (suc n) h k =
     ∙ ap (λ (r : List ℕ). take 12 (drop at l) ++ take (12 * n) r) (drop-drop 12 at l)))
 
 -- The sites of an accepted list can be written.
-all-both : {A : Type 0} (P Q : A → Type 0) (l : List A) → All P l → All Q l → All (λ a. P a × Q a) l
+all-fit : (l : List Site) → All (λ s. lawfulSite s ≡ true) l → All (λ s. s .number < 4_294_967_296) l → All Flat l → All Fit l
 unfolding All
-all-both P Q [] h k = tt
-all-both P Q (a ∷ l) h k = ((h .0, k .0), all-both P Q l (h .1) (k .1))
+all-fit [] h k f = tt
+all-fit (s ∷ l) h k f = ((h .0, k .0, f .0), all-fit l (h .1) (k .1) (f .1))
 
-pub sites-fit : (c : Columns) → listRefusal c ≡ 0 → Numbers c → All Fit (sites c)
-sites-fit c ok h = all-both _ _ (sites c) (accepted-lawful c ok .inside) (sites-numbered (λ n. n < 4_294_967_296) c h)
+pub sites-fit : (c : Columns) → Plane c → listRefusal c ≡ 0 → Numbers c → All Fit (sites c)
+sites-fit c plane ok h =
+    let e : sites c ≡ sites (flattened c) = ap sites (plane-flattened c plane) in
+    all-fit (sites c) (accepted-lawful c ok .inside)
+    (subst⁻¹ (All (λ (s : Site). s .number < 4_294_967_296)) e (sites-numbered (λ n. n < 4_294_967_296) (c .x) (c .y) (c .number) h))
+    (subst⁻¹ (All Flat) e (plane-flat (c .x) (c .y) (c .number)))
 
 pub columns-numbers : (l : List ℕ) (at n : ℕ) → Bytes l → Numbers (columnsOf (sitesFrom l at n))
 unfolding columnsOf sitesFrom siteIn All
 columns-numbers l at zero h = tt
 columns-numbers l at (suc n) h = (word-fits l (at + 8) h, columns-numbers l (at + 12) n h)
+
+-- The sites of a file are of the plane.
+from-flat : (l : List ℕ) (at n : ℕ) → All Flat (sitesFrom l at n)
+unfolding sitesFrom siteIn All
+from-flat l at zero = tt
+from-flat l at (suc n) = (refl, from-flat l (at + 12) n)
+
+pub list-flat : (file : List ℕ) (w : Which) → All Flat (sitesIn file w)
+unfolding sitesIn
+list-flat file w = from-flat file (startIn file w) (countIn file w)
 
 -- The columns of a list of an accepted file are a lawful list.
 pub columns-accepted : (file : List ℕ) → readRefusal file ≡ 0 → (w : Which)
@@ -138,5 +153,5 @@ columns-accepted file ok w =
     let l = sitesIn file w in
     let few = inside file w (read-laid file ok) .count in
     content-left (columnsOf l) (columns-level l) (omega (arith, columns-length l, list-length file w))
-    ∙ ap contentRefusal (columns-sites l)
+    ∙ ap contentRefusal (columns-sites l (list-flat file w))
     ∙ read-content file ok w

@@ -22,7 +22,7 @@ use mir.Val.{SFits, toZ, ofZ}
 use mir.Facts.{toZ-ofZ, ofZ-toZ}
 use mathlib.Core.Bool.{true}
 use Rattle.order.specs.Lists.{All}
-use Rattle.site.specs.Site.{within}
+use Rattle.site.specs.Site.{between, within}
 use Rattle.order.proofs.Order.{byTest}
 use Rattle.order.proofs.Lists.{all-drop}
 use Rattle.site.proofs.Tests.{and-first}
@@ -110,7 +110,7 @@ signed-bits n h =
 
 -- A coordinate inside the limits fits 32 bits, and comes back.
 within-fits : (z : ℤ) → within z ≡ true → SFits w32 z
-unfolding within
+unfolding within between
 within-fits (pos n) h = record { sfits = omega (arith, leb-true n 1_000_000_000 h) }
 within-fits (negsuc n) h =
     record { sfits = omega (arith, leb-true n 999_999_999 (and-first (leb n 999_999_999) true h)) }

@@ -8,7 +8,7 @@ use borrow.Author.Tests.{lt-ltb, le-ltb, ltb-false}
 use lib.ListN.{length, length-append}
 use Rattle.column.specs.Column.{overwritten, stored}
 use Rattle.column.proofs.Stored.{stored-start, stored-after}
-use Rattle.site.specs.declared.Site.{Site}
+use Rattle.site.specs.Site.{Site}
 use Rattle.site.specs.Answer.{refused, answered, afterwards}
 use Rattle.site.specs.SiteList.{Columns, sites}
 use Rattle.site.specs.Refusal.{listRefusal, listsRefusal}
@@ -92,6 +92,16 @@ pub lists-length : (a b : Columns) → listsRefusal a b ≡ 0
 lists-length a b h =
     let lists = both-accepted a b h in
     omega (arith, file-length (sites a) (sites b), accepted-length a (lists .0), accepted-length b (lists .1))
+
+-- The refusal of two lists: the first one's, else the second one's.
+module _ (a b : Columns) {r : ℕ} (p : r ≡ listRefusal a) where
+  pub lists-first : (r ≡ 0 → ⊥) → r ≡ listsRefusal a b
+  unfolding listsRefusal
+  lists-first h = first-refused _ p h
+
+  pub lists-second : r ≡ 0 → {s : ℕ} → s ≡ listRefusal b → s ≡ listsRefusal a b
+  unfolding listsRefusal
+  lists-second z q = next-decides p z q
 
 -- The refusals of writing, one test after another.
 module _ (a b : Columns) (room : ℕ) {r : ℕ} (p : r ≡ listsRefusal a b) where

@@ -5,7 +5,7 @@ use Prim.Native.Nat.{ℕ, _+_, _*_}
 use lib.Dec.{leb, ltb, eqb}
 use lib.ListN.{length}
 use Rattle.column.specs.Column.{overwritten}
-use Rattle.site.specs.declared.Site.{Site}
+use Rattle.site.specs.Site.{Site}
 use Rattle.site.specs.Answer.{Answer, refused, answered, answerUnless, refuseIf, orElse}
 use Rattle.site.specs.SiteList.{Columns, sites, siteAt}
 use Rattle.site.specs.Refusal.{contentRefusal, listsRefusal}
@@ -17,7 +17,7 @@ use Rattle.site_file.specs.declared.FileRead.{FileRead}
 use Rattle.site_file.specs.declared.FileRead.the-variants as read
 use Rattle.site_file.specs.declared.SiteRead.{SiteRead}
 use Rattle.site_file.specs.declared.SiteRead.the-variants as found
-use Rattle.site_file.specs.File.{fileBytes, startIn, countIn, sitesIn}
+use Rattle.site_file.specs.File.{fileBytes, startIn, countIn, sitesIn, siteOfFile}
 
 pub record WriteValues : Type 0 where
   pub buffer : List ℕ
@@ -80,5 +80,5 @@ fileReadAnswer (read.Counts first second) = answered (readValues first second)
 fileReadAnswer (read.Refused number) = refused number
 
 unfoldable pub siteReadAnswer : SiteRead → Answer Site
-siteReadAnswer (found.Found s) = answered s
+siteReadAnswer (found.Found s) = answered (siteOfFile s)
 siteReadAnswer (found.Refused number) = refused number

@@ -2,11 +2,16 @@
 use mathlib.Core.List.{List, [], _∷_, _++_, flatMap}
 use Prim.Native.Nat.{ℕ, zero, suc, _+_, _*_}
 use lib.ListN.{length}
-use Rattle.site.specs.declared.Site.{Site}
+use Rattle.site.specs.Site.{Site}
 use Rattle.site.specs.SiteList.{site}
+use Rattle.site_file.specs.declared.FileSite.{FileSite}
 use Rattle.site_file.specs.declared.Which.{Which}
 use Rattle.site_file.specs.declared.Which.the-variants.{First, Second}
 use Rattle.site_file.specs.Bytes.{bytes4, word, unsigned, signed}
+
+-- The site of the plane that the struct of the code is: no height is filed.
+abbrev pub siteOfFile : FileSite → Site
+siteOfFile s = site (s .x) (s .y) (s .number)
 
 -- "A site is x, y (two's complement) and number, 4 bytes each."
 unfoldable pub siteBytes : Site → List ℕ

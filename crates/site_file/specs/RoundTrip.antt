@@ -1,12 +1,12 @@
 -- The reader accepts exactly what the writer can write, and finds in it what was written. (01: site file.)
 use mathlib.Core.Path.{_≡_}
-use mathlib.Core.List.{List}
+use mathlib.Core.List.{List, []}
 use Prim.Native.Nat.{ℕ, _≤_, _<_}
 use lib.ListN.{length, take}
 use Rattle.order.specs.Lists.{All}
 use Rattle.column.specs.Column.{overwritten}
 use Rattle.site.specs.Answer.{answered}
-use Rattle.site.specs.SiteList.{Columns, sites, siteAt}
+use Rattle.site.specs.SiteList.{Columns, Plane, sites, siteAt}
 use Rattle.site_file.specs.declared.Which.the-variants.{First, Second}
 use Rattle.site_file.specs.File.{sitesIn}
 use Rattle.site_file.specs.Calls.{WriteValues, writeValues, writeAnswer}
@@ -27,13 +27,13 @@ pub record Yields (file : List ℕ) (a b : Columns) : Type 0 where
 -- Every output is accepted, and yields the two lists that were written: as many bytes of the buffer as are answered.
 abbrev pub EveryOutputAccepted : Type 0
 EveryOutputAccepted =
-    (a b : Columns) (buffer : List ℕ) (v : WriteValues) → Numbers a → Numbers b →
+    (a b : Columns) (buffer : List ℕ) (v : WriteValues) → Plane a → Plane b → Numbers a → Numbers b →
     writeAnswer a b buffer ≡ answered v → Yields (take (v .length) (v .buffer)) a b
 
 -- Every accepted file is the output for some two lists, in every buffer that has room for it.
 abbrev pub EveryAcceptedIsOutput : Type 0
 EveryAcceptedIsOutput =
     (file : List ℕ) → All (λ byte. byte < 256) file → readRefusal file ≡ 0 →
-    (a : Columns) × (b : Columns) × Numbers a × Numbers b ×
+    (a : Columns) × (b : Columns) × Plane a × Plane b × Numbers a × Numbers b ×
     ((buffer : List ℕ) → length file ≤ length buffer →
     writeAnswer a b buffer ≡ answered (writeValues (overwritten file buffer) (length file)))

@@ -10,7 +10,6 @@ pub use consulting::site_in;
 pub use numbers::word_at;
 pub use reading::count_in;
 pub use reading::read;
-use site::Site;
 pub use writing::write;
 
 // Which of a file's two lists.
@@ -31,9 +30,16 @@ pub enum FileRead {
     Refused(u32),
 }
 
+// A site of a file: its x, y and number.
+pub struct FileSite {
+    pub x: i32,
+    pub y: i32,
+    pub number: u32,
+}
+
 // What consulting a file answers: the site, or the refusal's number.
 pub enum SiteRead {
-    Found(Site),
+    Found(FileSite),
     Refused(u32),
 }
 

@@ -1,5 +1,6 @@
 // Reading a file: its contents and length, then each list's sites.
 use super::FileRead;
+use super::FileSite;
 use super::Which;
 use super::numbers;
 use site::Site;
@@ -10,15 +11,15 @@ ghost use Rattle.order.specs.Order.{ascending};
 ghost use Rattle.order.specs.Lists.{all};
 ghost use Rattle.site.specs.Site.{lawfulSite, siteBefore};
 ghost use Rattle.site.specs.Refusal.{contentRefusal};
-ghost use Rattle.site_file.specs.File.{countIn, siteIn, sitesFrom};
+ghost use Rattle.site_file.specs.File.{siteOfFile, countIn, siteIn, sitesFrom};
 ghost use Rattle.site_file.specs.Calls.{contentsRefusal, readRefusal, readAnswer, fileReadAnswer};
 
 // The site whose bytes begin at a position.
-pub(super) fn site_at(file: &[u8], at: usize) -> Site
+pub(super) fn site_at(file: &[u8], at: usize) -> FileSite
     requires { ⌜ at + 12 ≤ length (now file) ⌝ }
-    ensures { λ r. ⌜ r ≡ siteIn (now (file .entry)) at ⌝ }
+    ensures { λ r. ⌜ siteOfFile r ≡ siteIn (now (file .entry)) at ⌝ }
 {
-    Site {
+    FileSite {
         x: numbers::signed(numbers::whole_word(file, at)),
         y: numbers::signed(numbers::whole_word(file, at + 4)),
         number: numbers::whole_word(file, at + 8),

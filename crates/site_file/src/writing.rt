@@ -6,7 +6,7 @@ ghost use mathlib.Core.List.{flatMap};
 ghost use Prim.Native.Nat.{_+_, _*_, _≤_};
 ghost use lib.ListN.{length};
 ghost use Rattle.site.specs.Answer.{afterwards};
-ghost use Rattle.site.specs.SiteList.{site, columns, lentList, sites};
+ghost use Rattle.site.specs.SiteList.{site, columns, lentPlane, sites};
 ghost use Rattle.site.specs.Terms.{Level};
 ghost use Rattle.column.specs.Column.{stored};
 ghost use Rattle.site_file.specs.File.{siteBytes, contentsBytes};
@@ -27,7 +27,7 @@ fn put_sites(buffer: &mut [u8], start: usize, x: &[i32], y: &[i32], number: &[u3
     requires { ⌜ start + 12 * length (now x) ≤ length (now buffer) ⌝ }
     requires { ⌜ Level (columns (now x) (now y) (now number)) ⌝ }
     ensures { λ _.
-        let c = lentList x y number .entry in
+        let c = lentPlane x y number .entry in
         ⌜ now (buffer .exit) ≡ stored start (flatMap siteBytes (sites c)) (now (buffer .entry)) ⌝ }
 {
     let mut at = start;
@@ -61,13 +61,17 @@ fn write_refusal(
     room: usize,
 ) -> u32
     ensures { λ r.
-        let a = lentList ax ay an .entry in
-        let b = lentList bx by bn .entry in
+        let a = lentPlane ax ay an .entry in
+        let b = lentPlane bx by bn .entry in
         ⌜ r ≡ writeRefusal a b room ⌝ }
 {
-    let lists = site::lists_refusal(ax, ay, an, bx, by, bn);
-    if lists != 0 {
-        return lists;
+    let first = site::plane_refusal(ax, ay, an);
+    if first != 0 {
+        return first;
+    }
+    let second = site::plane_refusal(bx, by, bn);
+    if second != 0 {
+        return second;
     }
     if room < 16 + 12 * ax.len() + 12 * bx.len() {
         return 6;
@@ -86,8 +90,8 @@ pub fn write(
     buffer: &mut [u8],
 ) -> Written
     ensures { λ r.
-        let a = lentList ax ay an .entry in
-        let b = lentList bx by bn .entry in
+        let a = lentPlane ax ay an .entry in
+        let b = lentPlane bx by bn .entry in
         let answer = writeAnswer a b (now (buffer .entry)) in
         ⌜ (writtenAnswer r (now (buffer .exit)) ≡ answer)
         × (now (buffer .exit) ≡ afterwards (λ v. v .buffer) answer (now (buffer .entry))) ⌝ }

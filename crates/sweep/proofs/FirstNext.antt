@@ -29,6 +29,6 @@ module _ (ax : List ℤ) (i aTo : ℕ) (bx : List ℤ) (j bTo : ℕ) where
   next-read x y t h g a b is = is ∙ ap₂ leZ a b ∙ sym (next-both h g)
 
   -- The next of both lists: which one leads.
-  pub next-leads : (ay by : List ℤ) → i < aTo → j < bTo → leads (spot ax ay i) (spot bx by j) ≡ firstNext ax i aTo bx j bTo
+  pub next-leads : (ay ah by bh : List ℤ) → i < aTo → j < bTo → leads (spot ax ay ah i) (spot bx by bh j) ≡ firstNext ax i aTo bx j bTo
   unfolding leads spot
-  next-leads ay by h g = sym (next-both h g)
+  next-leads ay ah by bh h g = sym (next-both h g)

@@ -11,8 +11,7 @@ use Rattle.order.proofs.Sorted.{Ascends, ascending-ascends, sorted-take, sorted
 use Rattle.order.proofs.Order.{byTest, never-both, ltZ-order, lex-more}
 use Rattle.order.specs.Lists.{All}
 use Rattle.order.proofs.Lists.{all-weaken}
-use Rattle.site.specs.declared.Site.{Site}
-use Rattle.site.specs.Site.{siteBefore}
+use Rattle.site.specs.Site.{Site, siteBefore}
 use Rattle.site.proofs.SiteBefore.{site-order}
 use Rattle.sweep.specs.Strip.{Placed, placedFrom, whole, strip}
 

@@ -14,11 +14,11 @@ pub mod Updated
 pub mod Reach
 pub mod LookLaws
 pub mod ScanInvariant
+pub mod Alike
 pub mod Unnumbered
 pub mod FirstNext
 pub mod ReferenceLaws
 pub mod SweptStrips
-pub mod UnnumberedPairs
 pub mod KeptPairs
 pub mod RunAt
 pub mod CoSited

@@ -11,9 +11,10 @@ use lib.ListN.{getD}
 use borrow.Author.Tests.{lt-ltb, le-ltb, le-leb}
 use Rattle.order.proofs.Order.{byTest}
 use Rattle.site.specs.Site.{gap, square, squaredDistance}
-use Rattle.site.specs.SiteList.{site}
-use Rattle.site.proofs.Accepted.{coordinate-x, coordinate-y}
-use Rattle.site.proofs.Distance.{gap-sym, squared-distance-sym, squared-distance-within, squared-gap-within}
+use Rattle.site.specs.SiteList.{site, raisedSite}
+use Rattle.site.specs.Terms.{positionAt}
+use Rattle.site.proofs.Accepted.{coordinate-x, coordinate-y, height-at}
+use Rattle.site.proofs.Distance.{gap-sym, squared-distance-sym, squared-distance-within, squared-gap-within, plane-under}
 use Rattle.entry.specs.declared.Entry.{Entry}
 use Rattle.entry.specs.Entry.{entry, apart, offer}
 use Rattle.entry.specs.declared.Queue.{Queue}
@@ -92,29 +93,29 @@ module _ {k : ℕ} {r : Results} (c : Candidate) (old : Tally) (h : Queueing k (
 
 -- ---- the candidate that a reference meets
 
-module _ (o : Reference) (xs ys : List ℤ) (i : ℕ) where
+module _ (o : Reference) (xs ys hs : List ℤ) (i : ℕ) where
   -- The x-difference squared, from either side.
-  look-gap : lookFrom o (spot xs ys i) .gap ≡ square (gap (o .x) (getD xs i (pos 0)))
+  look-gap : lookFrom o (spot xs ys hs i) .gap ≡ square (gap (o .x) (getD xs i (pos 0)))
   unfolding lookFrom look spot
   look-gap = go (o .swapped)
     where
-      go : (b : Bool) → cond b (look (spot xs ys i) (spotOf (o .x) (o .y) (o .place))) (look (spotOf (o .x) (o .y) (o .place)) (spot xs ys i)) .gap
+      go : (b : Bool) → cond b (look (spot xs ys hs i) (spotOf (o .x) (o .y) (o .height) (o .place))) (look (spotOf (o .x) (o .y) (o .height) (o .place)) (spot xs ys hs i)) .gap
           ≡ square (gap (o .x) (getD xs i (pos 0)))
       go true = ap square (gap-sym (getD xs i (pos 0)) (o .x))
       go false = refl
 
-  module _ (d : ℕ) (is : d ≡ squaredDistance (site (o .x) (o .y) 0) (site (getD xs i (pos 0)) (getD ys i (pos 0)) 0)) where
+  module _ (d : ℕ) (is : d ≡ squaredDistance (raisedSite (o .x) (o .y) 0 (o .height)) (spot xs ys hs i .site)) where
     -- The entry, by the squared distance from either side.
-    look-entry : lookFrom o (spot xs ys i) .entry ≡ cond (o .swapped) (entry d i (o .place)) (entry d (o .place) i)
+    look-entry : lookFrom o (spot xs ys hs i) .entry ≡ cond (o .swapped) (entry d i (o .place)) (entry d (o .place) i)
     unfolding lookFrom look spot pair
     look-entry = go (o .swapped)
       where
-        go : (b : Bool) → cond b (look (spot xs ys i) (spotOf (o .x) (o .y) (o .place))) (look (spotOf (o .x) (o .y) (o .place)) (spot xs ys i)) .entry
+        go : (b : Bool) → cond b (look (spot xs ys hs i) (spotOf (o .x) (o .y) (o .height) (o .place))) (look (spotOf (o .x) (o .y) (o .height) (o .place)) (spot xs ys hs i)) .entry
             ≡ cond b (entry d i (o .place)) (entry d (o .place) i)
         go true = ap (λ (n : ℕ). entry n i (o .place)) (squared-distance-sym _ _ ∙ sym is)
         go false = ap (λ (n : ℕ). entry n (o .place) i) (sym is)
 
-    look-distance : lookFrom o (spot xs ys i) .entry .distance ≡ d
+    look-distance : lookFrom o (spot xs ys hs i) .entry .distance ≡ d
     look-distance = ap (λ (e : Entry). e .distance) look-entry ∙ go (o .swapped)
       where
         go : (b : Bool) → cond b (entry d i (o .place)) (entry d (o .place) i) .distance ≡ d
@@ -123,16 +124,16 @@ module _ (o : Reference) (xs ys : List ℤ) (i : ℕ) where
 
 -- ---- the outcomes
 
-module _ {o : Reference} {xs ys : List ℤ} {i k : ℕ} {old : Tally} {r : Results} (asked : LookAsked o xs ys i k old r)
+module _ {o : Reference} {xs ys hs : List ℤ} {i k : ℕ} {old : Tally} {r : Results} (asked : LookAsked o xs ys hs i k old r)
     {g : ℕ} (gap-is : g ≡ square (gap (o .x) (getD xs i (pos 0)))) where
   abbrev c : Candidate
-  c = lookFrom o (spot xs ys i)
+  c = lookFrom o (spot xs ys hs i)
 
   same-gap : c .gap ≡ g
-  same-gap = look-gap o xs ys i ∙ sym gap-is
+  same-gap = look-gap o xs ys hs i ∙ sym gap-is
 
   gap-fits : c .gap < 2 ^ 64
-  gap-fits = omega (arith, look-gap o xs ys i, squared-gap-within (o .x) (getD xs i (pos 0)) (asked .lawful .x) (coordinate-x (asked .lawful .others) i (asked .inside)))
+  gap-fits = omega (arith, look-gap o xs ys hs i, squared-gap-within (o .x) (getD xs i (pos 0)) (asked .lawful .x) (coordinate-x (asked .lawful .others) i (asked .inside)))
 
   -- The x-difference squared is past the reach.
   pub look-stops : old .queue .reach < g
@@ -140,7 +141,7 @@ module _ {o : Reference} {xs ys : List ℤ} {i k : ℕ} {old : Tally} {r : Resul
       (record { stopped = true; tally = record { at = old .at; looks = old .looks + 1; distances = old .distances; queue = old .queue } })
   look-stops h = stopped c old (asked .queue) gap-fits (omega (arith, same-gap))
 
-  module _ {d : ℕ} (is : d ≡ squaredDistance (site (o .x) (o .y) 0) (site (getD xs i (pos 0)) (getD ys i (pos 0)) 0)) (on : g ≤ old .queue .reach) where
+  module _ {d : ℕ} (is : d ≡ squaredDistance (raisedSite (o .x) (o .y) 0 (o .height)) (spot xs ys hs i .site)) (on : g ≤ old .queue .reach) where
     -- The list stays, as it takes nothing.
     look-stays : taken apart k (c .entry) (queued (old .queue) r) ≡ queued (old .queue) r
         → LookDone k c old r r (wentOn old (old .queue))
@@ -149,27 +150,38 @@ module _ {o : Reference} {xs ys : List ℤ} {i k : ℕ} {old : Tally} {r : Resul
     -- The pair is past the reach.
     pub look-passes : old .queue .reach < d
         → LookDone k c old r r (wentOn old (old .queue))
+    unfolding spot
     look-passes h =
         let q = asked .queue in
-        let same = look-distance o xs ys i d is in
-        let most = squared-distance-within (site (o .x) (o .y) 0) (site (getD xs i (pos 0)) (getD ys i (pos 0)) 0) (asked .lawful .x) (asked .lawful .y)
-        (coordinate-x (asked .lawful .others) i (asked .inside)) (coordinate-y (asked .lawful .others) i (asked .inside)) in
+        let same = look-distance o xs ys hs i d is in
+        let w = asked .lawful in
+        let at = asked .inside in
+        let most = squared-distance-within (o .x) (o .y) (o .height) (getD xs i (pos 0)) (getD ys i (pos 0)) (getD hs i (pos 0)) 0 0 (w .x) (w .y) (w .height)
+        (coordinate-x (w .others) i at) (coordinate-y (w .others) i at) (height-at (w .heights) i at) in
         look-stays
         (taken-past k (c .entry) (queued (old .queue) r)
         (reach-past k (c .entry) (queued (old .queue) r) (q .some) (sorted-queued (old .queue) r) (omega arith) (omega (arith, q .reach))))
 
+    -- The pair is past the reach in the plane.
+    pub look-flat : {f : ℕ} → f ≡ squaredDistance (site (o .x) (o .y) 0) (positionAt xs ys i) → old .queue .reach < f
+        → LookDone k c old r r (wentOn old (old .queue))
+    unfolding spot
+    look-flat e h =
+        let under = plane-under (o .x) (o .y) (o .height) (getD xs i (pos 0)) (getD ys i (pos 0)) (getD hs i (pos 0)) 0 0 in
+        look-passes (omega arith)
+
     -- The two cells are co-sited.
     pub look-leaves : d ≡ 0
         → LookDone k c old r r (wentOn old (old .queue))
-    look-leaves h = look-stays (taken-none k (c .entry) (queued (old .queue) r) (look-distance o xs ys i d is ∙ h))
+    look-leaves h = look-stays (taken-none k (c .entry) (queued (old .queue) r) (look-distance o xs ys hs i d is ∙ h))
 
     -- The pair takes its place.
     pub look-offers : {e : Entry} {after : Results} {new : Queue} → (d ≡ 0 → ⊥) → e ≡ cond (o .swapped) (entry d i (o .place)) (entry d (o .place) i)
         → Offered k e (old .queue) r after new
         → LookDone k c old r after (wentOn old new)
     look-offers {e} some made offered =
-        let same : e ≡ c .entry = made ∙ sym (look-entry o xs ys i d is) in
-        let counts = taken-offers k (c .entry) (queued (old .queue) r) (λ none. some (sym (look-distance o xs ys i d is) ∙ none)) in
+        let same : e ≡ c .entry = made ∙ sym (look-entry o xs ys hs i d is) in
+        let counts = taken-offers k (c .entry) (queued (old .queue) r) (λ none. some (sym (look-distance o xs ys hs i d is) ∙ none)) in
         gone-on c old (asked .queue) gap-fits (omega (arith, same-gap))
         (record { queue = offered .queue; least = offered .least; rest = offered .within })
         (offered .list ∙ ap (λ (f : Entry). offer k f (queued (old .queue) r)) same ∙ sym counts)

@@ -5,14 +5,11 @@ use mathlib.Core.List.{List}
 use Prim.Native.Nat.{ℕ, _+_, _≤_, _<_}
 use native.Mathlib.Omega.{arith}
 use lib.IntN.{ℤ}
-use Rattle.order.proofs.Order.{weak-trans}
-use Rattle.site.specs.declared.Site.{Site}
-use Rattle.site.specs.Site.{siteBefore}
+use Rattle.site.specs.Site.{Site, siteBefore}
 use Rattle.site.specs.Terms.{positionAt}
 use Rattle.site.proofs.SiteBefore.{site-order}
-use Rattle.site.proofs.PositionOrder.{before-later}
-use Rattle.sweep.specs.Terms.{StripIn}
-use Rattle.sweep.specs.Internal.{RunAt}
+use Rattle.site.proofs.PositionOrder.{before-later, same-position}
+use Rattle.sweep.specs.Internal.{PlaneStrip, RunAt}
 
 -- The run ends from place `known` up to place `end`.
 pub record RunWithin (xs ys : List ℤ) (from to known end : ℕ) : Type 0 where
@@ -43,7 +40,7 @@ module _ {xs ys : List ℤ} {from to : ℕ} where
   run-before r p q b = record { onward = r .onward; range = p; inside = omega (arith, r .inside); same = r .same; past = λ h. b }
 
   -- It does not, so all up to the middle are at one position.
-  pub run-beyond : {known end middle : ℕ} → StripIn xs ys from to → RunWithin xs ys from to known end → known ≤ middle
+  pub run-beyond : {known end middle : ℕ} → PlaneStrip xs ys from to → RunWithin xs ys from to known end → known ≤ middle
       → middle < end → siteBefore (positionAt xs ys from) (positionAt xs ys middle) ≡ false
       → RunWithin xs ys from to (middle + 1) end
   run-beyond {known} {end} {middle} s r p q b =
@@ -52,15 +49,15 @@ module _ {xs ys : List ℤ} {from to : ℕ} where
         range = omega arith;
         inside = r .inside;
         same = λ k h g.
-            site-order .total (positionAt xs ys k) (positionAt xs ys from)
+            same-position (positionAt xs ys k) (positionAt xs ys from)
             (s .lawful .rising from k h (omega (arith, r .inside, s .inside)))
-            (weak-trans site-order (positionAt xs ys k) (positionAt xs ys middle) (positionAt xs ys from)
+            (site-order .weak (positionAt xs ys k) (positionAt xs ys middle) (positionAt xs ys from)
             (s .lawful .rising k middle (omega arith) (omega (arith, r .inside, s .inside))) b);
         past = r .past;
       }
 
   -- What is at a run's position comes before all past the run.
-  pub run-later : {r : ℕ} → StripIn xs ys from to → RunAt xs ys from to r → (s : Site) → s ≡ positionAt xs ys from
+  pub run-later : {r : ℕ} → PlaneStrip xs ys from to → RunAt xs ys from to r → (s : Site) → s ≡ positionAt xs ys from
       → (m : ℕ) → r ≤ m → m < to → siteBefore s (positionAt xs ys m) ≡ true
   run-later {r} a w s e m h g =
       before-later (a .lawful) s r m h (omega (arith, a .inside)) (rw e (w .past (omega arith)))

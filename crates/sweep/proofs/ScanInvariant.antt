@@ -42,7 +42,7 @@ pub tallied-at : {k old n : ℕ} {before r : Results} {s : State} {t : Tally} �
 unfolding stateOf
 tallied-at h = record { updated = h .updated; state = h .state }
 
-module _ {o : Reference} {xs ys : List ℤ} {from to k : ℕ} {before : Results} {old : Tally} (asked : ScanAsked o xs ys from to k old before) where
+module _ {o : Reference} {xs ys hs : List ℤ} {from to k : ℕ} {before : Results} {old : Tally} (asked : ScanAsked o xs ys hs from to k old before) where
   pub invariant-starts : (all : List Placed) → length all ≤ to → ScanInvariant k before old o all all before old
   invariant-starts all n =
       let few = asked .lawful .others .few in
@@ -66,7 +66,7 @@ module _ {o : Reference} {xs ys : List ℤ} {from to k : ℕ} {before : Results}
         }
 
     -- The next look asks no more than the scan.
-    pub invariant-asks : {rest : List Placed} (i : ℕ) → left ≡ spot xs ys i ∷ rest → i < to → LookAsked o xs ys i k t r
+    pub invariant-asks : {rest : List Placed} (i : ℕ) → left ≡ spot xs ys hs i ∷ rest → i < to → LookAsked o xs ys hs i k t r
     invariant-asks i is under =
         let n = ap length is in
         record {

@@ -14,8 +14,7 @@ use Rattle.order.specs.Lists.{All, Distinct}
 use Rattle.order.proofs.Sorted.{Ascends, ascends-take, ascends-drop, ascends-keep}
 use Rattle.order.proofs.Order.{never-both, lex-less, lex-next}
 use Rattle.order.proofs.Lists.{all-weaken, mem-take, mem-drop, keep-mem, mem-keep, length-keep}
-use Rattle.site.specs.declared.Site.{Site}
-use Rattle.site.specs.Site.{squaredDistance}
+use Rattle.site.specs.Site.{Site, squaredDistance}
 use Rattle.entry.specs.declared.Entry.{Entry}
 use Rattle.entry.specs.Entry.{apart}
 use Rattle.sweep.specs.Strip.{Placed, placedFrom, whole, strip, sitesOf, pair, product, pairs}

@@ -5,8 +5,7 @@ use mathlib.Core.List.{List, _++_}
 use Prim.Native.Nat.{ℕ}
 use Rattle.order.specs.Order.{ascending}
 use Rattle.order.specs.Terms.{Sorted}
-use Rattle.site.specs.declared.Site.{Site}
-use Rattle.site.specs.Site.{siteBefore}
+use Rattle.site.specs.Site.{Site, siteBefore}
 use Rattle.site.proofs.Distance.{squared-gap-x}
 use Rattle.entry.specs.declared.Entry.{Entry}
 use Rattle.entry.specs.Entry.{apart, bestK}

@@ -4,7 +4,6 @@ use mathlib.Core.List.{List}
 use Prim.Native.Nat.{ℕ, _-_, _≤_, _^_}
 use native.Mathlib.Omega.{arith}
 use lib.IntN.{ℤ}
-use Rattle.site.specs.SiteList.{columns}
 use Rattle.entry.specs.Results.{Results, entriesOf}
 use Rattle.entry.specs.Terms.{queued, FinishAsked}
 use Rattle.entry.proofs.Within.{within-written}
@@ -20,19 +19,19 @@ use Rattle.sweep.proofs.Counted.{Counted, sweep-looks-fit, sweep-distan
 use Rattle.sweep.proofs.SiteRuns.{length-rightward}
 use Rattle.sweep.proofs.Unnumbered.{sweep-strips}
 
-module _ (way : Way) (ax ay bx by : List ℤ) (aFrom aTo bFrom bTo k old : ℕ) (before : Results) (asked : SweepAsked ax ay bx by aFrom aTo bFrom bTo k old before) where
+module _ (way : Way) (ax ay ah bx by bh : List ℤ) (aFrom aTo bFrom bTo k old : ℕ) (before : Results) (asked : SweepAsked ax ay ah bx by bh aFrom aTo bFrom bTo k old before) where
   -- The state in the end.
   abbrev pub swept : State
-  swept = sweep way k (rightward ax ay aFrom (aTo - aFrom)) (rightward bx by bFrom (bTo - bFrom)) (entriesOf old before)
+  swept = sweep way k (rightward ax ay ah aFrom (aTo - aFrom)) (rightward bx by bh bFrom (bTo - bFrom)) (entriesOf old before)
 
   -- Counters on the way there have room.
   pub swept-fits : {n : ℕ} (t : Tally) (r : Results) → Counted n (stateOf t r) swept → (t .looks ≤ 2 ^ 62) × (t .distances ≤ 2 ^ 62)
   unfolding stateOf
   swept-fits t r c =
-      let p = rightward ax ay aFrom (aTo - aFrom) in
-      let q = rightward bx by bFrom (bTo - bFrom) in
-      let m = length-rightward ax ay aFrom (aTo - aFrom) in
-      let n = length-rightward bx by bFrom (bTo - bFrom) in
+      let p = rightward ax ay ah aFrom (aTo - aFrom) in
+      let q = rightward bx by bh bFrom (bTo - bFrom) in
+      let m = length-rightward ax ay ah aFrom (aTo - aFrom) in
+      let n = length-rightward bx by bh bFrom (bTo - bFrom) in
       let f = sweep-looks-fit way k p q (entriesOf old before) (omega (arith, asked .a .inside, asked .a .lawful .few)) (omega (arith, asked .b .inside, asked .b .lawful .few)) in
       let g = sweep-distances-bound way k p q (entriesOf old before) in
       omega (arith, c .looks-from, c .distances-from)
@@ -45,11 +44,11 @@ module _ (way : Way) (ax ay bx by : List ℤ) (aFrom aTo bFrom bTo k old : ℕ) 
 
   -- The answer from the state that the tally and the columns hold.
   pub swept-strips : {r after : Results} {t : Tally} {answer : Swept} → Tallied k before old swept r t → SweptTo (stateOf t r) r after answer
-      → SweptStrips way ax ay bx by aFrom aTo bFrom bTo k old before after answer
+      → SweptStrips way ax ay ah bx by bh aFrom aTo bFrom bTo k old before after answer
   unfolding stateOf
   swept-strips {r} {after} {t} {answer} h a = record {
     numbered = λ an bn la lb.
-        let same = sweep-strips way k (columns ax ay an) (columns bx by bn) aFrom aTo bFrom bTo (entriesOf old before) la lb (asked .a .inside) (asked .b .inside) in
+        let same = sweep-strips way k ax ay an ah bx by bn bh aFrom aTo bFrom bTo (entriesOf old before) la lb (asked .a .inside) (asked .b .inside) in
         let u = h .updated in
         let n = length-queued (queue-finishes (u .queue)) in
         let whole : SweptTo (stateOf t r) before after answer = record {

@@ -9,9 +9,8 @@ use lib.IntN.{ℤ, pos}
 use lib.ListN.{getD, length}
 use lib.Signed.{leZ}
 use Rattle.order.specs.Lists.{keep}
-use Rattle.site.specs.SiteList.{site}
-use Rattle.site.specs.Site.{within, siteBefore}
-use Rattle.site.specs.Terms.{positionAt, Coordinates}
+use Rattle.site.specs.Site.{within, heightWithin, siteBefore}
+use Rattle.site.specs.Terms.{positionAt, Coordinates, Heights}
 use Rattle.entry.specs.declared.Queue.{Queue}
 use Rattle.entry.specs.Entry.{apart}
 use Rattle.entry.specs.Results.{Results}
@@ -25,19 +24,19 @@ use Rattle.sweep.specs.Sweep.{look}
 use Rattle.sweep.specs.Terms.{spotOf, spot}
 
 -- `n` sites from place `limit` on, latest first.
-unfoldable pub leftward : List ℤ → List ℤ → ℕ → ℕ → List Placed
-leftward xs ys limit zero = []
-leftward xs ys limit (suc n) = spot xs ys (limit + n) ∷ leftward xs ys limit n
+unfoldable pub leftward : List ℤ → List ℤ → List ℤ → ℕ → ℕ → List Placed
+leftward xs ys hs limit zero = []
+leftward xs ys hs limit (suc n) = spot xs ys hs (limit + n) ∷ leftward xs ys hs limit n
 
--- The reference at a place of two coordinate columns.
-unfoldable pub referenceAt : List ℤ → List ℤ → ℕ → Bool → Reference
-referenceAt xs ys i swapped =
-    record { x = getD xs i (pos 0); y = getD ys i (pos 0); place = i; swapped = swapped }
+-- The reference at a place of three coordinate columns.
+unfoldable pub referenceAt : List ℤ → List ℤ → List ℤ → ℕ → Bool → Reference
+referenceAt xs ys hs i swapped =
+    record { x = getD xs i (pos 0); y = getD ys i (pos 0); height = getD hs i (pos 0); place = i; swapped = swapped }
 
 -- A look from a reference; it is `swapped` where it is the second list's.
 unfoldable pub lookFrom : Reference → Placed → Candidate
 lookFrom r o =
-    let site = spotOf (r .x) (r .y) (r .place) in
+    let site = spotOf (r .x) (r .y) (r .height) (r .place) in
     cond (r .swapped) (look o site) (look site o)
 
 -- Whether the next reference is the first list's: there is one, and the second list has none or one that it leads.
@@ -54,22 +53,24 @@ goneOn t q =
     record { stopped = false; tally = record { at = t .at; looks = t .looks; distances = t .distances; queue = q } }
 
 -- The reference is within the limits, and the others are coordinate columns of a lawful list.
-pub record LawfulLook (o : Reference) (xs ys : List ℤ) : Type 0 where
+pub record LawfulLook (o : Reference) (xs ys hs : List ℤ) : Type 0 where
   pub x : within (o .x) ≡ true
   pub y : within (o .y) ≡ true
+  pub height : heightWithin (o .height) ≡ true
   pub others : Coordinates xs ys
+  pub heights : Heights (length xs) hs
 
 -- A look asks for a place of the others, and room to count on.
-pub record LookAsked (o : Reference) (xs ys : List ℤ) (i k : ℕ) (old : Tally) (r : Results) : Type 0 where
-  pub lawful : LawfulLook o xs ys
+pub record LookAsked (o : Reference) (xs ys hs : List ℤ) (i k : ℕ) (old : Tally) (r : Results) : Type 0 where
+  pub lawful : LawfulLook o xs ys hs
   pub inside : i < length xs
   pub queue : Queueing k (old .queue) r
   pub looks-fit : old .looks < 2 ^ 63
   pub distances-fit : old .distances < 2 ^ 63
 
 -- A scan asks the same for the sites from place `from` up to, not including, place `to`.
-pub record ScanAsked (o : Reference) (xs ys : List ℤ) (from to k : ℕ) (old : Tally) (r : Results) : Type 0 where
-  pub lawful : LawfulLook o xs ys
+pub record ScanAsked (o : Reference) (xs ys hs : List ℤ) (from to k : ℕ) (old : Tally) (r : Results) : Type 0 where
+  pub lawful : LawfulLook o xs ys hs
   pub range : from ≤ to
   pub to-inside : to ≤ length xs
   pub queue : Queueing k (old .queue) r
@@ -91,6 +92,12 @@ pub record Tallied (k : ℕ) (before : Results) (old : ℕ) (s : State) (r : Res
 pub record LookDone (k : ℕ) (c : Candidate) (old : Tally) (before after : Results) (l : Looked) : Type 0 where
   pub stopped : l .stopped ≡ beyond k (queued (old .queue) before) (c .gap)
   pub tally : Tallied k before (old .queue .count) (lookAt apart k c (stateOf old before)) after (l .tally)
+
+-- A strip of a lawful list in the plane, by its columns of x and y.
+pub record PlaneStrip (xs ys : List ℤ) (from to : ℕ) : Type 0 where
+  pub lawful : Coordinates xs ys
+  pub range : from ≤ to
+  pub inside : to ≤ length xs
 
 -- In a strip that ends at place `to`, the sites at the position of place `from` are those up to, not including, place `r`.
 pub record RunAt (xs ys : List ℤ) (from to r : ℕ) : Type 0 where

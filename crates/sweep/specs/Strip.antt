@@ -3,8 +3,7 @@ use mathlib.Core.List.{List, [], _∷_, map, flatMap}
 use Prim.Native.Nat.{ℕ, suc, _-_}
 use lib.ListN.{take, drop}
 use Rattle.order.specs.Lists.{keep}
-use Rattle.site.specs.declared.Site.{Site}
-use Rattle.site.specs.Site.{squaredDistance}
+use Rattle.site.specs.Site.{Site, squaredDistance}
 use Rattle.entry.specs.declared.Entry.{Entry}
 use Rattle.entry.specs.Entry.{entry, apart}
 

@@ -1,11 +1,11 @@
--- Terms of contracts that other crates cite: sites of two coordinate columns, and what a sweep asks and promises.
+-- Terms of contracts that other crates cite: sites of three coordinate columns, and what a sweep asks and promises.
 use mathlib.Core.List.{List, [], _∷_}
 use mathlib.Core.Path.{_≡_}
 use Prim.Native.Nat.{ℕ, zero, suc, _≤_, _<_}
 use lib.IntN.{ℤ, pos}
 use lib.ListN.{getD, length}
-use Rattle.site.specs.SiteList.{site}
-use Rattle.site.specs.Terms.{Coordinates, Numbered}
+use Rattle.site.specs.SiteList.{raisedSite}
+use Rattle.site.specs.Terms.{Coordinates, Heights, Numbered}
 use Rattle.entry.specs.Results.{Results, entriesOf, holding}
 use Rattle.entry.specs.Terms.{Ready}
 use Rattle.sweep.specs.declared.Swept.{Swept}
@@ -15,28 +15,29 @@ use Rattle.sweep.specs.Scan.{State}
 use Rattle.sweep.specs.Sweep.{sweep}
 
 -- A site that needs no number: a sweep reads none.
-abbrev pub spotOf : ℤ → ℤ → ℕ → Placed
-spotOf x y place = record { place = place; site = site x y 0 }
+abbrev pub spotOf : ℤ → ℤ → ℤ → ℕ → Placed
+spotOf x y h place = record { place = place; site = raisedSite x y 0 h }
 
--- The site at a place of two coordinate columns.
-unfoldable pub spot : List ℤ → List ℤ → ℕ → Placed
-spot xs ys i = spotOf (getD xs i (pos 0)) (getD ys i (pos 0)) i
+-- The site at a place of three coordinate columns.
+unfoldable pub spot : List ℤ → List ℤ → List ℤ → ℕ → Placed
+spot xs ys hs i = spotOf (getD xs i (pos 0)) (getD ys i (pos 0)) (getD hs i (pos 0)) i
 
 -- `n` sites from place `from` on.
-unfoldable pub rightward : List ℤ → List ℤ → ℕ → ℕ → List Placed
-rightward xs ys from zero = []
-rightward xs ys from (suc n) = spot xs ys from ∷ rightward xs ys (suc from) n
+unfoldable pub rightward : List ℤ → List ℤ → List ℤ → ℕ → ℕ → List Placed
+rightward xs ys hs from zero = []
+rightward xs ys hs from (suc n) = spot xs ys hs from ∷ rightward xs ys hs (suc from) n
 
 -- A strip of a lawful list, by its coordinate columns.
-pub record StripIn (xs ys : List ℤ) (from to : ℕ) : Type 0 where
+pub record StripIn (xs ys hs : List ℤ) (from to : ℕ) : Type 0 where
   pub lawful : Coordinates xs ys
+  pub heights : Heights (length xs) hs
   pub range : from ≤ to
   pub inside : to ≤ length xs
 
 -- A sweep asks: two strips, and result columns ready for up to `k` entries.
-pub record SweepAsked (ax ay bx by : List ℤ) (aFrom aTo bFrom bTo k count : ℕ) (r : Results) : Type 0 where
-  pub a : StripIn ax ay aFrom aTo
-  pub b : StripIn bx by bFrom bTo
+pub record SweepAsked (ax ay ah bx by bh : List ℤ) (aFrom aTo bFrom bTo k count : ℕ) (r : Results) : Type 0 where
+  pub a : StripIn ax ay ah aFrom aTo
+  pub b : StripIn bx by bh bFrom bTo
   pub some : 0 < k
   pub few : k ≤ 4_096
   pub ready : Ready k count r
@@ -50,7 +51,7 @@ pub record SweptTo (s : State) (before after : Results) (answer : Swept) : Type 
 
 -- The same over strips of two lists with these coordinates, whatever the numbers of their sites.
 abbrev pub SweptStrips :
-    Way → List ℤ → List ℤ → List ℤ → List ℤ → ℕ → ℕ → ℕ → ℕ → ℕ → ℕ → Results → Results → Swept → Type 0
-SweptStrips way ax ay bx by aFrom aTo bFrom bTo k count before after answer =
-    Numbered ax ay bx by (λ a b.
+    Way → List ℤ → List ℤ → List ℤ → List ℤ → List ℤ → List ℤ → ℕ → ℕ → ℕ → ℕ → ℕ → ℕ → Results → Results → Swept → Type 0
+SweptStrips way ax ay ah bx by bh aFrom aTo bFrom bTo k count before after answer =
+    Numbered ax ay ah bx by bh (λ a b.
     SweptTo (sweep way k (strip aFrom aTo a) (strip bFrom bTo b) (entriesOf count before)) before after answer)

@@ -1,4 +1,5 @@
-// How many pairs two strips have. Co-sited cells are counted by runs of sites at one position, not pair by pair.
+// How many pairs two strips have. Co-sited cells are counted by runs of sites at one x and y and by their heights, not pair
+// by pair.
 ghost use mathlib.Core.Path.{_≡_};
 ghost use Prim.Native.Nat.{_-_, _<_};
 ghost use lib.ListN.{length};
@@ -6,7 +7,7 @@ ghost use Rattle.site.specs.Site.{siteBefore};
 ghost use Rattle.site.specs.Terms.{positionAt, Coordinates, Numbered};
 ghost use Rattle.sweep.specs.Strip.{strip, pairs};
 ghost use Rattle.sweep.specs.Terms.{rightward, StripIn};
-ghost use Rattle.sweep.specs.Internal.{RunAt, coSited};
+ghost use Rattle.sweep.specs.Internal.{PlaneStrip, RunAt, coSited};
 
 // Whether the position at one place comes before that at another.
 fn before_at(ax: &[i32], ay: &[i32], i: usize, bx: &[i32], by: &[i32], j: usize) -> bool
@@ -26,7 +27,7 @@ fn before_at(ax: &[i32], ay: &[i32], i: usize, bx: &[i32], by: &[i32], j: usize)
 
 // The place past the run of sites at the position of place `from`, in a strip that ends at `to`.
 fn run_end(xs: &[i32], ys: &[i32], from: usize, to: usize) -> usize
-    requires { ⌜ StripIn (now xs) (now ys) from to × (from < to) ⌝ }
+    requires { ⌜ PlaneStrip (now xs) (now ys) from to × (from < to) ⌝ }
     ensures { λ r. ⌜ RunAt (now (xs .entry)) (now (ys .entry)) from to r ⌝ }
 {
     let mut known = from + 1;
@@ -42,21 +43,23 @@ fn run_end(xs: &[i32], ys: &[i32], from: usize, to: usize) -> usize
     known
 }
 
-// How many pairs of one site each of two strips stand at one position.
+// How many pairs of one site each of two strips are co-sited: at one position, and at one height.
 fn co_sited(
     ax: &[i32],
     ay: &[i32],
+    ah: &[i32],
     bx: &[i32],
     by: &[i32],
+    bh: &[i32],
     a_from: usize,
     a_to: usize,
     b_from: usize,
     b_to: usize,
 ) -> u64
-    requires { ⌜ StripIn (now ax) (now ay) «a_from» «a_to» × StripIn (now bx) (now by) «b_from» «b_to» ⌝ }
+    requires { ⌜ StripIn (now ax) (now ay) (now ah) «a_from» «a_to» × StripIn (now bx) (now by) (now bh) «b_from» «b_to» ⌝ }
     ensures { λ r.
-        let a = rightward (now (ax .entry)) (now (ay .entry)) «a_from» («a_to» - «a_from») in
-        let b = rightward (now (bx .entry)) (now (by .entry)) «b_from» («b_to» - «b_from») in
+        let a = rightward (now (ax .entry)) (now (ay .entry)) (now (ah .entry)) «a_from» («a_to» - «a_from») in
+        let b = rightward (now (bx .entry)) (now (by .entry)) (now (bh .entry)) «b_from» («b_to» - «b_from») in
         ⌜ r ≡ coSited a b ⌝ }
 {
     let mut count: u64 = 0;
@@ -70,7 +73,7 @@ fn co_sited(
         } else {
             let p = run_end(ax, ay, i, a_to);
             let q = run_end(bx, by, j, b_to);
-            count += ((p - i) as u64) * ((q - j) as u64);
+            count += heights::equal_pairs(&ah[i..p], &bh[j..q]);
             i = p;
             j = q;
         }
@@ -82,19 +85,21 @@ fn co_sited(
 pub fn count_pairs(
     ax: &[i32],
     ay: &[i32],
+    ah: &[i32],
     bx: &[i32],
     by: &[i32],
+    bh: &[i32],
     a_from: usize,
     a_to: usize,
     b_from: usize,
     b_to: usize,
 ) -> u64
-    requires { ⌜ StripIn (now ax) (now ay) «a_from» «a_to» × StripIn (now bx) (now by) «b_from» «b_to» ⌝ }
+    requires { ⌜ StripIn (now ax) (now ay) (now ah) «a_from» «a_to» × StripIn (now bx) (now by) (now bh) «b_from» «b_to» ⌝ }
     ensures { λ r. ⌜
-        Numbered (now (ax .entry)) (now (ay .entry)) (now (bx .entry)) (now (by .entry)) (λ a b.
+        Numbered (now (ax .entry)) (now (ay .entry)) (now (ah .entry)) (now (bx .entry)) (now (by .entry)) (now (bh .entry)) (λ a b.
         r ≡ length (pairs (strip «a_from» «a_to» a) (strip «b_from» «b_to» b)))
         ⌝ }
 {
     let all = ((a_to - a_from) as u64) * ((b_to - b_from) as u64);
-    all - co_sited(ax, ay, bx, by, a_from, a_to, b_from, b_to)
+    all - co_sited(ax, ay, ah, bx, by, bh, a_from, a_to, b_from, b_to)
 }

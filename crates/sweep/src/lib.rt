@@ -35,6 +35,7 @@ pub struct Swept {
 struct Reference {
     x: i32,
     y: i32,
+    height: i32,
     place: u32,
     swapped: bool,
 }
@@ -77,8 +78,10 @@ pub fn run(
     way: Way,
     ax: &[i32],
     ay: &[i32],
+    ah: &[i32],
     bx: &[i32],
     by: &[i32],
+    bh: &[i32],
     a_from: usize,
     a_to: usize,
     b_from: usize,
@@ -90,12 +93,12 @@ pub fn run(
     second: &mut [u32],
 ) -> Swept
     requires { ⌜
-        SweepAsked (now ax) (now ay) (now bx) (now by) «a_from» «a_to» «b_from» «b_to» k count
+        SweepAsked (now ax) (now ay) (now ah) (now bx) (now by) (now bh) «a_from» «a_to» «b_from» «b_to» k count
         (results (now distance) (now first) (now second))
         ⌝ }
     ensures { λ r.
         let l = lentResults distance first second in
-        let swept = SweptStrips way (now (ax .entry)) (now (ay .entry)) (now (bx .entry)) (now (by .entry)) in
+        let swept = SweptStrips way (now (ax .entry)) (now (ay .entry)) (now (ah .entry)) (now (bx .entry)) (now (by .entry)) (now (bh .entry)) in
         ⌜ swept «a_from» «a_to» «b_from» «b_to» k count (l .entry) (l .exit) r ⌝ }
 {
     match way {
@@ -103,8 +106,10 @@ pub fn run(
             let tally = sweeps::classic(
                 ax,
                 ay,
+                ah,
                 bx,
                 by,
+                bh,
                 a_from,
                 a_to,
                 b_from,
@@ -121,8 +126,10 @@ pub fn run(
             let tally = sweeps::reverse_run(
                 ax,
                 ay,
+                ah,
                 bx,
                 by,
+                bh,
                 a_from,
                 a_to,
                 b_from,

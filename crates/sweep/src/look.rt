@@ -8,8 +8,10 @@ ghost use mathlib.Core.Path.{_≡_};
 ghost use Prim.Native.Nat.{_<_};
 ghost use lib.IntN.{pos};
 ghost use lib.ListN.{length, getD};
-ghost use Rattle.site.specs.Site.{gap, square, squaredDistance};
-ghost use Rattle.site.specs.SiteList.{site};
+ghost use mathlib.Core.Bool.{true};
+ghost use Rattle.site.specs.Site.{within, gap, square, squaredDistance};
+ghost use Rattle.site.specs.SiteList.{site, raisedSite};
+ghost use Rattle.site.specs.Terms.{positionAt, Coordinates};
 ghost use Rattle.entry.specs.Entry.{entry};
 ghost use Rattle.entry.specs.Results.{results, lentResults};
 ghost use Rattle.sweep.specs.Terms.{spot};
@@ -23,14 +25,33 @@ fn squared_gap_at(reference: Reference, xs: &[i32], i: usize) -> u64
     site::squared_gap(reference.x, xs[i])
 }
 
-// The squared distance of a reference and the site at a place of the other list.
-fn squared_distance_at(reference: Reference, xs: &[i32], ys: &[i32], i: usize) -> u64
-    requires { ⌜ LawfulLook reference (now xs) (now ys) × (i < length (now xs)) ⌝ }
+// Their squared distance in the plane, which the height can only enlarge.
+fn plane_distance_at(reference: Reference, xs: &[i32], ys: &[i32], i: usize) -> u64
+    requires { ⌜ (within (reference .x) ≡ true) × (within (reference .y) ≡ true) ⌝ }
+    requires { ⌜ Coordinates (now xs) (now ys) × (i < length (now xs)) ⌝ }
     ensures { λ r.
-        let other = site (getD (now (xs .entry)) i (pos 0)) (getD (now (ys .entry)) i (pos 0)) 0 in
+        let other = positionAt (now (xs .entry)) (now (ys .entry)) i in
         ⌜ r ≡ squaredDistance (site (reference .x) (reference .y) 0) other ⌝ }
 {
-    site::squared_distance(reference.x, reference.y, xs[i], ys[i])
+    site::plane_distance(reference.x, reference.y, xs[i], ys[i])
+}
+
+// The squared distance of a reference and the site at a place of the other list.
+fn squared_distance_at(reference: Reference, xs: &[i32], ys: &[i32], hs: &[i32], i: usize) -> u64
+    requires { ⌜ LawfulLook reference (now xs) (now ys) (now hs) × (i < length (now xs)) ⌝ }
+    ensures { λ r.
+        let other = spot (now (xs .entry)) (now (ys .entry)) (now (hs .entry)) i in
+        let site = raisedSite (reference .x) (reference .y) 0 (reference .height) in
+        ⌜ r ≡ squaredDistance site (other .site) ⌝ }
+{
+    site::squared_distance(
+        reference.x,
+        reference.y,
+        reference.height,
+        xs[i],
+        ys[i],
+        hs[i],
+    )
 }
 
 // A pair as an entry.
@@ -64,12 +85,13 @@ fn gone_on(old: Tally, queue: Queue) -> Looked
 
 // A look from a reference at the site of a place of the other list. It stops the scan where the x-difference squared is
 // past the reach; otherwise the distance is worked out, and the pair takes its place by rank, where it can still enter and
-// is no pair of co-sited cells. `offer` is called for each side of the pair, so that it is compiled apart from the scan's
+// is no pair of co-sited cells. Where the distance in the plane is past the reach, the height is not read. `offer` is called for each side of the pair, so that it is compiled apart from the scan's
 // loop.
 pub(super) fn look(
     reference: Reference,
     xs: &[i32],
     ys: &[i32],
+    hs: &[i32],
     i: usize,
     k: usize,
     old: Tally,
@@ -77,10 +99,10 @@ pub(super) fn look(
     first: &mut [u32],
     second: &mut [u32],
 ) -> Looked
-    requires { ⌜ LookAsked reference (now xs) (now ys) i k old (results (now distance) (now first) (now second)) ⌝ }
+    requires { ⌜ LookAsked reference (now xs) (now ys) (now hs) i k old (results (now distance) (now first) (now second)) ⌝ }
     ensures { λ r.
         let l = lentResults distance first second in
-        let candidate = lookFrom reference (spot (now (xs .entry)) (now (ys .entry)) i) in
+        let candidate = lookFrom reference (spot (now (xs .entry)) (now (ys .entry)) (now (hs .entry)) i) in
         ⌜ LookDone k candidate old (l .entry) (l .exit) r ⌝ }
 {
     let mut tally = old;
@@ -92,7 +114,13 @@ pub(super) fn look(
         };
     }
     tally.distances += 1;
-    let squared = squared_distance_at(reference, xs, ys, i);
+    if tally.queue.reach < plane_distance_at(reference, xs, ys, i) {
+        return Looked {
+            stopped: false,
+            tally,
+        };
+    }
+    let squared = squared_distance_at(reference, xs, ys, hs, i);
     if tally.queue.reach < squared || squared == 0 {
         return Looked {
             stopped: false,

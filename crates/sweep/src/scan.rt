@@ -16,6 +16,7 @@ pub(super) fn scan_right(
     reference: Reference,
     xs: &[i32],
     ys: &[i32],
+    hs: &[i32],
     from: usize,
     to: usize,
     k: usize,
@@ -25,18 +26,18 @@ pub(super) fn scan_right(
     second: &mut [u32],
 ) -> Tally
     requires { ⌜
-        ScanAsked reference (now xs) (now ys) from to k old (results (now distance) (now first) (now second))
+        ScanAsked reference (now xs) (now ys) (now hs) from to k old (results (now distance) (now first) (now second))
         ⌝ }
     ensures { λ r.
         let l = lentResults distance first second in
-        let run = rightward (now (xs .entry)) (now (ys .entry)) from (to - from) in
+        let run = rightward (now (xs .entry)) (now (ys .entry)) (now (hs .entry)) from (to - from) in
         let scanned = scan apart k (map (lookFrom reference) run) (stateOf old (l .entry)) in
         ⌜ Tallied k (l .entry) (old .queue .count) (scanned .state) (l .exit) r ⌝ }
 {
     let mut at = from;
     let mut tally = old;
     while at < to {
-        let l = look::look(reference, xs, ys, at, k, tally, distance, first, second);
+        let l = look::look(reference, xs, ys, hs, at, k, tally, distance, first, second);
         tally = l.tally;
         if l.stopped {
             break;
@@ -52,6 +53,7 @@ pub(super) fn scan_left(
     reference: Reference,
     xs: &[i32],
     ys: &[i32],
+    hs: &[i32],
     limit: usize,
     taken: usize,
     k: usize,
@@ -61,11 +63,11 @@ pub(super) fn scan_left(
     second: &mut [u32],
 ) -> Tally
     requires { ⌜
-        ScanAsked reference (now xs) (now ys) limit taken k old (results (now distance) (now first) (now second))
+        ScanAsked reference (now xs) (now ys) (now hs) limit taken k old (results (now distance) (now first) (now second))
         ⌝ }
     ensures { λ r.
         let l = lentResults distance first second in
-        let run = leftward (now (xs .entry)) (now (ys .entry)) limit (taken - limit) in
+        let run = leftward (now (xs .entry)) (now (ys .entry)) (now (hs .entry)) limit (taken - limit) in
         let scanned = scan apart k (map (lookFrom reference) run) (stateOf old (l .entry)) in
         ⌜ Tallied k (l .entry) (old .queue .count) (scanned .state) (l .exit) r × (r .at + scanned .passed ≡ taken) ⌝ }
 {
@@ -75,7 +77,18 @@ pub(super) fn scan_left(
         if at == limit {
             break at;
         }
-        let l = look::look(reference, xs, ys, at - 1, k, tally, distance, first, second);
+        let l = look::look(
+            reference,
+            xs,
+            ys,
+            hs,
+            at - 1,
+            k,
+            tally,
+            distance,
+            first,
+            second,
+        );
         tally = l.tally;
         if l.stopped {
             break at;

@@ -5,7 +5,7 @@ use super::scan;
 ghost use mathlib.Core.Path.{_≡_};
 ghost use Prim.Native.Nat.{_-_, _≤_, _<_};
 ghost use lib.ListN.{length};
-ghost use Rattle.site.specs.Terms.{Coordinates};
+ghost use Rattle.site.specs.Terms.{Coordinates, Heights};
 ghost use Rattle.entry.specs.Results.{results, lentResults, entriesOf};
 ghost use Rattle.sweep.specs.declared.Way.the-variants.{Classic, ReverseRun};
 ghost use Rattle.sweep.specs.Sweep.{sweep};
@@ -13,13 +13,14 @@ ghost use Rattle.sweep.specs.Terms.{rightward, SweepAsked};
 ghost use Rattle.sweep.specs.Internal.{referenceAt, firstNext, Tallied};
 
 // The site at a place of its columns as a reference.
-fn reference_at(xs: &[i32], ys: &[i32], i: usize, swapped: bool) -> Reference
-    requires { ⌜ Coordinates (now xs) (now ys) × (i < length (now xs)) ⌝ }
-    ensures { λ r. ⌜ r ≡ referenceAt (now (xs .entry)) (now (ys .entry)) i swapped ⌝ }
+fn reference_at(xs: &[i32], ys: &[i32], hs: &[i32], i: usize, swapped: bool) -> Reference
+    requires { ⌜ Coordinates (now xs) (now ys) × Heights (length (now xs)) (now hs) × (i < length (now xs)) ⌝ }
+    ensures { λ r. ⌜ r ≡ referenceAt (now (xs .entry)) (now (ys .entry)) (now (hs .entry)) i swapped ⌝ }
 {
     Reference {
         x: xs[i],
         y: ys[i],
+        height: hs[i],
         place: i as u32,
         swapped,
     }
@@ -43,8 +44,10 @@ fn first_next(ax: &[i32], i: usize, a_to: usize, bx: &[i32], j: usize, b_to: usi
 pub(super) fn classic(
     ax: &[i32],
     ay: &[i32],
+    ah: &[i32],
     bx: &[i32],
     by: &[i32],
+    bh: &[i32],
     a_from: usize,
     a_to: usize,
     b_from: usize,
@@ -56,13 +59,13 @@ pub(super) fn classic(
     second: &mut [u32],
 ) -> Tally
     requires { ⌜
-        SweepAsked (now ax) (now ay) (now bx) (now by) «a_from» «a_to» «b_from» «b_to» k count
+        SweepAsked (now ax) (now ay) (now ah) (now bx) (now by) (now bh) «a_from» «a_to» «b_from» «b_to» k count
         (results (now distance) (now first) (now second))
         ⌝ }
     ensures { λ r.
         let l = lentResults distance first second in
-        let a = rightward (now (ax .entry)) (now (ay .entry)) «a_from» («a_to» - «a_from») in
-        let b = rightward (now (bx .entry)) (now (by .entry)) «b_from» («b_to» - «b_from») in
+        let a = rightward (now (ax .entry)) (now (ay .entry)) (now (ah .entry)) «a_from» («a_to» - «a_from») in
+        let b = rightward (now (bx .entry)) (now (by .entry)) (now (bh .entry)) «b_from» («b_to» - «b_from») in
         ⌜ Tallied k (l .entry) count (sweep Classic k a b (entriesOf count (l .entry))) (l .exit) r ⌝ }
 {
     let mut i = a_from;
@@ -75,12 +78,12 @@ pub(super) fn classic(
     };
     while i < a_to && j < b_to {
         if first_next(ax, i, a_to, bx, j, b_to) {
-            let r = reference_at(ax, ay, i, false);
-            tally = scan::scan_right(r, bx, by, j, b_to, k, tally, distance, first, second);
+            let r = reference_at(ax, ay, ah, i, false);
+            tally = scan::scan_right(r, bx, by, bh, j, b_to, k, tally, distance, first, second);
             i += 1;
         } else {
-            let r = reference_at(bx, by, j, true);
-            tally = scan::scan_right(r, ax, ay, i, a_to, k, tally, distance, first, second);
+            let r = reference_at(bx, by, bh, j, true);
+            tally = scan::scan_right(r, ax, ay, ah, i, a_to, k, tally, distance, first, second);
             j += 1;
         }
     }
@@ -91,8 +94,10 @@ pub(super) fn classic(
 pub(super) fn reverse_run(
     ax: &[i32],
     ay: &[i32],
+    ah: &[i32],
     bx: &[i32],
     by: &[i32],
+    bh: &[i32],
     a_from: usize,
     a_to: usize,
     b_from: usize,
@@ -104,13 +109,13 @@ pub(super) fn reverse_run(
     second: &mut [u32],
 ) -> Tally
     requires { ⌜
-        SweepAsked (now ax) (now ay) (now bx) (now by) «a_from» «a_to» «b_from» «b_to» k count
+        SweepAsked (now ax) (now ay) (now ah) (now bx) (now by) (now bh) «a_from» «a_to» «b_from» «b_to» k count
         (results (now distance) (now first) (now second))
         ⌝ }
     ensures { λ r.
         let l = lentResults distance first second in
-        let a = rightward (now (ax .entry)) (now (ay .entry)) «a_from» («a_to» - «a_from») in
-        let b = rightward (now (bx .entry)) (now (by .entry)) «b_from» («b_to» - «b_from») in
+        let a = rightward (now (ax .entry)) (now (ay .entry)) (now (ah .entry)) «a_from» («a_to» - «a_from») in
+        let b = rightward (now (bx .entry)) (now (by .entry)) (now (bh .entry)) «b_from» («b_to» - «b_from») in
         ⌜ Tallied k (l .entry) count (sweep ReverseRun k a b (entriesOf count (l .entry))) (l .exit) r ⌝ }
 {
     let mut i = a_from;
@@ -125,8 +130,8 @@ pub(super) fn reverse_run(
     };
     'references: loop {
         if first_next(ax, i, a_to, bx, j, b_to) {
-            let r = reference_at(ax, ay, i, false);
-            tally = scan::scan_left(r, bx, by, b_limit, j, k, tally, distance, first, second);
+            let r = reference_at(ax, ay, ah, i, false);
+            tally = scan::scan_left(r, bx, by, bh, b_limit, j, k, tally, distance, first, second);
             b_limit = tally.at;
             i += 1;
             continue 'references;
@@ -134,8 +139,8 @@ pub(super) fn reverse_run(
         if b_to <= j {
             break 'references;
         }
-        let r = reference_at(bx, by, j, true);
-        tally = scan::scan_left(r, ax, ay, a_limit, i, k, tally, distance, first, second);
+        let r = reference_at(bx, by, bh, j, true);
+        tally = scan::scan_left(r, ax, ay, ah, a_limit, i, k, tally, distance, first, second);
         a_limit = tally.at;
         j += 1;
     }

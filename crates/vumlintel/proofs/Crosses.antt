@@ -1,12 +1,12 @@
 -- An answer crosses: in its values, or in its number and what was there before.
-use mathlib.Core.Path.{_≡_, refl, ap, _∙_}
+use mathlib.Core.Path.{_≡_, refl}
 use Prim.Native.Nat.{ℕ}
 use lib.IntN.{ℤ}
 use mir.Syntax.{w32}
 use mir.Val.{SFits, toZ, ofZ}
 use mir.Facts.{toZ-ofZ}
 use Rattle.column.specs.Lent.{Held}
-use Rattle.site.specs.SiteList.{site}
+use Rattle.site.specs.SiteList.{site, raisedSite}
 use Rattle.site.specs.Answer.{Answer, refused, answered, numberOf, afterwards}
 use Rattle.vumlintel.specs.Crosses.{Crosses}
 
@@ -26,8 +26,11 @@ module _ {A : Type 0} {answer : Answer A} where
   unfolding afterwards
   refusal-leaves value told place = rw (← told) at place
 
--- A site made of two parameters has their values.
+-- A site made of parameters has their values.
 pub site-of : {x y : ℤ} (number : ℕ)
     → SFits w32 x → SFits w32 y → site (toZ w32 (ofZ w32 x)) (toZ w32 (ofZ w32 y)) number ≡ site x y number
-site-of {x} {y} number fx fy =
-    ap (λ (z : ℤ). site z (toZ w32 (ofZ w32 y)) number) (toZ-ofZ fx) ∙ ap (λ (z : ℤ). site x z number) (toZ-ofZ fy)
+site-of number fx fy = λ i. site (toZ-ofZ fx i) (toZ-ofZ fy i) number
+
+pub site-up-of : {x y h : ℤ} (number : ℕ) → SFits w32 x → SFits w32 y → SFits w32 h
+    → raisedSite (toZ w32 (ofZ w32 x)) (toZ w32 (ofZ w32 y)) number (toZ w32 (ofZ w32 h)) ≡ raisedSite x y number h
+site-up-of number fx fy fh = λ i. raisedSite (toZ-ofZ fx i) (toZ-ofZ fy i) number (toZ-ofZ fh i)

@@ -75,9 +75,11 @@ pub extern "C" fn vumlintel_open(
     ax: &[i32],
     ay: &[i32],
     an: &[u32],
+    ah: &[i32],
     bx: &[i32],
     by: &[i32],
     bn: &[u32],
+    bh: &[i32],
     k: u32,
     first_cuts: &[u32],
     second_cuts: &[u32],
@@ -95,8 +97,8 @@ pub extern "C" fn vumlintel_open(
     ensures { λ r.
         let c =
         lentCampaign «campaign_k» «campaign_entries» «first_strips» «second_strips» «first_ends» «second_ends» marks in
-        let a = lentList ax ay an .entry in
-        let b = lentList bx by bn .entry in
+        let a = lentList ax ay an ah .entry in
+        let b = lentList bx by bn bh .entry in
         let l = lentResults distance first second .entry in
         ⌜ Crosses (openAnswer a b k (now («first_cuts» .entry)) (now («second_cuts» .entry)) l) r c ⌝ }
 {
@@ -104,9 +106,11 @@ pub extern "C" fn vumlintel_open(
         ax,
         ay,
         an,
+        ah,
         bx,
         by,
         bn,
+        bh,
         k,
         first_cuts,
         second_cuts,
@@ -144,9 +148,11 @@ fn job(
     ax: &[i32],
     ay: &[i32],
     an: &[u32],
+    ah: &[i32],
     bx: &[i32],
     by: &[i32],
     bn: &[u32],
+    bh: &[i32],
     distance: &mut [u64],
     first: &mut [u32],
     second: &mut [u32],
@@ -160,8 +166,8 @@ fn job(
     ensures { λ r.
         let c =
         lentCampaign «campaign_k» «campaign_entries» «first_strips» «second_strips» «first_ends» «second_ends» marks in
-        let a = lentList ax ay an .entry in
-        let b = lentList bx by bn .entry in
+        let a = lentList ax ay an ah .entry in
+        let b = lentList bx by bn bh .entry in
         let l = lentResults distance first second in
         let answer = jobAnswer way (c .entry) a b (l .entry) (jobOf «first_strip» «second_strip») in
         ⌜ Crosses answer r (the jobValues with c with l of swept of looks of distances) ⌝ }
@@ -183,9 +189,11 @@ fn job(
         ax,
         ay,
         an,
+        ah,
         bx,
         by,
         bn,
+        bh,
         distance,
         first,
         second,
@@ -224,9 +232,11 @@ pub extern "C" fn vumlintel_job_classic(
     ax: &[i32],
     ay: &[i32],
     an: &[u32],
+    ah: &[i32],
     bx: &[i32],
     by: &[i32],
     bn: &[u32],
+    bh: &[i32],
     distance: &mut [u64],
     first: &mut [u32],
     second: &mut [u32],
@@ -239,8 +249,8 @@ pub extern "C" fn vumlintel_job_classic(
     ensures { λ r.
         let c =
         lentCampaign «campaign_k» «campaign_entries» «first_strips» «second_strips» «first_ends» «second_ends» marks in
-        let a = lentList ax ay an .entry in
-        let b = lentList bx by bn .entry in
+        let a = lentList ax ay an ah .entry in
+        let b = lentList bx by bn bh .entry in
         let l = lentResults distance first second in
         let answer = jobAnswer Classic (c .entry) a b (l .entry) (jobOf «first_strip» «second_strip») in
         ⌜ Crosses answer r (the jobValues with c with l of swept of looks of distances) ⌝ }
@@ -256,9 +266,11 @@ pub extern "C" fn vumlintel_job_classic(
         ax,
         ay,
         an,
+        ah,
         bx,
         by,
         bn,
+        bh,
         distance,
         first,
         second,
@@ -284,9 +296,11 @@ pub extern "C" fn vumlintel_job_reverse_run(
     ax: &[i32],
     ay: &[i32],
     an: &[u32],
+    ah: &[i32],
     bx: &[i32],
     by: &[i32],
     bn: &[u32],
+    bh: &[i32],
     distance: &mut [u64],
     first: &mut [u32],
     second: &mut [u32],
@@ -299,8 +313,8 @@ pub extern "C" fn vumlintel_job_reverse_run(
     ensures { λ r.
         let c =
         lentCampaign «campaign_k» «campaign_entries» «first_strips» «second_strips» «first_ends» «second_ends» marks in
-        let a = lentList ax ay an .entry in
-        let b = lentList bx by bn .entry in
+        let a = lentList ax ay an ah .entry in
+        let b = lentList bx by bn bh .entry in
         let l = lentResults distance first second in
         let answer = jobAnswer ReverseRun (c .entry) a b (l .entry) (jobOf «first_strip» «second_strip») in
         ⌜ Crosses answer r (the jobValues with c with l of swept of looks of distances) ⌝ }
@@ -316,9 +330,11 @@ pub extern "C" fn vumlintel_job_reverse_run(
         ax,
         ay,
         an,
+        ah,
         bx,
         by,
         bn,
+        bh,
         distance,
         first,
         second,
@@ -344,9 +360,11 @@ pub extern "C" fn vumlintel_status(
     ax: &[i32],
     ay: &[i32],
     an: &[u32],
+    ah: &[i32],
     bx: &[i32],
     by: &[i32],
     bn: &[u32],
+    bh: &[i32],
     distance: &[u64],
     first: &[u32],
     second: &[u32],
@@ -358,8 +376,8 @@ pub extern "C" fn vumlintel_status(
     ensures { λ r.
         let c =
         lentCampaign «campaign_k» «campaign_entries» «first_strips» «second_strips» «first_ends» «second_ends» marks in
-        let a = lentList ax ay an .entry in
-        let b = lentList bx by bn .entry in
+        let a = lentList ax ay an ah .entry in
+        let b = lentList bx by bn bh .entry in
         let l = lentResults distance first second .entry in
         let places = the statusValues of settled of jobs of entries of k in
         ⌜ Crosses (statusAnswer (c .entry) a b l) r places ⌝ }
@@ -376,7 +394,20 @@ pub extern "C" fn vumlintel_status(
         second_ends: second_cut,
         marks: marked,
     };
-    let answer = campaign::calls::status(c, ax, ay, an, bx, by, bn, distance, first, second);
+    let answer = campaign::calls::status(
+        c,
+        ax,
+        ay,
+        an,
+        ah,
+        bx,
+        by,
+        bn,
+        bh,
+        distance,
+        first,
+        second,
+    );
     match answer {
         Status::Counts {
             settled: s,

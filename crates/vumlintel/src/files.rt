@@ -1,6 +1,6 @@
 // The site file: writing one, reading one, and its sites.
 ghost use Rattle.column.specs.Lent.{the, _of_};
-ghost use Rattle.site.specs.SiteList.{lentList, site};
+ghost use Rattle.site.specs.SiteList.{lentPlane, site};
 ghost use Rattle.site_file.specs.declared.Which.the-variants.{First, Second};
 ghost use Rattle.site_file.specs.Calls.{writeValues, writeAnswer, readAnswer, siteAnswer, readValues};
 ghost use Rattle.vumlintel.specs.Crosses.{Crosses};
@@ -22,8 +22,8 @@ pub extern "C" fn vumlintel_write_file(
     length: &mut u32,
 ) -> u32
     ensures { λ r.
-        let a = lentList ax ay an .entry in
-        let b = lentList bx by bn .entry in
+        let a = lentPlane ax ay an .entry in
+        let b = lentPlane bx by bn .entry in
         ⌜ Crosses (writeAnswer a b (now (buffer .entry))) r (the writeValues of buffer of length) ⌝ }
 {
     let answer = site_file::write(ax, ay, an, bx, by, bn, buffer);

@@ -16,9 +16,11 @@ fn k_list(
     ax: &[i32],
     ay: &[i32],
     an: &[u32],
+    ah: &[i32],
     bx: &[i32],
     by: &[i32],
     bn: &[u32],
+    bh: &[i32],
     k: u32,
     distance: &mut [u64],
     first: &mut [u32],
@@ -28,13 +30,27 @@ fn k_list(
     distances: &mut u64,
 ) -> u32
     ensures { λ r.
-        let a = lentList ax ay an .entry in
-        let b = lentList bx by bn .entry in
+        let a = lentList ax ay an ah .entry in
+        let b = lentList bx by bn bh .entry in
         let l = lentResults distance first second in
         let places = the kListValues with l of entries of looks of distances in
         ⌜ Crosses (kListAnswer way a b k (l .entry)) r places ⌝ }
 {
-    let answer = pairs::k_list(way, ax, ay, an, bx, by, bn, k, distance, first, second);
+    let answer = pairs::k_list(
+        way,
+        ax,
+        ay,
+        an,
+        ah,
+        bx,
+        by,
+        bn,
+        bh,
+        k,
+        distance,
+        first,
+        second,
+    );
     match answer {
         Listed::Entries {
             count: n,
@@ -56,9 +72,11 @@ pub extern "C" fn vumlintel_k_list_classic(
     ax: &[i32],
     ay: &[i32],
     an: &[u32],
+    ah: &[i32],
     bx: &[i32],
     by: &[i32],
     bn: &[u32],
+    bh: &[i32],
     k: u32,
     distance: &mut [u64],
     first: &mut [u32],
@@ -68,8 +86,8 @@ pub extern "C" fn vumlintel_k_list_classic(
     distances: &mut u64,
 ) -> u32
     ensures { λ r.
-        let a = lentList ax ay an .entry in
-        let b = lentList bx by bn .entry in
+        let a = lentList ax ay an ah .entry in
+        let b = lentList bx by bn bh .entry in
         let l = lentResults distance first second in
         let places = the kListValues with l of entries of looks of distances in
         ⌜ Crosses (kListAnswer Classic a b k (l .entry)) r places ⌝ }
@@ -79,9 +97,11 @@ pub extern "C" fn vumlintel_k_list_classic(
         ax,
         ay,
         an,
+        ah,
         bx,
         by,
         bn,
+        bh,
         k,
         distance,
         first,
@@ -98,9 +118,11 @@ pub extern "C" fn vumlintel_k_list_reverse_run(
     ax: &[i32],
     ay: &[i32],
     an: &[u32],
+    ah: &[i32],
     bx: &[i32],
     by: &[i32],
     bn: &[u32],
+    bh: &[i32],
     k: u32,
     distance: &mut [u64],
     first: &mut [u32],
@@ -110,8 +132,8 @@ pub extern "C" fn vumlintel_k_list_reverse_run(
     distances: &mut u64,
 ) -> u32
     ensures { λ r.
-        let a = lentList ax ay an .entry in
-        let b = lentList bx by bn .entry in
+        let a = lentList ax ay an ah .entry in
+        let b = lentList bx by bn bh .entry in
         let l = lentResults distance first second in
         let places = the kListValues with l of entries of looks of distances in
         ⌜ Crosses (kListAnswer ReverseRun a b k (l .entry)) r places ⌝ }
@@ -121,9 +143,11 @@ pub extern "C" fn vumlintel_k_list_reverse_run(
         ax,
         ay,
         an,
+        ah,
         bx,
         by,
         bn,
+        bh,
         k,
         distance,
         first,
@@ -140,21 +164,23 @@ pub extern "C" fn vumlintel_distance_list(
     ax: &[i32],
     ay: &[i32],
     an: &[u32],
+    ah: &[i32],
     bx: &[i32],
     by: &[i32],
     bn: &[u32],
+    bh: &[i32],
     e: u32,
     first: &mut [u32],
     second: &mut [u32],
     count: &mut u64,
 ) -> u32
     ensures { λ r.
-        let a = lentList ax ay an .entry in
-        let b = lentList bx by bn .entry in
+        let a = lentList ax ay an ah .entry in
+        let b = lentList bx by bn bh .entry in
         let places = the distanceValues of first of second of count in
         ⌜ Crosses (distanceAnswer a b e (now (first .entry)) (now (second .entry))) r places ⌝ }
 {
-    let answer = pairs::distance_list(ax, ay, an, bx, by, bn, e, first, second);
+    let answer = pairs::distance_list(ax, ay, an, ah, bx, by, bn, bh, e, first, second);
     match answer {
         Within::Pairs(n) => {
             *count = n;

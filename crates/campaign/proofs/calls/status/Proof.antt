@@ -30,7 +30,7 @@ slice-aggregate-settled-jobs c = sym (long (start (c .before .before)))
 settled-jobs-requires : tie.Need-settled-jobs-requires
 settled-jobs-requires c κs = few (c .before .before .before .before)
 
-mul-jobs : tie.Need-mul-t19
+mul-jobs : tie.Need-mul-t21
 mul-jobs c =
     let n = few (c .before .before .before .before .before .before) in omega (arith, mul-le-mul (n .0) (n .1))
 

@@ -26,8 +26,8 @@ run-requires c κs =
     strips-in (s .args .c) (c .before .before .before .before .before .before .strip .ensures)
     (c .before .before .before .before .before .strip2 .ensures) (s .pre .0 .0) (s .pre .0 .1) asked (long s .0) (long s .1) in
     record {
-      a = w .0;
-      b = w .1;
+      a = w .0 .strip;
+      b = w .1 .strip;
       some = some-k asked .0;
       few = some-k asked .1;
       ready = s .pre .1 .1;

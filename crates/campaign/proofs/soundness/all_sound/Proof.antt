@@ -8,7 +8,7 @@ use native.Mathlib.Omega.{arith}
 use borrow.Author.Tests.{not-true, not-false}
 use lib.ListN.{drop, getD}
 use Rattle.order.specs.Lists.{all}
-use Rattle.site.specs.SiteList.{columns, sites}
+use Rattle.site.specs.SiteList.{raised, sites}
 use Rattle.site.specs.Terms.{Level, Numbered}
 use Rattle.entry.specs.declared.Entry.{Entry}
 use Rattle.entry.specs.Entry.{entry}
@@ -20,14 +20,14 @@ use Rattle.campaign.proofs.soundness.all_sound.Statement.{statement}
 use Rattle.campaign.proofs.soundness.all_sound.Tie as tie
 
 abbrev Inv-loop : tie.InvT-loop
-Inv-loop distance first second count ax ay bx by first-ends second-ends marks i₀ i =
+Inv-loop distance first second count ax ay ah bx by bh first-ends second-ends marks i₀ i =
     (i ≤ count)
-    × Numbered ax ay bx by
+    × Numbered ax ay ah bx by bh
     (λ a b. all (soundEntry marks first-ends second-ends a b) (drop i (entriesOf count (results distance first second)))
     ≡ all (soundEntry marks first-ends second-ends a b) (entriesOf count (results distance first second)))
 
 abbrev μ-loop : tie.MeasureT-loop
-μ-loop distance first second count ax ay bx by first-ends second-ends marks i₀ i = count - i
+μ-loop distance first second count ax ay ah bx by bh first-ends second-ends marks i₀ i = count - i
 
 abbrev listed : tie.Start Inv-loop μ-loop → List Entry
 listed s = entriesOf (s .args .count) (results (s .args .distance .now) (s .args .first .now) (s .args .second .now))
@@ -35,15 +35,15 @@ listed s = entriesOf (s .args .count) (results (s .args .distance .now) (s .args
 abbrev test : tie.Start Inv-loop μ-loop → List ℕ → List ℕ → Entry → Bool
 test s an bn =
     soundEntry (s .args .marks .now) (s .args .first-ends .now) (s .args .second-ends .now)
-    (sites (columns (s .args .ax .now) (s .args .ay .now) an))
-    (sites (columns (s .args .bx .now) (s .args .by .now) bn))
+    (sites (raised (s .args .ax .now) (s .args .ay .now) an (s .args .ah .now)))
+    (sites (raised (s .args .bx .now) (s .args .by .now) bn (s .args .bh .now)))
 
 abbrev start : tie.After-sound-entry Inv-loop μ-loop → tie.Start Inv-loop μ-loop
 start c = c .before .before .before .before .before .before .before .before .before .before
 
 learnt : (c : tie.After-sound-entry Inv-loop μ-loop) (an bn : List ℕ)
-    → Level (columns (start c .args .ax .now) (start c .args .ay .now) an)
-    → Level (columns (start c .args .bx .now) (start c .args .by .now) bn)
+    → Level (raised (start c .args .ax .now) (start c .args .ay .now) an (start c .args .ah .now))
+    → Level (raised (start c .args .bx .now) (start c .args .by .now) bn (start c .args .bh .now))
     → c .sound-entry .result ≡ test (start c) an bn
     (getD (listed (start c)) (c .before .before .before .loop .i) (entry 0 0 0))
 learnt c an bn la lb =

@@ -2,21 +2,21 @@
 use borrow.Author.Needs.{needs}
 use mathlib.Core.Path.{_≡_, sym, _∙_}
 use mathlib.Core.Bool.{Bool, not, cond}
-use Rattle.site.specs.SiteList.{Columns, columns}
+use Rattle.site.specs.SiteList.{Columns, raised}
 use Rattle.site.specs.Refusal.{listRefusal}
 use Rattle.entry.specs.Results.{Results, results}
 use Rattle.campaign.specs.Soundness.{campaignRefusal}
-use Rattle.site.proofs.Accepted.{both-accepted, accepted-level, accepted-coordinates}
-use Rattle.campaign.proofs.Sound.{lists-refused, sound-decides}
+use Rattle.site.proofs.Accepted.{both-accepted, accepted-level}
+use Rattle.campaign.proofs.Sound.{accepted-columns, lists-refused, sound-decides}
 use Rattle.campaign.proofs.soundness.refusal.Statement.{statement}
 use Rattle.campaign.proofs.soundness.refusal.Tie as tie
 
 -- What was lent.
 abbrev one : tie.Start → Columns
-one s = columns (s .args .ax .now) (s .args .ay .now) (s .args .an .now)
+one s = raised (s .args .ax .now) (s .args .ay .now) (s .args .an .now) (s .args .ah .now)
 
 abbrev other : tie.Start → Columns
-other s = columns (s .args .bx .now) (s .args .by .now) (s .args .bn .now)
+other s = raised (s .args .bx .now) (s .args .by .now) (s .args .bn .now) (s .args .bh .now)
 
 abbrev held : tie.Start → Results
 held s = results (s .args .distance .now) (s .args .first .now) (s .args .second .now)
@@ -40,7 +40,7 @@ returns : tie.Need-returns
 returns c = lists-refused _ _ _ _ (c .before .lists-refusal .ensures) (c .if1 .taken)
 
 sound-requires : tie.Need-sound-requires
-sound-requires c κs = (accepted-coordinates _ (accepted c .0), accepted-coordinates _ (accepted c .1))
+sound-requires c κs = (accepted-columns _ _ _ _ (accepted c .0), accepted-columns _ _ _ _ (accepted c .1))
 
 returns-2 : tie.Need-returns-2
 returns-2 c = decided (c .before) (c .if2 .taken)

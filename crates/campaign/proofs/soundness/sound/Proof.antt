@@ -6,7 +6,7 @@ use mathlib.Core.List.{List}
 use Prim.Native.Nat.{ℕ}
 use lib.ListN.{length}
 use borrow.Author.Tests.{not-true, not-false}
-use Rattle.site.specs.SiteList.{Columns, columns}
+use Rattle.site.specs.SiteList.{Columns, raised}
 use Rattle.entry.specs.Results.{results, roomFor}
 use Rattle.campaign.specs.Internal.{soundPlan}
 use Rattle.campaign.proofs.SoundPlan.{plan-parts}
@@ -16,10 +16,10 @@ use Rattle.campaign.proofs.soundness.sound.Tie as tie
 
 -- The lists with their numbers.
 abbrev first : tie.Start → List ℕ → Columns
-first s an = columns (s .args .ax .now) (s .args .ay .now) an
+first s an = raised (s .args .ax .now) (s .args .ay .now) an (s .args .ah .now)
 
 abbrev second : tie.Start → List ℕ → Columns
-second s bn = columns (s .args .bx .now) (s .args .by .now) bn
+second s bn = raised (s .args .bx .now) (s .args .by .now) bn (s .args .bh .now)
 
 abbrev start : tie.Else1 → tie.Start
 start e = e .before .before .before .before .before

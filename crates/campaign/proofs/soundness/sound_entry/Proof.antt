@@ -1,6 +1,6 @@
 -- `campaign::soundness::sound_entry` meets its contract.
 use borrow.Author.Needs.{needs}
-use Rattle.site.specs.SiteList.{Columns, columns}
+use Rattle.site.specs.SiteList.{Columns, raised}
 use Prim.Native.Nat.{ℕ}
 use mathlib.Core.List.{List}
 use native.Mathlib.Omega.{arith}
@@ -10,10 +10,10 @@ use Rattle.campaign.proofs.soundness.sound_entry.Tie as tie
 
 -- The lists with their numbers.
 abbrev first : tie.Start → List ℕ → Columns
-first s an = columns (s .args .ax .now) (s .args .ay .now) an
+first s an = raised (s .args .ax .now) (s .args .ay .now) an (s .args .ah .now)
 
 abbrev second : tie.Start → List ℕ → Columns
-second s bn = columns (s .args .bx .now) (s .args .by .now) bn
+second s bn = raised (s .args .bx .now) (s .args .by .now) bn (s .args .bh .now)
 
 returns : tie.Need-returns
 returns c =

@@ -20,8 +20,10 @@ strip-requires-2 c κs = let asked = c .before .before .before .pre .1 in (asked
 count-pairs-requires : tie.Need-count-pairs-requires
 count-pairs-requires c κs =
     let s = c .before .before .before .before in
+    let w =
     strips-in (s .args .c) (c .before .strip .ensures) (c .strip2 .ensures) (s .pre .0 .0) (s .pre .0 .1) (s .pre .1)
-    (long s .0) (long s .1)
+    (long s .0) (long s .1) in
+    (w .0 .strip, w .1 .strip)
 
 returns : tie.Need-returns
 returns c =

@@ -14,12 +14,12 @@ use Rattle.campaign.proofs.totals.row.Statement.{statement}
 use Rattle.campaign.proofs.totals.row.Tie as tie
 
 abbrev Inv-loop : tie.InvT-loop
-Inv-loop c ax ay bx by s marks pairs₀ t₀ pairs t =
+Inv-loop c ax ay ah bx by bh s marks pairs₀ t₀ pairs t =
     let row = rowFrom (c .marks) s (c .«second_strips») in
-    (t ≤ c .«second_strips») × Left (firstEnds c) (secondEnds c) ax ay bx by (row 0) (row t) pairs
+    (t ≤ c .«second_strips») × Left (firstEnds c) (secondEnds c) ax ay ah bx by bh (row 0) (row t) pairs
 
 abbrev μ-loop : tie.MeasureT-loop
-μ-loop c ax ay bx by s marks pairs₀ t₀ pairs t = c .«second_strips» - t
+μ-loop c ax ay ah bx by bh s marks pairs₀ t₀ pairs t = c .«second_strips» - t
 
 abbrev start : tie.At-loop Inv-loop μ-loop → tie.Start Inv-loop μ-loop
 start l = l .before .before
@@ -32,7 +32,7 @@ few : (s : tie.Start Inv-loop μ-loop) → (s .args .c .«first_strips» ≤ 32)
 few s = let p = plan-parts _ _ _ (s .pre .1 .0) in (p .rows, p .cols)
 
 loop-holds : tie.Need-loop-holds Inv-loop μ-loop
-loop-holds c = (search needs, left-all _ _ _ _ _ _ _)
+loop-holds c = (search needs, left-all _ _ _ _ _ _ _ _ _)
 
 slice-aggregate-is-settled : tie.Need-slice-aggregate-is-settled Inv-loop μ-loop
 slice-aggregate-is-settled c = sym (long (start (c .before .before .before)))
@@ -53,12 +53,12 @@ more : (c : tie.After-job Inv-loop μ-loop)
     → let l = c .before .before .before .before .before .before in
     let s = start l in
     let row = rowFrom (s .args .c .marks) (s .args .s) (s .args .c .«second_strips») in
-    Left (firstEnds (s .args .c)) (secondEnds (s .args .c)) (s .args .ax .now) (s .args .ay .now) (s .args .bx .now)
-    (s .args .by .now) (row 0) (row (l .loop .t + 1)) (l .loop .pairs + c .job .result)
+    Left (firstEnds (s .args .c)) (secondEnds (s .args .c)) (s .args .ax .now) (s .args .ay .now) (s .args .ah .now)
+    (s .args .bx .now) (s .args .by .now) (s .args .bh .now) (row 0) (row (l .loop .t + 1)) (l .loop .pairs + c .job .result)
 more c =
     let t = c .before .before .before .before in
     let l = t .before .before in
-    left-one _ _ _ _ _ _ (l .loop .inv .1) (jobOf (start l .args .s) (l .loop .t)) _
+    left-one _ _ _ _ _ _ _ _ (l .loop .inv .1) (jobOf (start l .args .s) (l .loop .t)) _
     (row-settled _ _ _ _ (t .if1 .taken) (sym (c .before .before .is-settled .ensures) ∙ c .before .if2 .taken))
     (c .job .ensures)
 
@@ -67,7 +67,7 @@ add-pairs c =
     let s = start (c .before .before .before .before .before .before) in
     omega (
       arith,
-      left-few _ _ _ _ _ _ (more c) (s .pre .0 .0) (s .pre .0 .1),
+      left-few _ _ _ _ _ _ _ _ (more c) (s .pre .0 .0) (s .pre .0 .1),
       row-few (s .args .c .marks) (s .args .s) (s .args .c .«second_strips»),
       few s,
     )
@@ -85,7 +85,7 @@ loop-again c =
     (c .if2 .came)
 
 returns : tie.Need-returns Inv-loop μ-loop
-returns c = row-pairs _ _ _ _ _ _ _ _ _ _ (c .if1 .left) (c .before .before .loop .inv .1)
+returns c = row-pairs _ _ _ _ _ _ _ _ _ _ _ _ (c .if1 .left) (c .before .before .loop .inv .1)
 
 pub row-spec : {M : Type 1} → statement M
 row-spec =

@@ -11,15 +11,15 @@ use Rattle.campaign.proofs.totals.settled_pairs.Statement.{statement}
 use Rattle.campaign.proofs.totals.settled_pairs.Tie as tie
 
 abbrev Inv-loop : tie.InvT-loop
-Inv-loop c ax ay bx by pairs₀ s₀ pairs s =
+Inv-loop c ax ay ah bx by bh pairs₀ s₀ pairs s =
     let rows = rowsFrom (c .marks) (c .«first_strips») (c .«second_strips») in
-    (s ≤ c .«first_strips») × Left (firstEnds c) (secondEnds c) ax ay bx by (rows 0) (rows s) pairs
+    (s ≤ c .«first_strips») × Left (firstEnds c) (secondEnds c) ax ay ah bx by bh (rows 0) (rows s) pairs
 
 abbrev μ-loop : tie.MeasureT-loop
-μ-loop c ax ay bx by pairs₀ s₀ pairs s = c .«first_strips» - s
+μ-loop c ax ay ah bx by bh pairs₀ s₀ pairs s = c .«first_strips» - s
 
 loop-holds : tie.Need-loop-holds Inv-loop μ-loop
-loop-holds c = (search needs, left-all _ _ _ _ _ _ _)
+loop-holds c = (search needs, left-all _ _ _ _ _ _ _ _ _)
 
 row-requires : tie.Need-row-requires Inv-loop μ-loop
 row-requires c κs = let p = c .before .before .before .pre in (p .0, (p .1, c .if1 .taken))
@@ -29,10 +29,10 @@ more : (c : tie.After-row Inv-loop μ-loop)
     → let l = c .before .before .before in
     let s = l .before in
     let rows = rowsFrom (s .args .c .marks) (s .args .c .«first_strips») (s .args .c .«second_strips») in
-    Left (firstEnds (s .args .c)) (secondEnds (s .args .c)) (s .args .ax .now) (s .args .ay .now) (s .args .bx .now)
-    (s .args .by .now) (rows 0) (rows (l .loop .s + 1)) (l .loop .pairs + c .row .result)
+    Left (firstEnds (s .args .c)) (secondEnds (s .args .c)) (s .args .ax .now) (s .args .ay .now) (s .args .ah .now)
+    (s .args .bx .now) (s .args .by .now) (s .args .bh .now) (rows 0) (rows (l .loop .s + 1)) (l .loop .pairs + c .row .result)
 more c =
-    rows-more _ _ _ _ _ _ _ _ _ _ (c .before .if1 .taken) (c .before .before .before .loop .inv .1) (c .row .ensures)
+    rows-more _ _ _ _ _ _ _ _ _ _ _ _ (c .before .if1 .taken) (c .before .before .before .loop .inv .1) (c .row .ensures)
 
 add-pairs : tie.Need-add-pairs Inv-loop μ-loop
 add-pairs c =
@@ -40,13 +40,13 @@ add-pairs c =
     let p = plan-parts _ _ _ (s .pre .1) in
     omega (
       arith,
-      left-few _ _ _ _ _ _ (more c) (s .pre .0 .0) (s .pre .0 .1),
+      left-few _ _ _ _ _ _ _ _ (more c) (s .pre .0 .0) (s .pre .0 .1),
       rows-few (s .args .c .marks) (s .args .c .«first_strips») (s .args .c .«second_strips») (p .rows) (p .cols),
     )
 
 returns : tie.Need-returns Inv-loop μ-loop
 unfolding settledJobs
-returns c = rows-pairs _ _ _ _ _ _ _ _ _ _ (c .if1 .left) (c .before .before .loop .inv .1)
+returns c = rows-pairs _ _ _ _ _ _ _ _ _ _ _ _ (c .if1 .left) (c .before .before .loop .inv .1)
 
 pub settled-pairs-spec : {M : Type 1} → statement M
 settled-pairs-spec =

@@ -56,8 +56,11 @@ list-sites-requires c κs =
     let first = second .before in (
       first .before .before .before .pre .0,
       (
-        zeros-sized _ (first .count-in .ensures) (few-first first),
-        zeros-sized _ (second .count-in2 .ensures) (few-second second),
+        (rw (← first .count-in .ensures) (few-first first), rw (← second .count-in2 .ensures) (few-second second)),
+        (
+          zeros-sized _ (first .count-in .ensures) (few-first first),
+          zeros-sized _ (second .count-in2 .ensures) (few-second second),
+        ),
       ),
     )
 

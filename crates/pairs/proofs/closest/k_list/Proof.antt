@@ -13,14 +13,14 @@ returns c = k-refused _ _ _ _ _ (c .before .k-list-refusal .ensures) (c .if1 .ta
 run-requires : tie.Need-run-requires
 run-requires c κs =
     let e = c .before .before .before in
-    sweep-asks _ _ _ _ (sym (e .before .k-list-refusal .ensures) ∙ e .if1 .left)
+    sweep-asks _ _ _ _ _ _ _ _ _ _ (sym (e .before .k-list-refusal .ensures) ∙ e .if1 .left)
 
 returns-2 : tie.Need-returns-2
 unfolding listedAnswer
 returns-2 c =
     let w = c .before .before .before .before .before .before .before .before in
     let e = w .before .before .before .before in
-    swept-is _ _ _ _ (sym (e .before .k-list-refusal .ensures) ∙ e .if1 .left) _ (w .run .ensures)
+    swept-is _ _ _ _ _ _ _ _ _ _ (sym (e .before .k-list-refusal .ensures) ∙ e .if1 .left) _ (w .run .ensures)
 
 pub k-list-spec : {M : Type 1} → statement M
 k-list-spec =

@@ -1,14 +1,15 @@
 -- `site::Site::within` meets its contract.
+use borrow.Author.Needs.{needs}
+use lib.IntN.{pos, negsuc}
 use mir.Facts.{toZ-ofZ}
-use Rattle.site.proofs.Within.{within-upper, within-lower}
+use Rattle.site.specs.Site.{between, within}
+use Rattle.site.proofs.Signed.{at₁}
 use Rattle.site.proofs.Site.within.Statement.{statement}
 use Rattle.site.proofs.Site.within.Tie as tie
 
 returns : tie.Need-returns
-returns c = within-upper _ _ (toZ-ofZ (c .before .fits .c)) (c .if1 .taken)
-
-returns-2 : tie.Need-returns-2
-returns-2 c = within-lower _ _ (toZ-ofZ (c .before .fits .c)) (c .if1 .left)
+unfolding within
+returns c = at₁ (between (negsuc 999_999_999) (pos 1_000_000_000)) (toZ-ofZ (c .before .fits .c)) (c .between .ensures)
 
 pub within-spec : {M : Type 1} → statement M
-within-spec = tie.close (tie.spec returns returns-2)
+within-spec = tie.close (tie.spec (λ c κs. search needs) returns)

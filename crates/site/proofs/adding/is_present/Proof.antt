@@ -10,7 +10,7 @@ use lib.ListN.{length, drop}
 use mir.Syntax.{w32}
 use mir.Val.{toZ, ofZ}
 use mir.Facts.{toZ-ofZ}
-use Rattle.site.specs.declared.Site.{Site}
+use Rattle.site.specs.Site.{Site}
 use Rattle.site.specs.SiteList.{Columns, columns, site, sites, siteAt}
 use Rattle.site.specs.Addition.{present}
 use Rattle.site.proofs.Signed.{at₂}

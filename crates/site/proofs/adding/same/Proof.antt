@@ -5,8 +5,7 @@ use Prim.Native.Nat.{ℕ}
 use borrow.Author.Needs.{needs}
 use lib.IntN.{ℤ}
 use mir.Facts.{toZ-ofZ}
-use Rattle.site.specs.declared.Site.{Site}
-use Rattle.site.specs.Site.{siteBefore}
+use Rattle.site.specs.Site.{Site, siteBefore}
 use Rattle.site.specs.SiteList.{site}
 use Rattle.site.proofs.Signed.{at₄}
 use Rattle.site.proofs.adding.same.Statement.{statement}

@@ -1,5 +1,5 @@
 -- `site::before` meets its contract.
-use Rattle.site.specs.declared.Site.{Site}
+use Rattle.site.specs.Site.{Site}
 use Rattle.site.specs.SiteList.{site}
 use Rattle.site.proofs.SiteBefore.{first-below, first-above, second-below, second-above, number-decides}
 use Rattle.site.proofs.Signed.{read-lt}

@@ -1,79 +1,73 @@
 -- `site::list_refusal` meets its contract.
 use mathlib.Core.Path.{_≡_, sym, _∙_}
-use mathlib.Core.Bool.{true}
 use borrow.Author.Needs.{needs}
 use borrow.Author.Tests.{not-true, not-false}
-use Rattle.order.specs.Lists.{all}
-use Rattle.site.specs.Site.{within}
-use Rattle.site.specs.SiteList.{Columns, columns}
-use Rattle.site.specs.Terms.{Level}
-use Rattle.site.proofs.Refusal.{unequal-y, unequal-number, level-by, too-many, outside-x, outside-y, unordered, accepted}
+use native.Mathlib.Omega.{arith}
+use Rattle.site.specs.Site.{heightWithin}
+use Rattle.site.specs.SiteList.{columns}
+use Rattle.site.specs.Refusal.{listRefusal}
+use Rattle.site.proofs.Refusal.{raised-unequal, raised-few, unequal-height, raised-outside, height-outside, raised-same}
 use Rattle.site.proofs.lists.list_refusal.Statement.{statement}
 use Rattle.site.proofs.lists.list_refusal.Tie as tie
 
-abbrev lent : tie.Start → Columns
-lent c = columns (c .args .x .now) (c .args .y .now) (c .args .number .now)
-
-level : (c : tie.Else2) → Level (lent (c .before .before .before))
-level c = level-by (lent (c .before .before .before)) (c .before .if1 .left) (c .if2 .left)
-
-inside-x : (c : tie.Else4) → all within (c .before .before .before .before .before .before .args .x .now) ≡ true
-inside-x c = sym (c .before .all-within .ensures) ∙ not-false (c .before .all-within .result) (c .if4 .left)
-
-inside-y : (c : tie.Else5) → all within (c .before .before .before .before .before .before .before .before .args .y .now) ≡ true
-inside-y c = sym (c .before .all-within2 .ensures) ∙ not-false (c .before .all-within2 .result) (c .if5 .left)
-
 returns : tie.Need-returns
-returns c = unequal-y (lent (c .before .before)) (c .if1 .taken)
+returns c =
+    let f = c .before in
+    let a = f .before .before .args in
+    raised-unequal (a .x .now) (a .y .now) (a .number .now) (a .height .now) (sym (c .if1 .taken) ∙ f .plane-refusal .ensures)
+
+-- No fault of sizes in the plane.
+sizes : (c : tie.Else1) → (let a = c .before .before .before .args in listRefusal (columns (a .x .now) (a .y .now) (a .number .now)) ≡ 1) → ⊥
+sizes c e = c .if1 .left (c .before .plane-refusal .ensures ∙ e)
 
 returns-2 : tie.Need-returns-2
-returns-2 c = unequal-number (lent (c .before .before .before)) (c .before .if1 .left) (c .if2 .taken)
+returns-2 c =
+    let f = c .before .before in
+    let a = f .before .before .args in
+    unequal-height (a .x .now) (a .y .now) (a .number .now) (a .height .now) (sizes (c .before)) (c .if2 .taken)
 
 returns-3 : tie.Need-returns-3
-returns-3 c = too-many (lent (c .before .before .before .before)) (level (c .before)) (c .if3 .taken)
+returns-3 c =
+    let d = c .before in
+    let f = d .before .before in
+    let a = f .before .before .args in
+    raised-outside (a .x .now) (a .y .now) (a .number .now) (a .height .now) (sizes (d .before)) (d .if2 .left)
+    (sym (c .if3 .taken) ∙ f .plane-refusal .ensures)
+
+all-between-requires : tie.Need-all-between-requires
+all-between-requires c κs =
+    let d = c .before in
+    let f = d .before .before in
+    let a = f .before .before .args in
+    let few = raised-few (a .x .now) (a .y .now) (a .number .now) (a .height .now) (sizes (d .before)) in
+    omega (arith, d .if2 .left)
 
 returns-4 : tie.Need-returns-4
+unfolding heightWithin
 returns-4 c =
-    let e = c .before .before in
-    outside-x (lent (e .before .before .before .before)) (level (e .before)) (e .if3 .left)
-    (sym (c .before .all-within .ensures) ∙ not-true (c .before .all-within .result) (c .if4 .taken))
+    let d = c .before .before .before in
+    let a = d .before .before .before .before .args in
+    height-outside (a .x .now) (a .y .now) (a .number .now) (a .height .now) (sizes (d .before)) (d .if2 .left)
+    (sym (c .before .all-between .ensures) ∙ not-true (c .before .all-between .result) (c .if4 .taken))
 
 returns-5 : tie.Need-returns-5
+unfolding heightWithin
 returns-5 c =
-    let e = c .before .before .before .before in
-    outside-y (lent (e .before .before .before .before)) (level (e .before)) (e .if3 .left) (inside-x (c .before .before))
-    (sym (c .before .all-within2 .ensures) ∙ not-true (c .before .all-within2 .result) (c .if5 .taken))
-
-ascends-requires : tie.Need-ascends-requires
-ascends-requires c κs =
-    let e = c .before .before .before .before in
-    (level (e .before), e .if3 .left)
-
-returns-6 : tie.Need-returns-6
-returns-6 c =
-    let e = c .before .before .before .before .before .before in
-    unordered (lent (e .before .before .before .before)) (level (e .before)) (e .if3 .left)
-    (inside-x (c .before .before .before .before)) (inside-y (c .before .before))
-    (sym (c .before .ascends .ensures) ∙ not-true (c .before .ascends .result) (c .if6 .taken))
-
-returns-7 : tie.Need-returns-7
-returns-7 c =
-    let e = c .before .before .before .before .before .before in
-    accepted (lent (e .before .before .before .before)) (level (e .before)) (e .if3 .left)
-    (inside-x (c .before .before .before .before)) (inside-y (c .before .before))
-    (sym (c .before .ascends .ensures) ∙ not-false (c .before .ascends .result) (c .if6 .left))
+    let d = c .before .before .before in
+    let f = d .before .before in
+    let a = f .before .before .args in
+    f .plane-refusal .ensures
+    ∙ raised-same (a .x .now) (a .y .now) (a .number .now) (a .height .now) (sizes (d .before)) (d .if2 .left)
+    (sym (c .before .all-between .ensures) ∙ not-false (c .before .all-between .result) (c .if4 .left))
 
 pub list-refusal-spec : {M : Type 1} → statement M
 list-refusal-spec =
     tie.close
     (tie.spec
+    (λ c κs. search needs)
     returns
     returns-2
     returns-3
-    (λ c κs. search needs)
+    all-between-requires
     returns-4
-    (λ c κs. search needs)
-    returns-5
-    ascends-requires
-    returns-6
-    returns-7)
+    returns-5)

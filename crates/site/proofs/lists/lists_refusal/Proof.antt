@@ -1,13 +1,13 @@
 -- `site::lists_refusal` meets its contract.
 use borrow.Author.Needs.{needs}
 use Rattle.site.specs.Refusal.{listRefusal, listsRefusal}
-use Rattle.site.specs.SiteList.{Columns, columns}
+use Rattle.site.specs.SiteList.{Columns, raised}
 use Rattle.site.proofs.Answer.{first-refused, next-decides}
 use Rattle.site.proofs.lists.lists_refusal.Statement.{statement}
 use Rattle.site.proofs.lists.lists_refusal.Tie as tie
 
 abbrev second-lent : tie.Start → Columns
-second-lent c = columns (c .args .bx .now) (c .args .by .now) (c .args .bn .now)
+second-lent c = raised (c .args .bx .now) (c .args .by .now) (c .args .bn .now) (c .args .bh .now)
 
 returns : tie.Need-returns
 unfolding listsRefusal

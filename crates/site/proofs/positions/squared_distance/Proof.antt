@@ -5,34 +5,63 @@ use native.Mathlib.Omega.{arith}
 use borrow.Author.Needs.{needs}
 use lib.IntN.{ℤ}
 use mir.Facts.{toZ-ofZ}
-use Rattle.site.specs.Site.{gap, square}
+use Rattle.site.specs.Site.{gap, square, squaredDistance}
 use Rattle.site.specs.SiteList.{site}
-use Rattle.site.proofs.Signed.{at₂}
-use Rattle.site.proofs.Distance.{squared-gap-within, squared-distance-is}
+use Rattle.site.proofs.Signed.{at₂, at₄}
+use Rattle.site.proofs.Distance.{squared-distance-plane, squared-distance-up, squared-distance-within}
 use Rattle.site.proofs.positions.squared_distance.Statement.{statement}
 use Rattle.site.proofs.positions.squared_distance.Tie as tie
 
-along-x : (c : tie.After-squared-gap) → c .squared-gap .result ≡ square (gap (c .before .args .ax) (c .before .args .bx))
-along-x c =
-    at₂ (λ (a b : ℤ). square (gap a b)) (toZ-ofZ (c .before .fits .ax)) (toZ-ofZ (c .before .fits .bx)) (c .squared-gap .ensures)
+plane-distance-requires : tie.Need-plane-distance-requires
+plane-distance-requires c κs =
+    let f = c .fits in
+    let p = c .pre in (
+      rw (toZ-ofZ (f .ax)) (p .0 .0),
+      rw (toZ-ofZ (f .ay)) (p .0 .1),
+      rw (toZ-ofZ (f .bx)) (p .1 .0),
+      rw (toZ-ofZ (f .by)) (p .1 .1),
+    )
 
-along-y : (c : tie.After-squared-gap2) → c .squared-gap2 .result ≡ square (gap (c .before .before .args .ay) (c .before .before .args .by))
-along-y c =
-    at₂ (λ (a b : ℤ). square (gap a b)) (toZ-ofZ (c .before .before .fits .ay)) (toZ-ofZ (c .before .before .fits .by))
-    (c .squared-gap2 .ensures)
+flat : (c : tie.After-plane-distance)
+    → let a = c .before .args in
+    c .plane-distance .result ≡ square (gap (a .ax) (a .bx)) + square (gap (a .ay) (a .by))
+flat c =
+    let a = c .before .args in
+    let f = c .before .fits in
+    at₄ (λ (x y u v : ℤ). squaredDistance (site x y 0) (site u v 0)) (toZ-ofZ (f .ax)) (toZ-ofZ (f .ay)) (toZ-ofZ (f .bx)) (toZ-ofZ (f .by))
+    (c .plane-distance .ensures)
+    ∙ squared-distance-plane (a .ax) (a .ay) (a .bx) (a .by) 0 0
+
+along-height : (c : tie.After-squared-gap)
+    → let a = c .before .before .args in
+    c .squared-gap .result ≡ square (gap (a .ah) (a .bh))
+along-height c =
+    let f = c .before .before .fits in
+    at₂ (λ (a b : ℤ). square (gap a b)) (toZ-ofZ (f .ah)) (toZ-ofZ (f .bh)) (c .squared-gap .ensures)
+
+-- The sum is the squared distance.
+whole : (c : tie.After-squared-gap)
+    → let a = c .before .before .args in
+    c .before .plane-distance .result + c .squared-gap .result
+    ≡ square (gap (a .ax) (a .bx)) + square (gap (a .ay) (a .by)) + square (gap (a .ah) (a .bh))
+whole c = ap₂ _+_ (flat (c .before)) (along-height c)
 
 add-result : tie.Need-add-result
 add-result c =
-    let p = c .before .before .pre in
-    let a = c .before .before .args in
-    let x = squared-gap-within (a .ax) (a .bx) (p .0) (p .2) in
-    let y = squared-gap-within (a .ay) (a .by) (p .1) (p .3) in
-    omega (arith, along-x (c .before), along-y c)
+    let s = c .before .before in
+    let a = s .args in
+    let p = s .pre in
+    omega (
+      arith,
+      whole c,
+      squared-distance-up (a .ax) (a .ay) (a .ah) (a .bx) (a .by) (a .bh) 0 0,
+      squared-distance-within (a .ax) (a .ay) (a .ah) (a .bx) (a .by) (a .bh) 0 0 (p .0 .0) (p .0 .1) (p .0 .2) (p .1 .0) (p .1 .1) (p .1 .2),
+    )
 
 returns : tie.Need-returns
 returns c =
     let a = c .before .before .args in
-    ap₂ _+_ (along-x (c .before)) (along-y c) ∙ sym (squared-distance-is (site (a .ax) (a .ay) 0) (site (a .bx) (a .by) 0))
+    whole c ∙ sym (squared-distance-up (a .ax) (a .ay) (a .ah) (a .bx) (a .by) (a .bh) 0 0)
 
 pub squared-distance-spec : {M : Type 1} → statement M
-squared-distance-spec = tie.close (tie.spec (λ c κs. search needs) (λ c κs. search needs) add-result returns)
+squared-distance-spec = tie.close (tie.spec plane-distance-requires (λ c κs. search needs) add-result returns)

@@ -2,27 +2,30 @@
 use mathlib.Core.Path.{_≡_, sym, _∙_}
 use Prim.Native.Nat.{_+_, _-_, _*_, _≤_, _<_}
 use native.Mathlib.Omega.{arith}
+use lib.ListN.{take, drop}
+use borrow.Author.Needs.{needs}
 use borrow.Author.Tests.{ltb-true, ltb-false}
+use Rattle.heights.specs.Heights.{equalPairs}
 use Rattle.sweep.specs.Terms.{StripIn}
-use Rattle.sweep.proofs.CoSited.{coSitedFrom, strip-on, co-sited-none, co-sited-none-second, pairs-counted, all-few, co-sited-first, co-sited-second, co-sited-runs}
+use Rattle.sweep.proofs.CoSited.{coSitedFrom, strip-on, strip-plane, part-heights, co-sited-none, co-sited-none-second, pairs-counted, all-few, co-sited-first, co-sited-second, co-sited-runs}
 use Rattle.sweep.proofs.count.co_sited.Statement.{statement}
 use Rattle.sweep.proofs.count.co_sited.Tie as tie
 
 abbrev Inv-loop : tie.InvT-loop
-Inv-loop ax ay bx by a-from a-to b-from b-to count₀ i₀ j₀ count i j =
+Inv-loop ax ay ah bx by bh a-from a-to b-from b-to count₀ i₀ j₀ count i j =
     (i ≤ a-to)
     × (j ≤ b-to)
-    × (count + coSitedFrom ax ay bx by i a-to j b-to ≡ coSitedFrom ax ay bx by a-from a-to b-from b-to)
+    × (count + coSitedFrom ax ay ah bx by bh i a-to j b-to ≡ coSitedFrom ax ay ah bx by bh a-from a-to b-from b-to)
 
 abbrev μ-loop : tie.MeasureT-loop
-μ-loop ax ay bx by a-from a-to b-from b-to count₀ i₀ j₀ count i j = (a-to - i) + (b-to - j)
+μ-loop ax ay ah bx by bh a-from a-to b-from b-to count₀ i₀ j₀ count i j = (a-to - i) + (b-to - j)
 
 -- From both fingers on there is a strip, with a site.
 fingers : (u : tie.Then1 Inv-loop μ-loop)
     → let l = u .before .before .loop in
     let s = u .before .before .before .args in
-    StripIn (s .ax .now) (s .ay .now) (l .i) (s .a-to) × (l .i < s .a-to)
-    × StripIn (s .bx .now) (s .by .now) (l .j) (s .b-to) × (l .j < s .b-to)
+    StripIn (s .ax .now) (s .ay .now) (s .ah .now) (l .i) (s .a-to) × (l .i < s .a-to)
+    × StripIn (s .bx .now) (s .by .now) (s .bh .now) (l .j) (s .b-to) × (l .j < s .b-to)
 fingers u =
     let l = u .before .before .loop in
     let s = u .before .before .before .pre in (
@@ -35,7 +38,7 @@ fingers u =
 -- All of them are few.
 few : (u : tie.Then1 Inv-loop μ-loop)
     → let s = u .before .before .before .args in
-    coSitedFrom (s .ax .now) (s .ay .now) (s .bx .now) (s .by .now) (s .a-from) (s .a-to) (s .b-from) (s .b-to) ≤ 4_294_836_225
+    coSitedFrom (s .ax .now) (s .ay .now) (s .ah .now) (s .bx .now) (s .by .now) (s .bh .now) (s .a-from) (s .a-to) (s .b-from) (s .b-to) ≤ 4_294_836_225
 few u = let s = u .before .before .before .pre in omega (arith, pairs-counted (s .0) (s .1), all-few (s .0) (s .1))
 
 abbrev inside : tie.After-run-end2 Inv-loop μ-loop → tie.Then1 Inv-loop μ-loop
@@ -47,8 +50,8 @@ runs : (c : tie.After-run-end2 Inv-loop μ-loop)
     let s = inside c .before .before .before .args in
     let p = c .before .run-end .result in
     let q = c .run-end2 .result in
-    coSitedFrom (s .ax .now) (s .ay .now) (s .bx .now) (s .by .now) (l .i) (s .a-to) (l .j) (s .b-to)
-    ≡ (p - l .i) * (q - l .j) + coSitedFrom (s .ax .now) (s .ay .now) (s .bx .now) (s .by .now) p (s .a-to) q (s .b-to)
+    coSitedFrom (s .ax .now) (s .ay .now) (s .ah .now) (s .bx .now) (s .by .now) (s .bh .now) (l .i) (s .a-to) (l .j) (s .b-to)
+    ≡ equalPairs (take (p - l .i) (drop (l .i) (s .ah .now))) (take (q - l .j) (drop (l .j) (s .bh .now))) + coSitedFrom (s .ax .now) (s .ay .now) (s .ah .now) (s .bx .now) (s .by .now) (s .bh .now) p (s .a-to) q (s .b-to)
 runs c =
     let e = c .before .before in
     let d = e .before .before in
@@ -97,31 +100,52 @@ loop-again-2 c =
     (l .inv .0, omega (arith, f .3), omega (arith, l .inv .2))
 
 run-end-requires : tie.Need-run-end-requires Inv-loop μ-loop
-run-end-requires c κs = let f = fingers (c .before .before .before .before) in (f .0, f .1)
+run-end-requires c κs = let f = fingers (c .before .before .before .before) in (strip-plane (f .0), f .1)
 
 run-end-requires-2 : tie.Need-run-end-requires-2 Inv-loop μ-loop
-run-end-requires-2 c κs = let f = fingers (c .before .before .before .before .before) in (f .2, f .3)
+run-end-requires-2 c κs = let f = fingers (c .before .before .before .before .before) in (strip-plane (f .2), f .3)
 
-sub-count : tie.Need-sub-count Inv-loop μ-loop
-sub-count c = omega (arith, c .before .run-end .ensures .onward)
+-- A run of the first list's heights, and of the second's.
+part-start : tie.Need-part-equal-pairs-start Inv-loop μ-loop
+part-start c = omega (arith, c .before .run-end .ensures .onward)
 
-sub-count-2 : tie.Need-sub-count-2 Inv-loop μ-loop
-sub-count-2 c = omega (arith, c .run-end2 .ensures .onward)
+part-end : tie.Need-part-equal-pairs-end Inv-loop μ-loop
+part-end c =
+    let s = fingers (inside c) .0 in omega (arith, c .before .run-end .ensures .inside, s .inside, s .heights .equal)
 
-mul-count : tie.Need-mul-count Inv-loop μ-loop
-mul-count c = omega (arith, runs c, few (inside c), inside c .before .before .loop .inv .2)
+part-start-2 : tie.Need-part-equal-pairs-start-2 Inv-loop μ-loop
+part-start-2 c = omega (arith, c .before .run-end2 .ensures .onward)
+
+part-end-2 : tie.Need-part-equal-pairs-end-2 Inv-loop μ-loop
+part-end-2 c =
+    let s = fingers (inside (c .before)) .2 in omega (arith, c .before .run-end2 .ensures .inside, s .inside, s .heights .equal)
+
+equal-pairs-requires : tie.Need-equal-pairs-requires Inv-loop μ-loop
+equal-pairs-requires c κs =
+    let r = c .before .before in
+    let f = fingers (inside r) in
+    let l = inside r .before .before .loop in
+    let one = part-heights (f .0) (r .before .run-end .result - l .i) (l .i) in
+    let other = part-heights (f .2) (r .run-end2 .result - l .j) (l .j) in
+    (one .0, other .0, one .1, other .1)
 
 add-count : tie.Need-add-count Inv-loop μ-loop
-add-count c = omega (arith, runs c, few (inside c), inside c .before .before .loop .inv .2)
+add-count c =
+    let r = c .before .before .before in omega (arith, c .equal-pairs .ensures, runs r, few (inside r), inside r .before .before .loop .inv .2)
 
 loop-less-3 : tie.Need-loop-less-3 Inv-loop μ-loop
 loop-less-3 c =
-    let f = fingers (inside c) in
-    omega (arith, f .1, f .3, c .before .run-end .ensures .onward, c .run-end2 .ensures .onward)
+    let r = c .before .before .before in
+    let f = fingers (inside r) in
+    omega (arith, f .1, f .3, r .before .run-end .ensures .onward, r .run-end2 .ensures .onward)
 
 loop-again-3 : tie.Need-loop-again-3 Inv-loop μ-loop
 loop-again-3 c =
-    (c .before .run-end .ensures .inside, c .run-end2 .ensures .inside, omega (arith, runs c, inside c .before .before .loop .inv .2))
+    let r = c .before .before .before in (
+      r .before .run-end .ensures .inside,
+      r .run-end2 .ensures .inside,
+      omega (arith, c .equal-pairs .ensures, runs r, inside r .before .before .loop .inv .2),
+    )
 
 returns : tie.Need-returns Inv-loop μ-loop
 returns c =
@@ -154,9 +178,15 @@ co-sited-spec =
     loop-again-2
     run-end-requires
     run-end-requires-2
-    sub-count
-    sub-count-2
-    mul-count
+    (λ c. search needs)
+    (λ c. search needs)
+    part-start
+    part-end
+    (λ c. search needs)
+    (λ c. search needs)
+    part-start-2
+    part-end-2
+    equal-pairs-requires
     add-count
     loop-less-3
     loop-again-3

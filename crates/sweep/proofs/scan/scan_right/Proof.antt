@@ -11,38 +11,38 @@ use Rattle.sweep.proofs.scan.scan_right.Statement.{statement}
 use Rattle.sweep.proofs.scan.scan_right.Tie as tie
 
 abbrev Inv-loop : tie.InvT-loop
-Inv-loop reference xs ys from to k distance₀ first₀ second₀ at₀ tally₀ distance first second at tally =
+Inv-loop reference xs ys hs from to k distance₀ first₀ second₀ at₀ tally₀ distance first second at tally =
     SameLengths (results distance₀ first₀ second₀) (results distance first second)
     × (at ≤ to)
-    × ScanInvariant k (results distance₀ first₀ second₀) tally₀ reference (rightward xs ys from (to - from)) (rightward xs ys at (to - at)) (results distance first second) tally
+    × ScanInvariant k (results distance₀ first₀ second₀) tally₀ reference (rightward xs ys hs from (to - from)) (rightward xs ys hs at (to - at)) (results distance first second) tally
 
 abbrev μ-loop : tie.MeasureT-loop
-μ-loop reference xs ys from to k distance₀ first₀ second₀ at₀ tally₀ distance first second at tally =
+μ-loop reference xs ys hs from to k distance₀ first₀ second₀ at₀ tally₀ distance first second at tally =
     to - at
 
 loop-holds : tie.Need-loop-holds Inv-loop μ-loop
 loop-holds c =
     let s = c .before .before .before in
-    let n = length-rightward (s .args .xs .now) (s .args .ys .now) (s .args .from) (s .args .to - s .args .from) in
+    let n = length-rightward (s .args .xs .now) (s .args .ys .now) (s .args .hs .now) (s .args .from) (s .args .to - s .args .from) in
     (search needs, s .pre .range, invariant-starts (s .pre) _ (omega arith))
 
 look-requires : tie.Need-look-requires Inv-loop μ-loop
 look-requires c κs =
     let t = c .before .before .before in
     let l = t .before in
-    invariant-asks (l .before .before .before .before .pre) (l .loop .inv .2) _ (rightward-cons _ _ _ _ (t .loop-test .taken)) (t .loop-test .taken)
+    invariant-asks (l .before .before .before .before .pre) (l .loop .inv .2) _ (rightward-cons _ _ _ _ _ (t .loop-test .taken)) (t .loop-test .taken)
 
 returns : tie.Need-returns Inv-loop μ-loop
 returns c =
     let l = c .before in
-    invariant-ends (l .before .before .before .before .pre) (l .loop .inv .2) (rightward-nil _ _ _ _ (c .loop-test .left)) .tallied
+    invariant-ends (l .before .before .before .before .pre) (l .loop .inv .2) (rightward-nil _ _ _ _ _ (c .loop-test .left)) .tallied
 
 loop-again : tie.Need-loop-again Inv-loop μ-loop
 loop-again c =
     let d = c .before .before .before .before .before .before .before .before in
     let t = d .before .before .before .before in
     let l = t .before in
-    let p = invariant-goes (l .before .before .before .before .pre) (l .loop .inv .2) (rightward-cons _ _ _ _ (t .loop-test .taken)) (d .look .ensures) (c .if1 .left) in
+    let p = invariant-goes (l .before .before .before .before .pre) (l .loop .inv .2) (rightward-cons _ _ _ _ _ (t .loop-test .taken)) (d .look .ensures) (c .if1 .left) in
     (within-lengths (p .updated .rest), search needs, p)
 
 returns-2 : tie.Need-returns-2 Inv-loop μ-loop
@@ -50,7 +50,7 @@ returns-2 c =
     let d = c .before .before .before .before .before .before .before .before in
     let t = d .before .before .before .before in
     let l = t .before in
-    invariant-stops (l .before .before .before .before .pre) (l .loop .inv .2) (rightward-cons _ _ _ _ (t .loop-test .taken)) (d .look .ensures) (c .if1 .taken) .tallied
+    invariant-stops (l .before .before .before .before .pre) (l .loop .inv .2) (rightward-cons _ _ _ _ _ (t .loop-test .taken)) (d .look .ensures) (c .if1 .taken) .tallied
 
 pub scan-right-spec : {M : Type 1} → statement M
 scan-right-spec =

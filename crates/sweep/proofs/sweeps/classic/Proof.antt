@@ -11,12 +11,12 @@ use Rattle.sweep.proofs.sweeps.classic.Statement.{statement}
 use Rattle.sweep.proofs.sweeps.classic.Tie as tie
 
 abbrev Inv-loop : tie.InvT-loop
-Inv-loop ax ay bx by a-from a-to b-from b-to k count distance₀ first₀ second₀ i₀ j₀ tally₀ distance first second i j tally =
+Inv-loop ax ay ah bx by bh a-from a-to b-from b-to k count distance₀ first₀ second₀ i₀ j₀ tally₀ distance first second i j tally =
     SameLengths (results distance₀ first₀ second₀) (results distance first second)
-    × ClassicInvariant ax ay bx by a-from a-to b-from b-to k count (results distance₀ first₀ second₀) (results distance first second) i j tally
+    × ClassicInvariant ax ay ah bx by bh a-from a-to b-from b-to k count (results distance₀ first₀ second₀) (results distance first second) i j tally
 
 abbrev μ-loop : tie.MeasureT-loop
-μ-loop ax ay bx by a-from a-to b-from b-to k count distance₀ first₀ second₀ i₀ j₀ tally₀ distance first second i j tally =
+μ-loop ax ay ah bx by bh a-from a-to b-from b-to k count distance₀ first₀ second₀ i₀ j₀ tally₀ distance first second i j tally =
     (a-to - i) + (b-to - j)
 
 loop-holds : tie.Need-loop-holds Inv-loop μ-loop
@@ -34,7 +34,7 @@ reference-at-requires : tie.Need-reference-at-requires Inv-loop μ-loop
 reference-at-requires c κs =
     let t = c .before .before .before in
     let s = t .before .before .before .before .before .before .before .pre in
-    (s .a .lawful, omega (arith, t .loop-test .taken, s .a .inside))
+    (s .a .lawful, s .a .heights, omega (arith, t .loop-test .taken, s .a .inside))
 
 scan-right-requires : tie.Need-scan-right-requires Inv-loop μ-loop
 scan-right-requires c κs =
@@ -67,7 +67,7 @@ reference-at-requires-2 : tie.Need-reference-at-requires-2 Inv-loop μ-loop
 reference-at-requires-2 c κs =
     let u = c .before .before in
     let s = u .before .before .before .before .before .before .before .before .pre in
-    (s .b .lawful, omega (arith, below u, s .b .inside))
+    (s .b .lawful, s .b .heights, omega (arith, below u, s .b .inside))
 
 scan-right-requires-2 : tie.Need-scan-right-requires-2 Inv-loop μ-loop
 scan-right-requires-2 c κs =

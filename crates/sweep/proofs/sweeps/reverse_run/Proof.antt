@@ -9,12 +9,12 @@ use Rattle.sweep.proofs.sweeps.reverse_run.Statement.{statement}
 use Rattle.sweep.proofs.sweeps.reverse_run.Tie as tie
 
 abbrev Inv-references : tie.InvT-references
-Inv-references ax ay bx by a-from a-to b-from b-to k count distance₀ first₀ second₀ i₀ j₀ a-limit₀ b-limit₀ tally₀ distance first second i j a-limit b-limit tally =
+Inv-references ax ay ah bx by bh a-from a-to b-from b-to k count distance₀ first₀ second₀ i₀ j₀ a-limit₀ b-limit₀ tally₀ distance first second i j a-limit b-limit tally =
     SameLengths (results distance₀ first₀ second₀) (results distance first second)
-    × ReverseInvariant ax ay bx by a-from a-to b-from b-to k count (results distance₀ first₀ second₀) (results distance first second) i j a-limit b-limit tally
+    × ReverseInvariant ax ay ah bx by bh a-from a-to b-from b-to k count (results distance₀ first₀ second₀) (results distance first second) i j a-limit b-limit tally
 
 abbrev μ-references : tie.MeasureT-references
-μ-references ax ay bx by a-from a-to b-from b-to k count distance₀ first₀ second₀ i₀ j₀ a-limit₀ b-limit₀ tally₀ distance first second i j a-limit b-limit tally =
+μ-references ax ay ah bx by bh a-from a-to b-from b-to k count distance₀ first₀ second₀ i₀ j₀ a-limit₀ b-limit₀ tally₀ distance first second i j a-limit b-limit tally =
     (a-to - i) + (b-to - j)
 
 references-holds : tie.Need-references-holds Inv-references μ-references
@@ -30,7 +30,7 @@ in-first w = let l = w .before .before in invariant-in (l .before .before .befor
 reference-at-requires : tie.Need-reference-at-requires Inv-references μ-references
 reference-at-requires c κs =
     let s = c .before .before .before .before .before .before .before .before .pre in
-    (s .a .lawful, omega (arith, in-first c, s .a .inside))
+    (s .a .lawful, s .a .heights, omega (arith, in-first c, s .a .inside))
 
 scan-left-requires : tie.Need-scan-left-requires Inv-references μ-references
 scan-left-requires c κs =
@@ -58,7 +58,7 @@ references-again c =
 reference-at-requires-2 : tie.Need-reference-at-requires-2 Inv-references μ-references
 reference-at-requires-2 c κs =
     let s = c .before .before .before .before .before .before .before .before .before .pre in
-    (s .b .lawful, omega (arith, c .if2 .left, s .b .inside))
+    (s .b .lawful, s .b .heights, omega (arith, c .if2 .left, s .b .inside))
 
 scan-left-requires-2 : tie.Need-scan-left-requires-2 Inv-references μ-references
 scan-left-requires-2 c κs =

@@ -1,0 +1,120 @@
+-- Every height 0: opening, jobs and status.
+use mathlib.Core.Path.{_≡_, sym, ap, ap₂, _∙_}
+use mathlib.Core.Bool.{_&&_}
+use mathlib.Core.List.{List, map, map-map, flatMap}
+use Prim.Native.Nat.{ℕ}
+use lib.Dec.{ltb, eqb}
+use lib.ListN.{length-map}
+use Rattle.site.specs.Site.{Site}
+use Rattle.site.specs.SiteList.{Columns, Plane, onGround, sites}
+use Rattle.site.proofs.Ground.{ground, ground-sites, ground-at, ground-lists}
+use Rattle.entry.specs.declared.Entry.{Entry}
+use Rattle.entry.specs.Entry.{apart}
+use Rattle.entry.specs.Results.{Results, entriesOf}
+use Rattle.boxes.specs.Box.{boxOf, squaredBoxGap}
+use Rattle.boxes.proofs.Ground.{ground-gap}
+use Rattle.sweep.specs.declared.Way.{Way}
+use Rattle.sweep.specs.Strip.{Placed, sitesOf, pairs}
+use Rattle.sweep.specs.Sweep.{sweep}
+use Rattle.sweep.proofs.Alike.{each, strip-each}
+use Rattle.campaign.specs.declared.Campaign.{Campaign}
+use Rattle.campaign.specs.Grid.{Job, jobOf, stripAt, stripHolding, settled, settledJobs, jobPairs, jobsPairs, squaredStripGap}
+use Rattle.campaign.specs.Soundness.{firstEnds, secondEnds, soundEntry, sound, campaignRefusal}
+use Rattle.campaign.specs.Calls.{openRefusal, openAnswer, jobRefusal, skips, jobEntries, jobAnswer, statusAnswer}
+use Rattle.plane.proofs.PairLists.{ground-sweep, ground-pairs}
+
+-- ---- strips of any sites
+
+module _ (a b : List Site) where
+  -- A strip of the sites with the height 0.
+  ground-strip : (ends : List ℕ) (l : List Site) (s : ℕ) → stripAt ends (map ground l) s ≡ map (each ground) (stripAt ends l s)
+  unfolding stripAt
+  ground-strip ends l s = strip-each ground _ _ l
+
+  -- The pairs of jobs.
+  job-pairs-same : (ends ends' : List ℕ) → jobPairs ends ends' (map ground a) (map ground b) ≡ jobPairs ends ends' a b
+  unfolding jobPairs
+  job-pairs-same ends ends' = λ i j.
+      (ap₂ pairs (ground-strip ends a (j .first)) (ground-strip ends' b (j .second))
+      ∙ ground-pairs (stripAt ends a (j .first)) (stripAt ends' b (j .second))) i
+
+  jobs-pairs-same : (ends ends' : List ℕ) (l : List Job) → jobsPairs ends ends' (map ground a) (map ground b) l ≡ jobsPairs ends ends' a b l
+  unfolding jobsPairs
+  jobs-pairs-same ends ends' l = ap (λ (f : Job → List Entry). flatMap f l) (job-pairs-same ends ends')
+
+  -- The gap of two strips.
+  sites-each : (p : List Placed) → sitesOf (map (each ground) p) ≡ map ground (sitesOf p)
+  sites-each p = map-map (λ s. s .site) (each ground) p ∙ sym (map-map ground (λ s. s .site) p)
+
+  strip-gap-same : (ends ends' : List ℕ) (j : Job)
+      → squaredStripGap (stripAt ends (map ground a) (j .first)) (stripAt ends' (map ground b) (j .second))
+      ≡ squaredStripGap (stripAt ends a (j .first)) (stripAt ends' b (j .second))
+  unfolding squaredStripGap
+  strip-gap-same ends ends' j =
+      let p = stripAt ends a (j .first) in
+      let q = stripAt ends' b (j .second) in
+      ap₂ (λ (u v : List Placed). squaredBoxGap (boxOf (sitesOf u)) (boxOf (sitesOf v))) (ground-strip ends a (j .first)) (ground-strip ends' b (j .second))
+      ∙ ap₂ (λ (l m : List Site). squaredBoxGap (boxOf l) (boxOf m)) (sites-each p) (sites-each q)
+      ∙ ground-gap (sitesOf p) (sitesOf q)
+
+  job-sweep-same : (way : Way) (k : ℕ) (ends ends' : List ℕ) (j : Job) (l : List Entry)
+      → sweep way k (stripAt ends (map ground a) (j .first)) (stripAt ends' (map ground b) (j .second)) l
+      ≡ sweep way k (stripAt ends a (j .first)) (stripAt ends' b (j .second)) l
+  job-sweep-same way k ends ends' j l =
+      ap₂ (λ (u v : List Placed). sweep way k u v l) (ground-strip ends a (j .first)) (ground-strip ends' b (j .second))
+      ∙ ground-sweep way k (stripAt ends a (j .first)) (stripAt ends' b (j .second)) l
+
+  -- The faults of a campaign.
+  entry-same : (marks ends ends' : List ℕ) → soundEntry marks ends ends' (map ground a) (map ground b) ≡ soundEntry marks ends ends' a b
+  unfolding soundEntry
+  entry-same marks ends ends' = λ i e.
+      ltb (e .first) (length-map a ground i)
+      && (ltb (e .second) (length-map b ground i)
+      && (apart e
+      && (eqb (e .distance) (ground-at a b (e .first) (e .second) i)
+      && settled marks (jobOf (stripHolding ends (e .first)) (stripHolding ends' (e .second))))))
+
+  pub sound-same : (c : Campaign) (r : Results) → sound c (map ground a) (map ground b) r ≡ sound c a b r
+  unfolding sound
+  sound-same c r =
+      rw (length-map a ground, length-map b ground, entry-same (c .marks) (firstEnds c) (secondEnds c), jobs-pairs-same (firstEnds c) (secondEnds c) (settledJobs c))
+
+  -- What a job does.
+  skips-same : (c : Campaign) (l : List Entry) (j : Job) → skips c (map ground a) (map ground b) l j ≡ skips c a b l j
+  unfolding skips
+  skips-same c l j = rw (strip-gap-same (firstEnds c) (secondEnds c) j)
+
+  job-entries-same : (c : Campaign) (l : List Entry) (j : Job) → jobEntries c (map ground a) (map ground b) l j ≡ jobEntries c a b l j
+  unfolding jobEntries
+  job-entries-same c l j = rw (job-pairs-same (firstEnds c) (secondEnds c))
+
+-- ---- lists of the plane
+
+module _ (a b : Columns) (pa : Plane a) (pb : Plane b) where
+  pub open-same : (k : ℕ) (ends ends' : List ℕ) (r : Results)
+      → openAnswer (onGround a) (onGround b) k ends ends' r ≡ openAnswer a b k ends ends' r
+  unfolding openAnswer openRefusal
+  open-same k ends ends' r = rw (ground-lists a b pa pb)
+
+  refusal-same : (c : Campaign) (r : Results) → campaignRefusal c (onGround a) (onGround b) r ≡ campaignRefusal c a b r
+  unfolding campaignRefusal
+  refusal-same c r = rw (ground-lists a b pa pb, ground-sites a pa, ground-sites b pb, sound-same (sites a) (sites b) c r)
+
+  pub status-same : (c : Campaign) (r : Results) → statusAnswer c (onGround a) (onGround b) r ≡ statusAnswer c a b r
+  unfolding statusAnswer
+  status-same c r = rw (refusal-same c r)
+
+  pub job-same : (way : Way) (c : Campaign) (r : Results) (j : Job) → jobAnswer way c (onGround a) (onGround b) r j ≡ jobAnswer way c a b r j
+  unfolding jobAnswer jobRefusal
+  job-same way c r j =
+      let old = entriesOf (c .entries) r in
+      let l = sites a in
+      let m = sites b in
+      rw (
+        refusal-same c r,
+        ground-sites a pa,
+        ground-sites b pb,
+        job-entries-same l m c old j,
+        skips-same l m c old j,
+        job-sweep-same l m way (c .k) (firstEnds c) (secondEnds c) j old,
+      )
