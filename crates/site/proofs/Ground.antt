@@ -54,7 +54,7 @@ ground-distance s t =
 -- A site of the list at a place, or where it has none.
 by-place : {P : Type 0} (l : List Site) (i : ℕ) → (siteAt (map ground l) i ≡ ground (siteAt l i) → P)
     → (siteAt (map ground l) i ≡ nowhere → siteAt l i ≡ nowhere → P) → P
-unfolding siteAt getD
+unfolding siteAt
 by-place [] i here none = none refl refl
 by-place (s ∷ l) zero here none = here refl
 by-place (s ∷ l) (suc i) here none = by-place l i here none

@@ -2,7 +2,7 @@
 use super::Checked;
 use super::Site;
 ghost use mathlib.Core.Path.{_≡_};
-ghost use mathlib.Core.Bool.{cond};
+ghost use mathlib.Core.Bool.{true, cond};
 ghost use Prim.Native.Nat.{_+_, _≤_, _<_};
 ghost use lib.ListN.{length};
 ghost use Rattle.order.specs.Order.{ascending};
@@ -66,6 +66,18 @@ fn ends_between(low: i32, high: i32, column: &[i32]) -> bool
     super::between(low, high, column[0]) && super::between(low, high, column[last])
 }
 
+// The same of any column; where it is known never to fall, by its ends.
+fn column_between(low: i32, high: i32, column: &[i32], sorted: bool) -> bool
+    requires { ⌜ (length (now column) ≤ 65_535) × (sorted ≡ true → Sorted ltZ (now column)) ⌝ }
+    ensures { λ r. ⌜ r ≡ all (between low high) (now (column .entry)) ⌝ }
+{
+    if sorted {
+        ends_between(low, high, column)
+    } else {
+        all_between(low, high, column)
+    }
+}
+
 // 1 where the site at `i + 1` does not come after the one at `i`, else 0.
 fn break_at(x: &[i32], y: &[i32], number: &[u32], i: usize) -> u32
     requires { ⌜ (Level (columns (now x) (now y) (now number))) × (i + 1 < length (now x)) ⌝ }
@@ -107,22 +119,14 @@ pub fn plane_refusal(x: &[i32], y: &[i32], number: &[u32]) -> u32
     if 65_535 < x.len() {
         return 1;
     }
-    if !ascends(x, y, number) {
-        if !all_between(Site::MIN, Site::MAX, x) {
-            return 2;
-        }
-        if !all_between(Site::MIN, Site::MAX, y) {
-            return 2;
-        }
-        return 3;
-    }
-    if !ends_between(Site::MIN, Site::MAX, x) {
+    let sorted = ascends(x, y, number);
+    if !column_between(Site::MIN, Site::MAX, x, sorted) {
         return 2;
     }
     if !all_between(Site::MIN, Site::MAX, y) {
         return 2;
     }
-    0
+    if sorted { 0 } else { 3 }
 }
 
 // The refusal of a list, 1, 2 or 3; 0 for a lawful one. Its order is that of the list in the plane.
