@@ -85,8 +85,8 @@ fn gone_on(old: Tally, queue: Queue) -> Looked
 
 // A look from a reference at the site of a place of the other list. It stops the scan where the x-difference squared is
 // past the reach; otherwise the distance is worked out, and the pair takes its place by rank, where it can still enter and
-// is no pair of co-sited cells. Where the distance in the plane is past the reach, the height is not read. `offer` is called for each side of the pair, so that it is compiled apart from the scan's
-// loop.
+// is no pair of co-sited cells. Where the distance in the plane is past the reach, the height is not read. `offer` is called
+// for each side of the pair, so that it is compiled apart from the scan's loop.
 pub(super) fn look(
     reference: Reference,
     xs: &[i32],
