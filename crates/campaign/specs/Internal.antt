@@ -9,9 +9,8 @@ use lib.IntN.{ℤ}
 use denote.Ref.{RefT}
 use Rattle.order.specs.Order.{ascending}
 use Rattle.order.specs.Lists.{all}
-use Rattle.column.specs.Lent.{Lent}
 use Rattle.site.specs.Site.{Site}
-use Rattle.site.specs.Terms.{Coordinates, Heights, Numbered}
+use Rattle.site.specs.Terms.{Coordinates, Heights}
 use Rattle.entry.specs.Entry.{rankBefore, lawfulK}
 use Rattle.entry.specs.Results.{Results, entriesOf, roomFor}
 use Rattle.sweep.specs.Terms.{StripIn}
@@ -31,13 +30,6 @@ abbrev pub BothCoordinates :
     RefT (List ℤ) → RefT (List ℤ) → RefT (List ℤ) → RefT (List ℤ) → RefT (List ℤ) → RefT (List ℤ) → Type 0
 BothCoordinates ax ay ah bx by bh =
     LawfulColumns (ax .now) (ay .now) (ah .now) × LawfulColumns (bx .now) (by .now) (bh .now)
-
--- What holds of the two lists that were lent, whatever the numbers of their sites.
-abbrev pub NumberedLent :
-    Lent (List ℤ) → Lent (List ℤ) → Lent (List ℤ) → Lent (List ℤ) → Lent (List ℤ) → Lent (List ℤ) →
-    (List Site → List Site → Type 0) → Type 0
-NumberedLent ax ay ah bx by bh holds =
-    Numbered (ax .entry .now) (ay .entry .now) (ah .entry .now) (bx .entry .now) (by .entry .now) (bh .entry .now) holds
 
 -- Where strip `s` starts, and where it ends.
 unfoldable pub stripFrom : List ℕ → ℕ → ℕ

@@ -14,13 +14,14 @@ ghost use mathlib.Core.List.{List};
 ghost use Prim.Native.Nat.{ℕ, _≤_, _<_};
 ghost use lib.ListN.{length};
 ghost use Rattle.site.specs.SiteList.{lentList};
+ghost use Rattle.site.specs.Terms.{NumberedLent};
 ghost use Rattle.entry.specs.Terms.{Ready};
 ghost use Rattle.entry.specs.Results.{results, entriesOf, roomFor, lentResults};
 ghost use Rattle.sweep.specs.Sweep.{sweep};
 ghost use Rattle.sweep.specs.Terms.{SweptTo};
 ghost use Rattle.campaign.specs.Grid.{stripAt, jobOf};
 ghost use Rattle.campaign.specs.Soundness.{firstEnds, secondEnds};
-ghost use Rattle.campaign.specs.Internal.{BothCoordinates, NumberedLent, JobAsked, jobDone};
+ghost use Rattle.campaign.specs.Internal.{BothCoordinates, JobAsked, jobDone};
 ghost use Rattle.campaign.specs.Calls.{jobRefusal, skips, afterJob};
 
 // The refusal of a job; 0 for none.

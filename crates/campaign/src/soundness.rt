@@ -12,15 +12,10 @@ ghost use Rattle.order.specs.Order.{ascending};
 ghost use Rattle.order.specs.Lists.{all};
 ghost use Rattle.site.specs.Site.{squaredDistance};
 ghost use Rattle.site.specs.SiteList.{siteAt, lentList};
+ghost use Rattle.site.specs.Terms.{NumberedLent};
 ghost use Rattle.entry.specs.Entry.{rankBefore};
 ghost use Rattle.entry.specs.Results.{results, entriesOf, roomFor, lentResults};
-ghost use Rattle.campaign.specs.Internal.{
-  BothCoordinates,
-  NumberedLent,
-  Room,
-  soundPlan,
-  soundEntries,
-};
+ghost use Rattle.campaign.specs.Internal.{BothCoordinates, Room, soundPlan, soundEntries};
 ghost use Rattle.campaign.specs.Soundness.{soundEntry, sound, campaignRefusal};
 
 // The squared distance of the sites at two places.

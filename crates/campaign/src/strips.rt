@@ -2,11 +2,12 @@
 use super::Strip;
 ghost use mathlib.Core.Path.{_≡_};
 ghost use mathlib.Core.List.{[], _∷_};
+ghost use Rattle.site.specs.Terms.{NumberedLent};
 ghost use Rattle.boxes.specs.Box.{boxAround};
 ghost use Rattle.sweep.specs.Strip.{strip};
 ghost use Rattle.sweep.specs.Terms.{StripIn};
 ghost use Rattle.campaign.specs.Grid.{squaredStripGap};
-ghost use Rattle.campaign.specs.Internal.{NumberedLent, SomeStrip, part};
+ghost use Rattle.campaign.specs.Internal.{SomeStrip, part};
 
 // The box of a strip.
 fn box_of(x: &[i32], y: &[i32], height: &[i32], s: Strip) -> [i32; 6]

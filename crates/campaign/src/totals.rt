@@ -8,9 +8,10 @@ ghost use mathlib.Core.List.{map};
 ghost use Prim.Native.Nat.{_<_};
 ghost use lib.ListN.{length};
 ghost use Rattle.order.specs.Lists.{keep};
+ghost use Rattle.site.specs.Terms.{NumberedLent};
 ghost use Rattle.campaign.specs.Grid.{jobOf, countFrom, settled, settledJobs, jobPairs, jobsPairs};
 ghost use Rattle.campaign.specs.Soundness.{firstEnds, secondEnds};
-ghost use Rattle.campaign.specs.Internal.{BothCoordinates, NumberedLent, soundPlan, JobAsked};
+ghost use Rattle.campaign.specs.Internal.{BothCoordinates, soundPlan, JobAsked};
 
 // How many pairs a job has.
 fn job(

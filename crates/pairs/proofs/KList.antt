@@ -11,6 +11,7 @@ use Rattle.order.proofs.Best.{best-nil}
 use Rattle.site.specs.Answer.{Answer, refused, answered, afterwards, refuseIf, orElse}
 use Rattle.site.specs.SiteList.{Columns, raised, sites}
 use Rattle.site.specs.Refusal.{listRefusal, listsRefusal}
+use Rattle.site.specs.Terms.{Numbered}
 use Rattle.site.proofs.Answer.{
   answer-values,
   answer-refused,
@@ -147,7 +148,7 @@ module _ (ax ay : List ℤ) (an : List ℕ) (ah bx by : List ℤ) (bn : List ℕ
 
   -- What it then answers and leaves.
   pub swept-is : (way : Way) {after : Results} {answer : Swept}
-      → SweptStrips way ax ay ah bx by bh 0 (length ax) 0 (length bx) k 0 r after answer
+      → Numbered ax ay ah bx by bh (SweptStrips way 0 (length ax) 0 (length bx) k 0 r after answer)
       → let values = kListValues after (answer .entries) (answer .looks .0) (answer .distances .0) in
       (answered values ≡ kListAnswer way a b k r)
       × (after ≡ afterwards (λ v. v .results) (kListAnswer way a b k r) r)

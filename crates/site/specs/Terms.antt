@@ -6,6 +6,7 @@ use Prim.Native.Nat.{ℕ, _≤_, _<_}
 use lib.IntN.{ℤ, pos}
 use lib.ListN.{length, getD}
 use Rattle.order.specs.Lists.{all, All}
+use Rattle.column.specs.Lent.{Lent}
 use Rattle.site.specs.Site.{Site, within, heightWithin, siteBefore}
 use Rattle.site.specs.SiteList.{Columns, raised, site, sites}
 
@@ -36,3 +37,10 @@ pub record Heights (n : ℕ) (hs : List ℤ) : Type 0 where
 pub record Numbered (ax ay ah bx by bh : List ℤ) (holds : List Site → List Site → Type 0) : Type 0 where
   pub numbered : (an bn : List ℕ) → Level (raised ax ay an ah) → Level (raised bx by bn bh)
       → holds (sites (raised ax ay an ah)) (sites (raised bx by bn bh))
+
+-- What holds of the two lists that were lent, whatever the numbers of their sites.
+abbrev pub NumberedLent :
+    Lent (List ℤ) → Lent (List ℤ) → Lent (List ℤ) → Lent (List ℤ) → Lent (List ℤ) → Lent (List ℤ) →
+    (List Site → List Site → Type 0) → Type 0
+NumberedLent ax ay ah bx by bh holds =
+    Numbered (ax .entry .now) (ay .entry .now) (ah .entry .now) (bx .entry .now) (by .entry .now) (bh .entry .now) holds

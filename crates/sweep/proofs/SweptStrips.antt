@@ -4,6 +4,7 @@ use mathlib.Core.List.{List}
 use Prim.Native.Nat.{ℕ, _-_, _≤_, _^_}
 use native.Mathlib.Omega.{arith}
 use lib.IntN.{ℤ}
+use Rattle.site.specs.Terms.{Numbered}
 use Rattle.entry.specs.Results.{Results, entriesOf}
 use Rattle.entry.specs.Terms.{queued, FinishAsked}
 use Rattle.entry.proofs.Within.{within-written}
@@ -44,7 +45,7 @@ module _ (way : Way) (ax ay ah bx by bh : List ℤ) (aFrom aTo bFrom bTo k old :
 
   -- The answer from the state that the tally and the columns hold.
   pub swept-strips : {r after : Results} {t : Tally} {answer : Swept} → Tallied k before old swept r t → SweptTo (stateOf t r) r after answer
-      → SweptStrips way ax ay ah bx by bh aFrom aTo bFrom bTo k old before after answer
+      → Numbered ax ay ah bx by bh (SweptStrips way aFrom aTo bFrom bTo k old before after answer)
   unfolding stateOf
   swept-strips {r} {after} {t} {answer} h a = record {
     numbered = λ an bn la lb.

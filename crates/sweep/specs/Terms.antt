@@ -4,8 +4,9 @@ use mathlib.Core.Path.{_≡_}
 use Prim.Native.Nat.{ℕ, zero, suc, _≤_, _<_}
 use lib.IntN.{ℤ, pos}
 use lib.ListN.{getD, length}
+use Rattle.site.specs.Site.{Site}
 use Rattle.site.specs.SiteList.{raisedSite}
-use Rattle.site.specs.Terms.{Coordinates, Heights, Numbered}
+use Rattle.site.specs.Terms.{Coordinates, Heights}
 use Rattle.entry.specs.Results.{Results, entriesOf, holding}
 use Rattle.entry.specs.Terms.{Ready}
 use Rattle.sweep.specs.declared.Swept.{Swept}
@@ -49,9 +50,7 @@ pub record SweptTo (s : State) (before after : Results) (answer : Swept) : Type 
   pub distances : answer .distances .0 ≡ s .distances
   pub columns : after ≡ holding (s .entries) before
 
--- The same over strips of two lists with these coordinates, whatever the numbers of their sites.
-abbrev pub SweptStrips :
-    Way → List ℤ → List ℤ → List ℤ → List ℤ → List ℤ → List ℤ → ℕ → ℕ → ℕ → ℕ → ℕ → ℕ → Results → Results → Swept → Type 0
-SweptStrips way ax ay ah bx by bh aFrom aTo bFrom bTo k count before after answer =
-    Numbered ax ay ah bx by bh (λ a b.
-    SweptTo (sweep way k (strip aFrom aTo a) (strip bFrom bTo b) (entriesOf count before)) before after answer)
+-- The same over strips of two lists.
+abbrev pub SweptStrips : Way → ℕ → ℕ → ℕ → ℕ → ℕ → ℕ → Results → Results → Swept → List Site → List Site → Type 0
+SweptStrips way aFrom aTo bFrom bTo k count before after answer a b =
+    SweptTo (sweep way k (strip aFrom aTo a) (strip bFrom bTo b) (entriesOf count before)) before after answer

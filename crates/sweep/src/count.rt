@@ -4,7 +4,7 @@ ghost use mathlib.Core.Path.{_≡_};
 ghost use Prim.Native.Nat.{_-_, _<_};
 ghost use lib.ListN.{length};
 ghost use Rattle.site.specs.Site.{siteBefore};
-ghost use Rattle.site.specs.Terms.{positionAt, Coordinates, Numbered};
+ghost use Rattle.site.specs.Terms.{positionAt, Coordinates, NumberedLent};
 ghost use Rattle.sweep.specs.Strip.{strip, pairs};
 ghost use Rattle.sweep.specs.Terms.{rightward, StripIn};
 ghost use Rattle.sweep.specs.Internal.{PlaneStrip, RunAt, coSited};
@@ -96,7 +96,7 @@ pub fn count_pairs(
 ) -> u64
     requires { ⌜ StripIn (now ax) (now ay) (now ah) «a_from» «a_to» × StripIn (now bx) (now by) (now bh) «b_from» «b_to» ⌝ }
     ensures { λ r. ⌜
-        Numbered (now (ax .entry)) (now (ay .entry)) (now (ah .entry)) (now (bx .entry)) (now (by .entry)) (now (bh .entry)) (λ a b.
+        NumberedLent ax ay ah bx by bh (λ a b.
         r ≡ length (pairs (strip «a_from» «a_to» a) (strip «b_from» «b_to» b)))
         ⌝ }
 {

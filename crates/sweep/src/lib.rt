@@ -7,6 +7,7 @@ mod sweeps;
 pub use count::count_pairs;
 use entry::Queue;
 ghost use Prim.Native.Nat.{_≤_};
+ghost use Rattle.site.specs.Terms.{NumberedLent};
 ghost use Rattle.entry.specs.Results.{results, lentResults};
 ghost use Rattle.entry.specs.Terms.{FinishAsked};
 ghost use Rattle.sweep.specs.Terms.{SweepAsked, SweptTo, SweptStrips};
@@ -98,8 +99,8 @@ pub fn run(
         ⌝ }
     ensures { λ r.
         let l = lentResults distance first second in
-        let swept = SweptStrips way (now (ax .entry)) (now (ay .entry)) (now (ah .entry)) (now (bx .entry)) (now (by .entry)) (now (bh .entry)) in
-        ⌜ swept «a_from» «a_to» «b_from» «b_to» k count (l .entry) (l .exit) r ⌝ }
+        let swept = SweptStrips way «a_from» «a_to» «b_from» «b_to» k count (l .entry) (l .exit) r in
+        ⌜ NumberedLent ax ay ah bx by bh swept ⌝ }
 {
     match way {
         Way::Classic => {
