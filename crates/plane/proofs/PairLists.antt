@@ -8,10 +8,9 @@ use Rattle.site.proofs.Ground.{ground, ground-sites, ground-distance, ground-li
 use Rattle.entry.specs.declared.Entry.{Entry}
 use Rattle.entry.specs.Results.{Results}
 use Rattle.sweep.specs.declared.Way.{Way}
-use Rattle.sweep.specs.Strip.{Placed, whole, strip, pairs, allPairs}
-use Rattle.sweep.specs.Scan.{State}
+use Rattle.sweep.specs.Strip.{Placed, whole, pairs, allPairs}
 use Rattle.sweep.specs.Sweep.{sweep}
-use Rattle.sweep.proofs.Alike.{each, whole-each, strip-each, sweep-alike, pairs-alike}
+use Rattle.sweep.proofs.Alike.{each, whole-each, sweep-alike, pairs-alike}
 use Rattle.pairs.specs.KList.{kList, kListRefusal, kListAnswer}
 use Rattle.pairs.specs.DistanceList.{distanceList, distanceRefusal, distanceAnswer}
 

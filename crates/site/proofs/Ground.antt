@@ -7,12 +7,12 @@ use native.Mathlib.Omega.{arith}
 use borrow.Author.Tests.{eqb-true, eqb-false}
 use lib.Dec.{eqb}
 use lib.IntN.{ℤ, pos}
-use lib.ListN.{length, getD, length-map}
+use lib.ListN.{length, length-map}
 use Rattle.order.specs.Lists.{all, sum}
 use Rattle.order.proofs.Order.{byTest}
 use Rattle.order.proofs.Lists.{length-zip}
 use Rattle.site.specs.Site.{Site, between, heightWithin, gap, square, squaredDistance}
-use Rattle.site.specs.SiteList.{Columns, columns, Plane, onGround, site, withCoordinate, withColumns, sites, siteAt}
+use Rattle.site.specs.SiteList.{Columns, columns, Plane, onGround, withCoordinate, withColumns, sites, siteAt}
 use Rattle.site.specs.Refusal.{listRefusal, listsRefusal}
 use Rattle.site.proofs.Distance.{squaredOver, gap-same, squared-distance-is, squared-distance-sym}
 use Rattle.site.proofs.SiteList.{nowhere, plane-flattened}

@@ -10,7 +10,7 @@ use lib.IntN.{ℤ}
 use lib.ListN.{length}
 use Rattle.order.specs.Order.{lex, ascending}
 use Rattle.order.specs.Lists.{all, All}
-use Rattle.order.proofs.Order.{byTest, never-both}
+use Rattle.order.proofs.Order.{byTest}
 use Rattle.order.proofs.Lists.{all-holds, holds-all, all-weaken}
 use Rattle.site.specs.Site.{Site, within, heightWithin, furtherLimits, allWithin, lawfulSite, siteBefore}
 use Rattle.site.specs.Answer.{orElse}

@@ -1,6 +1,6 @@
 -- The reader accepts exactly what the writer can write, and finds in it what was written. (01: site file.)
 use mathlib.Core.Path.{_≡_}
-use mathlib.Core.List.{List, []}
+use mathlib.Core.List.{List}
 use Prim.Native.Nat.{ℕ, _≤_, _<_}
 use lib.ListN.{length, take}
 use Rattle.order.specs.Lists.{All}
