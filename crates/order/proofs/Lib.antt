@@ -1,5 +1,6 @@
 -- The laws of orders, lists, insertion, the best K and heaps.
 pub mod Order
+pub mod Weights
 pub mod Lists
 pub mod Best
 pub mod Sorted
