@@ -1,6 +1,7 @@
 -- The laws of entries and result columns.
 pub mod Examples
 pub mod Rank
+pub mod RankCompare
 pub mod Results
 pub mod PutAt
 pub mod Within

@@ -4,12 +4,11 @@ use mathlib.Core.Bool.{true, false, and-eq-true-iff}
 use mathlib.Core.List.{List}
 use Prim.Native.Nat.{ℕ, zero, suc, _≤_, _<_}
 use native.Mathlib.Omega.{arith}
-use lib.Dec.{ltb, leb}
+use lib.Dec.{leb}
 use lib.ListN.{length, getD}
-use borrow.Author.Tests.{lt-ltb, le-ltb, ltb-false, leb-true}
-use Rattle.order.specs.Order.{on, lex}
+use borrow.Author.Tests.{lt-ltb, le-ltb, leb-true}
 use Rattle.order.specs.Terms.{Sorted}
-use Rattle.order.proofs.Order.{StrictOrder, strict, by-number, lex-order, lex-apart, lex-next}
+use Rattle.order.proofs.Order.{StrictOrder, strict, by-number, lex-order, lex-more}
 use Rattle.order.specs.Lists.{last}
 use Rattle.order.proofs.Lists.{last-map, last-at}
 use Rattle.order.proofs.Sorted.{take-insert-full, last-weak}
@@ -33,33 +32,11 @@ k-limits k h =
     let both = and-eq-true-iff (leb 1 k) (leb k 4_096) .0 h in
     (leb-true 1 k (both .0), leb-true k 4_096 (both .1))
 
--- ---- rank by its three numbers
-
--- Of two numbers that differ one is less.
-other-less : (m n : ℕ) → (m ≡ n → ⊥) → ltb m n ≡ false → ltb n m ≡ true
-other-less m n apart f = lt-ltb n m (omega (arith, ltb-false m n f))
-
-module _ (a b : Entry) where
-  pub rank-distance : (a .distance ≡ b .distance → ⊥) → rankBefore a b ≡ ltb (a .distance) (b .distance)
-  unfolding rankBefore
-  rank-distance apart = lex-apart _ _ a b (other-less (a .distance) (b .distance) apart)
-
-  pub rank-farther : b .distance < a .distance → rankBefore a b ≡ false
-  rank-farther h = rank-distance (λ e. omega arith) ∙ le-ltb (a .distance) (b .distance) (omega arith)
-
-  module _ (d : a .distance ≡ b .distance) where
-    byPlaces : rankBefore a b ≡ lex (on ltb (λ e. e .first)) (on ltb (λ e. e .second)) a b
-    unfolding rankBefore
-    byPlaces = lex-next _ _ a b (le-ltb (a .distance) (b .distance) (omega arith))
-        (le-ltb (b .distance) (a .distance) (omega arith))
-
-    pub rank-first : (a .first ≡ b .first → ⊥) → rankBefore a b ≡ ltb (a .first) (b .first)
-    rank-first apart = byPlaces ∙ lex-apart _ _ a b (other-less (a .first) (b .first) apart)
-
-    pub rank-second : a .first ≡ b .first → rankBefore a b ≡ ltb (a .second) (b .second)
-    rank-second f =
-        byPlaces ∙ lex-next _ _ a b (le-ltb (a .first) (b .first) (omega arith))
-        (le-ltb (b .first) (a .first) (omega arith))
+-- One that is farther does not come first.
+pub rank-farther : (a b : Entry) → b .distance < a .distance → rankBefore a b ≡ false
+unfolding rankBefore
+rank-farther a b h =
+    lex-more _ _ a b (le-ltb (a .distance) (b .distance) (omega arith)) (lt-ltb (b .distance) (a .distance) h)
 
 -- ---- offering
 

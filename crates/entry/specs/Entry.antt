@@ -1,5 +1,5 @@
 -- An entry, and its rank.
-use mathlib.Core.Bool.{Bool, _&&_}
+use mathlib.Core.Bool.{Bool, cond, _&&_}
 use mathlib.Core.List.{List, map}
 use Prim.Native.Nat.{ℕ}
 use lib.Dec.{leb, ltb}
@@ -8,6 +8,8 @@ use Rattle.order.specs.Order.{on, lex}
 use Rattle.order.specs.Lists.{last}
 use Rattle.order.specs.Sort.{insert, sort}
 use Rattle.entry.specs.declared.Entry.{Entry}
+use Rattle.entry.specs.declared.Ordering.{Ordering}
+use Rattle.entry.specs.declared.Ordering.the-variants.{Before, Same, After}
 
 abbrev pub entry : ℕ → ℕ → ℕ → Entry
 entry distance first second = record { distance = distance; first = first; second = second }
@@ -15,6 +17,10 @@ entry distance first second = record { distance = distance; first = first; secon
 -- "Smaller squared distance first, then smaller first place, then smaller second place." (01: rank.)
 unfoldable pub rankBefore : Entry → Entry → Bool
 rankBefore = lex (on ltb (λ e. e .distance)) (lex (on ltb (λ e. e .first)) (on ltb (λ e. e .second)))
+
+-- "It tells before, same or after exactly by 01's rank". (02 c: rank without jumps.)
+unfoldable pub rankCompare : Entry → Entry → Ordering
+rankCompare a b = cond (rankBefore a b) Before (cond (rankBefore b a) After Same)
 
 -- "two cells at one x and y aren't a handover case": a pair is "at squared distance 1 or more". (02 d: co-sited cells.)
 unfoldable pub apart : Entry → Bool

@@ -8,7 +8,7 @@ pub use queues::start;
 ghost use mathlib.Core.Path.{_≡_};
 ghost use Prim.Native.Nat.{_<_};
 ghost use lib.ListN.{length};
-ghost use Rattle.entry.specs.Entry.{rankBefore, lawfulK};
+ghost use Rattle.entry.specs.Entry.{rankBefore, rankCompare, lawfulK};
 ghost use Rattle.entry.specs.Results.{lentResults, roomFor};
 ghost use Rattle.entry.specs.Terms.{entryAt};
 
@@ -27,17 +27,42 @@ pub struct Queue {
     pub reach: u64,
 }
 
+// Where one entry stands to another by rank.
+pub enum Ordering {
+    Before,
+    Same,
+    After,
+}
+
+// Compares two entries without a jump. Each number is tested for less and for greater, 0 or 1; the distance weighs 4,
+// more than both places together, the first place 2 and the second 1, so that the first number that differs decides.
+pub fn compare(a: Entry, b: Entry) -> Ordering
+    ensures { λ r. ⌜ r ≡ rankCompare a b ⌝ }
+{
+    let less = 4 * (a.distance < b.distance) as u8
+        + 2 * (a.first < b.first) as u8
+        + (a.second < b.second) as u8;
+    let greater = 4 * (a.distance > b.distance) as u8
+        + 2 * (a.first > b.first) as u8
+        + (a.second > b.second) as u8;
+    if less > greater {
+        return Ordering::Before;
+    }
+    if less < greater {
+        return Ordering::After;
+    }
+    Ordering::Same
+}
+
 // Whether one entry comes before another by rank.
 pub fn before(a: Entry, b: Entry) -> bool
     ensures { λ r. ⌜ r ≡ rankBefore a b ⌝ }
 {
-    if a.distance != b.distance {
-        return a.distance < b.distance;
+    match compare(a, b) {
+        Ordering::Before => true,
+        Ordering::Same => false,
+        Ordering::After => false,
     }
-    if a.first != b.first {
-        return a.first < b.first;
-    }
-    a.second < b.second
 }
 
 // Whether K is 1 to 4,096.

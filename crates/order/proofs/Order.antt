@@ -125,11 +125,6 @@ module _ {A : Type 0} (less next : A → A → Bool) where
   unfolding lex
   lex-next a b p q = rw (p, q)
 
-  -- Where the first test tells the two apart it decides.
-  pub lex-apart : (a b : A) → (less a b ≡ false → less b a ≡ true) → lex less next a b ≡ less a b
-  lex-apart a b h =
-      byTest (less a b) (λ t. lex-less a b t ∙ sym t) (λ f. lex-more a b f (h f) ∙ sym f)
-
   lex-not : (a b : A) → lex less next a b ≡ false → less a b ≡ false
   lex-not a b p = byTest (less a b) (λ t. never-both (lex-less a b t) p) (λ f. f)
 
