@@ -4,6 +4,7 @@ mod c_program;
 mod calls;
 mod campaigns;
 mod case_listing;
+mod comparison;
 mod examples;
 mod harness;
 mod height_0;
@@ -20,6 +21,7 @@ mod site_lists;
 fn main() {
     let mut h = harness::Harness::default();
     examples::run(&mut h);
+    comparison::run(&mut h);
     site_lists::run_check(&mut h);
     site_lists::run_add(&mut h);
     pair_lists::run_k_list(&mut h);

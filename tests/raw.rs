@@ -1,4 +1,4 @@
-//! The exported calls as the static library has them: a slice is a pointer and a length, a reference a pointer.
+//! The exported calls as the static libraries have them: a slice is a pointer and a length, a reference a pointer.
 
 type X = *const i32;
 type N = *const u32;
@@ -93,4 +93,7 @@ unsafe extern "C" {
         file: *const u8, length: usize, place: u32,
         x: *mut i32, y: *mut i32, number: *mut u32,
     ) -> u32;
+
+    /// Of the static library of crate `comparison`: entries by their numbers; 0 for before, 1 for same, 2 for after.
+    pub fn compare_entries(ad: u64, ai: u32, aj: u32, bd: u64, bi: u32, bj: u32) -> u32;
 }
