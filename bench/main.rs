@@ -103,6 +103,42 @@ fn least<const N: usize>(mut work: [&mut dyn FnMut(); N]) -> [f64; N] {
     best
 }
 
+/// A comparison of two entries, by their numbers.
+type Compare = unsafe extern "C" fn(u64, u32, u32, u64, u32, u32) -> u32;
+
+/// How many entries come before the next one.
+fn ascents(compare: Compare, entries: &[Entry]) -> usize {
+    let before = |w: &&[Entry]| {
+        let (a, b) = (w[0], w[1]);
+        unsafe { compare(a.distance, a.first, a.second, b.distance, b.first, b.second) == 0 }
+    };
+    entries.windows(2).filter(before).count()
+}
+
+/// The comparison alone, each entry with the next one, on random entries and on the same ones sorted.
+fn comparisons(name: &str, r: &mut Random, distances: i64) {
+    let place = |r: &mut Random| r.from_to(0, 65_534) as u32;
+    let mut entries: Vec<Entry> = (0..200_000)
+        .map(|_| Entry { distance: r.from_to(1, distances) as u64, first: place(r), second: place(r) })
+        .collect();
+    for order in ["random", "sorted"] {
+        let (mut ours, mut theirs) = (0, 0);
+        let [proved, plain] = least([
+            &mut || ours = ascents(black_box(raw::compare_entries), &entries),
+            &mut || theirs = ascents(black_box(ordinary::compare_entries), &entries),
+        ]);
+        assert_eq!(ours, theirs, "the answers differ");
+        let each = |ms: f64| ms * 1e6 / entries.len() as f64;
+        println!(
+            "comparison, {order} entries, {name}: {:.2} ns, Rust {:.2} ns, ratio {:.2}",
+            each(proved),
+            each(plain),
+            proved / plain
+        );
+        entries.sort();
+    }
+}
+
 /// A check of a lawful list.
 fn checked(a: &Columns) {
     let mut count = 0;
@@ -396,6 +432,8 @@ fn main() {
         ("even", even(r, SITES), even(r, SITES)),
         ("clustered", clustered(r, &centres), clustered(r, &centres)),
     ];
+    comparisons("few distances alike", &mut Random::new(2), 8_000_000_000_400_000_000);
+    comparisons("many distances alike", &mut Random::new(3), 3);
     for (name, a, _) in &kinds {
         list_check(name, a);
     }

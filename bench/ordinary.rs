@@ -36,6 +36,16 @@ pub fn check(l: List) -> u32 {
     if ascending { 0 } else { 3 }
 }
 
+/// Where one entry stands to another, number by number: 0 before, 1 same, 2 after. It is called as the library's is.
+#[inline(never)]
+pub extern "C" fn compare_entries(ad: u64, ai: u32, aj: u32, bd: u64, bi: u32, bj: u32) -> u32 {
+    match (ad, ai, aj).cmp(&(bd, bi, bj)) {
+        Ordering::Less => 0,
+        Ordering::Equal => 1,
+        Ordering::Greater => 2,
+    }
+}
+
 #[derive(Clone, Copy, PartialEq, Eq, Debug, Default)]
 pub struct Counters {
     pub looks: u64,
