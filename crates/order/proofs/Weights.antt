@@ -6,7 +6,7 @@ use native.Mathlib.Omega.{arith}
 use native.Mathlib.Nat.{mul-zero, zero-add}
 use mir.Val.{boolByte}
 use lib.Dec.{ltb}
-use borrow.Author.Tests.{ltb-true, ltb-false, lt-ltb, le-ltb}
+use borrow.Author.Tests.{lt-ltb, le-ltb}
 use Rattle.order.specs.Order.{lex}
 use Rattle.order.proofs.Order.{OrderUpTo, byTest, lex-less, lex-more, lex-next}
 
