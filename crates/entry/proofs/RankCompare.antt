@@ -2,14 +2,14 @@
 use mathlib.Core.Path.{_≡_, refl, sym, ap, _∙_}
 use mathlib.Core.Bool.{Bool, true, false, cond}
 use mathlib.Core.Logic.{_↔_}
-use Prim.Native.Nat.{ℕ, _+_, _*_, _<_}
+use Prim.Native.Nat.{ℕ, _+_, _*_, _≤_, _<_}
 use native.Mathlib.Omega.{arith}
 use native.Mathlib.Nat.{add-assoc}
 use mir.Val.{boolByte}
 use lib.Dec.{ltb}
 use borrow.Author.Tests.{lt-ltb, le-ltb}
-use Rattle.order.proofs.Order.{byTest, irrefl, by-number}
-use Rattle.order.proofs.Weights.{weighed-test, weighed-lex}
+use Rattle.order.proofs.Order.{byTest, irrefl, ltb-order, by-number}
+use Rattle.order.proofs.Weights.{one-way, weighed-test, weighed-lex}
 use Rattle.entry.specs.declared.Entry.{Entry}
 use Rattle.entry.specs.declared.Ordering.{Ordering}
 use Rattle.entry.specs.declared.Ordering.the-variants.{Before, Same, After}
@@ -32,23 +32,38 @@ rank-weighed a b =
     (weighed-lex (by-number (λ (e : Entry). e .distance)) (weighed-lex (by-number (λ (e : Entry). e .first))
     (weighed-test (by-number (λ (e : Entry). e .second)))) .tells a b)
 
--- The comparison by the weights.
+-- Each number is less one way round at most: what may be used of the tests, whatever they weigh.
+pub record OneWay (a b : Entry) : Type 0 where
+  pub distance : boolByte (ltb (a .distance) (b .distance)) + boolByte (ltb (b .distance) (a .distance)) ≤ 1
+  pub first : boolByte (ltb (a .first) (b .first)) + boolByte (ltb (b .first) (a .first)) ≤ 1
+  pub second : boolByte (ltb (a .second) (b .second)) + boolByte (ltb (b .second) (a .second)) ≤ 1
+
+-- The comparison, by sums that decide as these weights do.
 module _ (a b : Entry) where
+  each-one-way : OneWay a b
+  each-one-way = record {
+    distance = one-way ltb-order (a .distance) (b .distance);
+    first = one-way ltb-order (a .first) (b .first);
+    second = one-way ltb-order (a .second) (b .second);
+  }
+
   by-weights : rankCompare a b
       ≡ cond (ltb (lessWeight b a) (lessWeight a b)) Before (cond (ltb (lessWeight a b) (lessWeight b a)) After Same)
   unfolding rankCompare
   by-weights = rw (rank-weighed a b, rank-weighed b a) refl
 
-  pub compare-before : lessWeight b a < lessWeight a b → rankCompare a b ≡ Before
-  compare-before h = by-weights ∙ rw (lt-ltb (lessWeight b a) (lessWeight a b) h) refl
+  pub compare-before : (OneWay a b → lessWeight b a < lessWeight a b) → rankCompare a b ≡ Before
+  compare-before more = by-weights ∙ rw (lt-ltb (lessWeight b a) (lessWeight a b) (more each-one-way)) refl
 
-  pub compare-after : lessWeight a b < lessWeight b a → rankCompare a b ≡ After
-  compare-after h =
+  pub compare-after : (OneWay a b → lessWeight a b < lessWeight b a) → rankCompare a b ≡ After
+  compare-after less =
+      let h : lessWeight a b < lessWeight b a = less each-one-way in
       by-weights
       ∙ rw (le-ltb (lessWeight b a) (lessWeight a b) (omega arith), lt-ltb (lessWeight a b) (lessWeight b a) h) refl
 
-  pub compare-same : lessWeight a b ≡ lessWeight b a → rankCompare a b ≡ Same
-  compare-same e =
+  pub compare-same : (OneWay a b → lessWeight a b ≡ lessWeight b a) → rankCompare a b ≡ Same
+  compare-same equal =
+      let h : lessWeight a b ≡ lessWeight b a = equal each-one-way in
       by-weights
       ∙ rw (le-ltb (lessWeight b a) (lessWeight a b) (omega arith), le-ltb (lessWeight a b) (lessWeight b a) (omega arith))
       refl

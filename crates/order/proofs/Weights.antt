@@ -26,6 +26,13 @@ pub record WeighedBy {A : Type 0} (n : ℕ) (weight : A → A → ℕ) (before :
   pub tells : (a b : A) → before a b ≡ ltb (weight b a) (weight a b)
 
 module _ {A : Type 0} {same : A → A → Type 0} {less : A → A → Bool} (o : OrderUpTo same less) where
+  -- A test holds of two at most one way round.
+  pub one-way : (a b : A) → boolByte (less a b) + boolByte (less b a) ≤ 1
+  one-way a b =
+      byTest (less a b)
+      (λ t. rw (t, o .asym a b t) (omega arith))
+      (λ f. rw f (omega (arith, bit-most (less b a))))
+
   -- A test alone.
   pub weighed-test : WeighedBy 2 (λ a b. boolByte (less a b)) less
   weighed-test = record {

@@ -24,19 +24,13 @@ module _ (m : ℕ) (d : Bool) where
     three-fit s h = omega (arith, weight-most m d, weight-most n f, bit-most s)
 
 returns : tie.Need-returns
-returns c =
-    let s = c .before .before .before .before .before .before .before .before .before .before .before .before .before .args in
-    sym (compare-before (s .a) (s .b) (omega (arith, c .if1 .taken)))
+returns c = sym (compare-before _ _ (λ each. omega (arith, c .if1 .taken)))
 
 returns-2 : tie.Need-returns-2
-returns-2 c =
-    let s = c .before .before .before .before .before .before .before .before .before .before .before .before .before .before .args in
-    sym (compare-after (s .a) (s .b) (omega (arith, c .if2 .taken)))
+returns-2 c = sym (compare-after _ _ (λ each. omega (arith, c .if2 .taken)))
 
 returns-3 : tie.Need-returns-3
-returns-3 c =
-    let s = c .before .before .before .before .before .before .before .before .before .before .before .before .before .before .args in
-    sym (compare-same (s .a) (s .b) (omega (arith, c .before .if1 .left, c .if2 .left)))
+returns-3 c = sym (compare-same _ _ (λ each. omega (arith, c .before .if1 .left, c .if2 .left)))
 
 pub compare-spec : {M : Type 1} → statement M
 compare-spec =
