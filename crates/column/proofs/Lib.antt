@@ -1,4 +1,6 @@
 -- The laws of lent columns.
 pub mod Overwritten
 pub mod Stored
+pub mod Moved
 pub mod Inserted
+pub mod Removed

@@ -1,11 +1,11 @@
--- Values in a column from a position on: lengths, and one run of values after another.
-use mathlib.Core.Path.{_≡_, refl, _∙_}
-use mathlib.Core.List.{List, [], _++_, append-assoc}
-use Prim.Native.Nat.{ℕ, _+_, _≤_}
+-- Values in a column from a position on: lengths, what stands beside them, and one run of values after another.
+use mathlib.Core.Path.{_≡_, refl, sym, ap, _∙_}
+use mathlib.Core.List.{List, [], _∷_, _++_, append-assoc}
+use Prim.Native.Nat.{ℕ, suc, _+_, _-_, _≤_, _<_}
 use native.Mathlib.Nat.{add-zero, zero-add}
 use native.Mathlib.Omega.{arith}
-use lib.ListN.{length, take, drop, length-append, length-drop, take-append-drop}
-use lib.Seq.{length-take-le, take-at, drop-at, drop-drop, sets, sets-eq}
+use lib.ListN.{length, take, drop, getD, set, length-append, length-drop, take-append-drop, List·getD-append}
+use lib.Seq.{take-suc, append-snoc, set-at, drop-append-le, length-take-le, take-at, drop-at, drop-drop, getD-take, getD-drop, sets, sets-eq}
 use Rattle.column.specs.Column.{overwritten, stored}
 
 module _ {A : Type 0} where
@@ -48,3 +48,61 @@ module _ {A : Type 0} where
   pub sets-stored : (vs l : List A) (at : ℕ) → at + length vs ≤ length l → sets l at vs ≡ stored at vs l
   unfolding stored
   sets-stored vs l at h = sets-eq vs l at h ∙ append-assoc (take at l) vs (drop (at + length vs) l)
+
+  -- One value more, before a run of values or after it.
+  pub stored-first : (at : ℕ) (v l : List A) (a : A) → at < length l → set (stored (suc at) v l) at a ≡ stored at (a ∷ v) l
+  unfolding stored
+  stored-first at v l a h =
+      let ends : at + suc (length v) ≡ suc at + length v = omega arith in
+      rw (take-suc l at a h, append-snoc (take at l) (getD l at a) (v ++ drop (suc at + length v) l), ends)
+      (set-at (take at l) (getD l at a) (v ++ drop (suc at + length v) l) a at (length-take-le at l (omega arith)))
+
+  pub stored-last : (at : ℕ) (v l : List A) (a : A) → at + length v < length l
+      → set (stored at v l) (at + length v) a ≡ stored at (v ++ (a ∷ [])) l
+  stored-last at v l a h =
+      sets-stored (a ∷ []) (stored at v l) (at + length v) (rw (stored-length at v l (omega arith)) (omega arith))
+      ∙ stored-after at (at + length v) v (a ∷ []) l refl (omega arith)
+
+  -- What stands before the values and past them.
+  module _ (at : ℕ) (v l : List A) (inside : at + length v ≤ length l) where
+    front : length (take at l ++ v) ≡ at + length v
+    front = simp length-append (omega (arith, length-take-le at l (omega arith)))
+
+    pub stored-before : (j : ℕ) (d : A) → j < at → getD (stored at v l) j d ≡ getD l j d
+    unfolding stored
+    stored-before j d h =
+        List·getD-append (take at l) (v ++ drop (at + length v) l) d j (rw (length-take-le at l (omega arith)) h) ∙ getD-take at l j d h
+
+    pub take-stored : take (at + length v) (stored at v l) ≡ take at l ++ v
+    unfolding stored
+    take-stored =
+        ap (take (at + length v)) (sym (append-assoc (take at l) v (drop (at + length v) l)))
+        ∙ take-at (take at l ++ v) (drop (at + length v) l) (at + length v) front
+
+    pub drop-stored : drop (at + length v) (stored at v l) ≡ drop (at + length v) l
+    unfolding stored
+    drop-stored =
+        ap (drop (at + length v)) (sym (append-assoc (take at l) v (drop (at + length v) l)))
+        ∙ drop-at (take at l ++ v) (drop (at + length v) l) (at + length v) front
+
+    pub stored-past : (j : ℕ) (d : A) → at + length v ≤ j → getD (stored at v l) j d ≡ getD l j d
+    stored-past j d h =
+        let e : (at + length v) + (j - (at + length v)) ≡ j = omega arith in
+        rw e at
+        (sym (getD-drop (at + length v) (stored at v l) (j - (at + length v)) d)
+        ∙ ap (λ (r : List A). getD r (j - (at + length v)) d) drop-stored
+        ∙ getD-drop (at + length v) l (j - (at + length v)) d)
+
+  -- Values stored at the start of a part of the column are stored at the part's place.
+  pub stored-part : (p m : ℕ) (v l : List A) → length v ≤ m → p + m ≤ length l
+      → take p l ++ (stored 0 v (take m (drop p l)) ++ drop m (drop p l)) ≡ stored p v l
+  unfolding stored
+  stored-part p m v l h inside =
+      let part = take m (drop p l) in
+      let long : length part ≡ m = length-take-le m (drop p l) (rw length-drop (omega arith)) in
+      let rest : drop (length v) part ++ drop m (drop p l) ≡ drop (p + length v) l =
+      sym (drop-append-le (length v) part (drop m (drop p l)) (omega (arith, long)))
+      ∙ ap (drop (length v)) (take-append-drop m (drop p l))
+      ∙ drop-drop (length v) p l in
+      ap (λ (r : List A). take p l ++ r)
+      (rw zero-add (append-assoc v (drop (length v) part) (drop m (drop p l))) ∙ ap (λ (r : List A). v ++ r) rest)

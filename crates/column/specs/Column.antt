@@ -13,4 +13,9 @@ stored at values column = take at column ++ (values ++ drop (at + length values)
 
 -- `v` at place `p`, the rest of the first `n` moved up by one; what stands further on is as before.
 unfoldable pub inserted : {A : Type 0} → ℕ → ℕ → A → List A → List A
-inserted p n v column = take p column ++ v ∷ take (n - p) (drop p column) ++ drop (n + 1) column
+inserted p n v column = stored p (v ∷ take (n - p) (drop p column)) column
+
+-- The element at place `p` taken out, the rest of the first `n` moved down by one; the element freed at the end of these, and
+-- what stands further on, are as before.
+unfoldable pub removed : {A : Type 0} → ℕ → ℕ → List A → List A
+removed p n column = stored p (take (n - (p + 1)) (drop (p + 1) column)) column

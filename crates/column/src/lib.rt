@@ -1,8 +1,9 @@
-// A lent column: its element at a place, and a value put in with what stands behind it moved up by one, for each width.
+// A lent column: its element at a place, a value put in with what stands behind it moved up by one, and an element taken out
+// with what stands behind it moved down, for each width.
 ghost use mathlib.Core.Path.{_≡_};
 ghost use Prim.Native.Nat.{_≤_, _<_};
 ghost use lib.ListN.{length, getD};
-ghost use Rattle.column.specs.Column.{inserted};
+ghost use Rattle.column.specs.Column.{inserted, removed};
 
 // The element at a place, 0 past the end.
 pub fn get_u64(column: &[u64], i: usize) -> u64
@@ -58,4 +59,42 @@ pub fn insert_i32(column: &mut [i32], p: usize, n: usize, v: i32)
     ensures { λ _. ⌜ now (column .exit) ≡ inserted p n v (now (column .entry)) ⌝ }
 {
     push_i32(&mut column[p..], n - p, v);
+}
+
+// Takes out the first element, moving down by one all that stand behind it; the last one stays.
+fn pull_u32(column: &mut [u32])
+    ensures { λ _. let c = now (column .entry) in ⌜ now (column .exit) ≡ removed 0 (length c) c ⌝ }
+{
+    let mut i = 0;
+    while i + 1 < column.len() {
+        column[i] = column[i + 1];
+        i += 1;
+    }
+}
+
+// Takes out the element at place `p`, moving down by one what stands behind it and before place `n`; the last one stays.
+pub fn remove_u32(column: &mut [u32], p: usize, n: usize)
+    requires { ⌜ (p < n) × (n ≤ length (now column)) ⌝ }
+    ensures { λ _. ⌜ now (column .exit) ≡ removed p n (now (column .entry)) ⌝ }
+{
+    pull_u32(&mut column[p..n]);
+}
+
+// Takes out the first element, moving down by one all that stand behind it; the last one stays.
+fn pull_i32(column: &mut [i32])
+    ensures { λ _. let c = now (column .entry) in ⌜ now (column .exit) ≡ removed 0 (length c) c ⌝ }
+{
+    let mut i = 0;
+    while i + 1 < column.len() {
+        column[i] = column[i + 1];
+        i += 1;
+    }
+}
+
+// Takes out the element at place `p`, moving down by one what stands behind it and before place `n`; the last one stays.
+pub fn remove_i32(column: &mut [i32], p: usize, n: usize)
+    requires { ⌜ (p < n) × (n ≤ length (now column)) ⌝ }
+    ensures { λ _. ⌜ now (column .exit) ≡ removed p n (now (column .entry)) ⌝ }
+{
+    pull_i32(&mut column[p..n]);
 }

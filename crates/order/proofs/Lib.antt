@@ -4,6 +4,7 @@ pub mod Weights
 pub mod Lists
 pub mod Best
 pub mod Sorted
+pub mod Places
 pub mod Foremost
 pub mod Choice
 pub mod Heap

@@ -5,11 +5,14 @@ use Prim.Native.Nat.{ℕ}
 use lib.IntN.{pos, negsuc}
 use Rattle.order.specs.Lists.{all, keep, sum}
 use Rattle.order.specs.Order.{lex, ascending}
-use Rattle.site.specs.Addition.{placeOf, present, addRefusal}
+use Rattle.column.specs.Column.{stored, removed}
+use Rattle.site.specs.InUse.{usedRefusal, placeOf, present, changeValues}
+use Rattle.site.specs.Addition.{addRefusal}
+use Rattle.site.specs.Removal.{removeRefusal, removeSite, removeAnswer}
 use Rattle.site.specs.Refusal.{equalLengths, sizeFault, contentRefusal, listRefusal, listsRefusal}
 use Rattle.site.specs.Site.{between, within, heightWithin, allWithin, lawfulSite, gap, square, squaredDistance, siteBefore}
-use Rattle.site.specs.SiteList.{Columns, columns, raised, raisedSite, withColumns, sites, inUse}
-use Rattle.site.specs.Answer.{orElse}
+use Rattle.site.specs.SiteList.{Columns, columns, raised, site, raisedSite, withColumns, sites, inUse}
+use Rattle.site.specs.Answer.{answered, answerUnless, orElse}
 
 -- Columns of one site each place, by x alone, on the ground.
 byX : List ℕ → Columns
@@ -53,16 +56,42 @@ two-lists = refl
 -- Adding (6, 0), at another height than the one there, to four columns of which so many are in use: full before already there; the site's 2 before both.
 adding :
     map (λ n. addRefusal (byX (4 ∷ 6 ∷ 9 ∷ [])) n (raisedSite (pos 6) (pos 0) 6 (pos 3))) (0 ∷ 1 ∷ 2 ∷ 3 ∷ 4 ∷ []) ≡ 0 ∷ 0 ∷ 11 ∷ 6 ∷ 1 ∷ []
-unfolding byX lex ascending all keep sites withColumns zipWith inUse orElse between within allWithin heightWithin lawfulSite siteBefore equalLengths sizeFault contentRefusal placeOf present addRefusal
+unfolding byX lex ascending all keep sites withColumns zipWith inUse orElse between within allWithin heightWithin lawfulSite siteBefore equalLengths sizeFault contentRefusal usedRefusal placeOf present addRefusal
 adding = refl
 
 outside : addRefusal (byX (4 ∷ [])) 1 (raisedSite (pos 1_000_000_001) (pos 0) 6 (pos 0)) ≡ 2
-unfolding byX lex ascending all keep sites withColumns zipWith inUse orElse between within allWithin heightWithin lawfulSite siteBefore equalLengths sizeFault contentRefusal placeOf present addRefusal
+unfolding byX lex ascending all keep sites withColumns zipWith inUse orElse between within allWithin heightWithin lawfulSite siteBefore equalLengths sizeFault contentRefusal usedRefusal placeOf present addRefusal
 outside = refl
 
 too-high : addRefusal (byX (4 ∷ [])) 1 (raisedSite (pos 6) (pos 0) 6 (pos 10_001)) ≡ 2
-unfolding byX lex ascending all keep sites withColumns zipWith inUse orElse between within allWithin heightWithin lawfulSite siteBefore equalLengths sizeFault contentRefusal placeOf present addRefusal
+unfolding byX lex ascending all keep sites withColumns zipWith inUse orElse between within allWithin heightWithin lawfulSite siteBefore equalLengths sizeFault contentRefusal usedRefusal placeOf present addRefusal
 too-high = refl
+
+-- Removing (6, 0) from four columns of which so many are in use: it is there, or not among those in use.
+removing :
+    map (λ n. removeRefusal (byX (4 ∷ 6 ∷ 9 ∷ [])) n (site (pos 6) (pos 0) 6)) (0 ∷ 1 ∷ 2 ∷ 3 ∷ 4 ∷ []) ≡ 16 ∷ 16 ∷ 0 ∷ 0 ∷ 1 ∷ []
+unfolding byX lex ascending all keep sites withColumns zipWith inUse orElse between within allWithin heightWithin lawfulSite siteBefore equalLengths sizeFault contentRefusal usedRefusal present removeRefusal
+removing = refl
+
+-- The list's faults come before 16; outside the limits, or with another number or y alone, there is no such site.
+absent :
+    removeRefusal (byX (5 ∷ 4 ∷ [])) 2 (site (pos 6) (pos 0) 6)
+    ∷ removeRefusal (byX (4 ∷ 1_000_000_001 ∷ [])) 2 (site (pos 6) (pos 0) 6)
+    ∷ map (removeRefusal (byX (4 ∷ [])) 1)
+    (site (pos 1_000_000_001) (pos 0) 4 ∷ site (pos 4) (pos 0) 5 ∷ site (pos 4) (negsuc 0) 4 ∷ site (pos 4) (pos 0) 4 ∷ [])
+    ≡ 3 ∷ 2 ∷ 16 ∷ 16 ∷ 16 ∷ 0 ∷ []
+unfolding byX lex ascending all keep sites withColumns zipWith inUse orElse between within allWithin heightWithin lawfulSite siteBefore equalLengths sizeFault contentRefusal usedRefusal present removeRefusal
+absent = refl
+
+-- "remove (0,0,11): place 0, count 2", the heights moving too; the element freed at the end, and the one past it, stay.
+taken-out :
+    removeAnswer
+    (raised (map pos (0 ∷ 4 ∷ 10 ∷ 7 ∷ [])) (map pos (0 ∷ 3 ∷ 0 ∷ 7 ∷ [])) (11 ∷ 12 ∷ 13 ∷ 7 ∷ []) (map pos (1 ∷ 2 ∷ 3 ∷ 7 ∷ []))) 3
+    (site (pos 0) (pos 0) 11)
+    ≡ answered (changeValues
+    (raised (map pos (4 ∷ 10 ∷ 10 ∷ 7 ∷ [])) (map pos (3 ∷ 0 ∷ 0 ∷ 7 ∷ [])) (12 ∷ 13 ∷ 13 ∷ 7 ∷ []) (map pos (2 ∷ 3 ∷ 3 ∷ 7 ∷ []))) 0 2)
+unfolding lex ascending all keep sites withColumns zipWith inUse orElse between within allWithin heightWithin lawfulSite siteBefore equalLengths sizeFault contentRefusal usedRefusal present removeRefusal placeOf answerUnless removeSite removeAnswer stored removed
+taken-out = refl
 
 -- "First (0,0,1) at height 0, second (0,0,1) at height 3: 9"; and opposite corners.
 distances :

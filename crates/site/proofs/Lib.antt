@@ -14,6 +14,11 @@ pub mod Refusal
 pub mod Accepted
 pub mod Ground
 pub mod PlaceOf
+pub mod InUse
 pub mod Addition
+pub mod Removal
+pub mod Rows
 pub mod InsertSite
+pub mod RemoveSite
+pub mod AddRemove
 pub mod Examples

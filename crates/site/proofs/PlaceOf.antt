@@ -11,7 +11,7 @@ use lib.Seq.{drop-cons}
 use Rattle.order.specs.Lists.{all, keep}
 use Rattle.order.specs.Order.{lex}
 use Rattle.site.specs.Site.{Site, siteBefore}
-use Rattle.site.specs.Addition.{placeOf, present}
+use Rattle.site.specs.InUse.{placeOf, present}
 use Rattle.order.proofs.Order.{byTest}
 use Rattle.site.proofs.SiteList.{flat-site}
 use Rattle.site.proofs.Counting.{failing, all-failing}

@@ -42,7 +42,7 @@ unfolding All
 flat-level c level = record { y = level .y; number = level .number; further = tt }
 
 -- Further columns lengthen no list of their length, and add what they hold to each site.
-columns-keep-length : (further : List (List ℤ)) (l : List Site) → All (λ column. length column ≡ length l) further
+pub columns-keep-length : (further : List (List ℤ)) (l : List Site) → All (λ column. length column ≡ length l) further
     → length (withColumns further l) ≡ length l
 unfolding withColumns All
 columns-keep-length [] l h = refl
@@ -59,10 +59,10 @@ columns-add (column ∷ further) l i d h g e =
     ∙ ap (withCoordinate (getD column i (pos 0))) (columns-add further l i d (h .1) g e)
 
 module _ (c : Columns) (level : Level c) where
-  abbrev flat : List Site
+  abbrev pub flat : List Site
   flat = zipWith (λ make n. make n) (zipWith site (c .x) (c .y)) (c .number)
 
-  flat-length : length flat ≡ length (c .x)
+  pub flat-length : length flat ≡ length (c .x)
   flat-length = simp length-zip (omega (arith, level .y, level .number))
 
   flat-at : (i : ℕ) (d : Site) → i < length (c .x)
@@ -73,7 +73,7 @@ module _ (c : Columns) (level : Level c) where
       (omega (arith, level .number))
       ∙ ap (λ (make : ℕ → Site). make (getD (c .number) i 0)) (zip-at site (c .x) (c .y) i (pos 0) (pos 0) make h (omega (arith, level .y)))
 
-  further-level : All (λ column. length column ≡ length flat) (c .further)
+  pub further-level : All (λ column. length column ≡ length flat) (c .further)
   further-level = rw flat-length (level .further)
 
   pub sites-length : length (sites c) ≡ length (c .x)

@@ -3,6 +3,8 @@ pub mod Answer
 pub mod Site
 pub mod SiteList
 pub mod Refusal
+pub mod InUse
 pub mod Addition
+pub mod Removal
 -- Nothing to believe: terms of contracts that other crates cite.
 pub mod Terms

@@ -1,8 +1,10 @@
-// A site and its limits, the squared distance of two sites, a lawful list: checking one, and adding a site to one. A list has
-// heights; the plane, which the site file keeps, has none.
+// A site and its limits, the squared distance of two sites, a lawful list: checking one, adding a site to one and removing one.
+// A list has heights; the plane, which the site file keeps, has none.
 mod adding;
+mod in_use;
 mod lists;
 mod positions;
+mod removing;
 
 pub use adding::add;
 pub use lists::before;
@@ -15,6 +17,7 @@ pub use positions::gap;
 pub use positions::plane_distance;
 pub use positions::squared_distance;
 pub use positions::squared_gap;
+pub use removing::remove;
 ghost use mathlib.Core.Path.{_≡_};
 ghost use Rattle.site.specs.Site.{between, within, heightWithin};
 
@@ -32,8 +35,8 @@ pub enum Checked {
     Refused(u32),
 }
 
-// What adding a site answers: its place and the new count in use, or the refusal's number.
-pub enum Added {
+// What adding or removing a site answers: its place and the new count in use, or the refusal's number.
+pub enum Changed {
     At { place: u32, count: u32 },
     Refused(u32),
 }

@@ -6,8 +6,10 @@ use mir.Syntax.{w32}
 use mir.Val.{SFits, toZ, ofZ}
 use mir.Facts.{toZ-ofZ}
 use Rattle.column.specs.Lent.{Held}
-use Rattle.site.specs.SiteList.{site, raisedSite}
+use Rattle.site.specs.declared.Changed.{Changed}
+use Rattle.site.specs.SiteList.{Columns, site, raisedSite}
 use Rattle.site.specs.Answer.{Answer, refused, answered, numberOf, afterwards}
+use Rattle.site.specs.InUse.{ChangeValues, changeValues, changedAnswer}
 use Rattle.vumlintel.specs.Crosses.{Crosses}
 
 module _ {A : Type 0} {answer : Answer A} where
@@ -34,3 +36,14 @@ site-of number fx fy = λ i. site (toZ-ofZ fx i) (toZ-ofZ fy i) number
 pub site-up-of : {x y h : ℤ} (number : ℕ) → SFits w32 x → SFits w32 y → SFits w32 h
     → raisedSite (toZ w32 (ofZ w32 x)) (toZ w32 (ofZ w32 y)) number (toZ w32 (ofZ w32 h)) ≡ raisedSite x y number h
 site-up-of number fx fy fh = λ i. raisedSite (toZ-ofZ fx i) (toZ-ofZ fy i) number (toZ-ofZ fh i)
+
+-- A change of a list crosses beside its columns: those that the call left, and those that it was lent.
+pub crossed-change : {answer : Answer ChangeValues} {n : ℕ} (told : Changed) {c d : Columns} {p k p' k' : ℕ}
+    → (changedAnswer told d ≡ answer) × (d ≡ afterwards (λ v. v .columns) answer c)
+    → ((e : Columns) → Crosses (changedAnswer told e) n (record { entry = changeValues e p k; exit = changeValues e p' k' }))
+    → Crosses answer n (record { entry = changeValues c p k; exit = changeValues d p' k' })
+unfolding afterwards
+crossed-change {answer = refused number} told {d = d} call crossed = rw (← call .1) (rw (call .0) at (crossed d))
+crossed-change {answer = answered values} told {d = d} call crossed =
+    let there = rw (call .0) at (crossed d) in
+    record { number = there .number; values = there .values }

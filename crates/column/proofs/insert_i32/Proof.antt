@@ -8,7 +8,7 @@ use Rattle.column.proofs.insert_i32.Tie as tie
 returns : tie.Need-returns
 returns c =
     let s = c .before .before .before in
-    inserted-part _ _ (s .args .column .now) _ (s .pre .0) (s .pre .1) (toZ-ofZ (s .fits .v)) (c .before .push-i32 .ensures)
+    inserted-part _ _ (s .args .column .now) (s .pre .0) (s .pre .1) _ (toZ-ofZ (s .fits .v)) (c .before .push-i32 .ensures)
 
 pub insert-i32-spec : {M : Type 1} → statement M
 insert-i32-spec =

@@ -8,7 +8,7 @@ use Rattle.column.proofs.insert_u32.Tie as tie
 returns : tie.Need-returns
 returns c =
     let s = c .before .before .before .before .before in
-    inserted-part _ _ (s .args .column .now) _ (s .pre .0) (s .pre .1) refl (c .before .before .push-u32 .ensures)
+    inserted-part _ _ (s .args .column .now) (s .pre .0) (s .pre .1) _ refl (c .before .before .push-u32 .ensures)
 
 pub insert-u32-spec : {M : Type 1} → statement M
 insert-u32-spec =

@@ -12,13 +12,13 @@ use mir.Val.{toZ, ofZ}
 use mir.Facts.{toZ-ofZ}
 use Rattle.site.specs.Site.{Site}
 use Rattle.site.specs.SiteList.{Columns, columns, site, sites, siteAt}
-use Rattle.site.specs.Addition.{present}
+use Rattle.site.specs.InUse.{present}
 use Rattle.site.proofs.Signed.{at₂}
 use Rattle.site.proofs.SiteList.{sites-length}
 use Rattle.site.proofs.Counting.{failing, no-le, failing-step, failing-end}
 use Rattle.site.proofs.PlaceOf.{apart, present-failing}
-use Rattle.site.proofs.adding.is_present.Statement.{statement}
-use Rattle.site.proofs.adding.is_present.Tie as tie
+use Rattle.site.proofs.in_use.is_present.Statement.{statement}
+use Rattle.site.proofs.in_use.is_present.Tie as tie
 
 abbrev Inv-loop : tie.InvT-loop
 Inv-loop x y number sx sy sn same₀ i₀ same i =

@@ -10,13 +10,13 @@ use mir.Val.{toZ, ofZ}
 use mir.Facts.{toZ-ofZ}
 use Rattle.site.specs.Site.{Site, siteBefore}
 use Rattle.site.specs.SiteList.{Columns, columns, site, sites, siteAt}
-use Rattle.site.specs.Addition.{placeOf}
+use Rattle.site.specs.InUse.{placeOf}
 use Rattle.site.proofs.Signed.{at₂}
 use Rattle.site.proofs.SiteList.{sites-length}
 use Rattle.site.proofs.Counting.{yes-le}
 use Rattle.site.proofs.PlaceOf.{place-step, place-end}
-use Rattle.site.proofs.adding.place_of.Statement.{statement}
-use Rattle.site.proofs.adding.place_of.Tie as tie
+use Rattle.site.proofs.in_use.place_of.Statement.{statement}
+use Rattle.site.proofs.in_use.place_of.Tie as tie
 
 abbrev Inv-loop : tie.InvT-loop
 Inv-loop x y number sx sy sn place₀ i₀ place i =

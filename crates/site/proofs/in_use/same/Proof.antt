@@ -8,8 +8,8 @@ use mir.Facts.{toZ-ofZ}
 use Rattle.site.specs.Site.{Site, siteBefore}
 use Rattle.site.specs.SiteList.{site}
 use Rattle.site.proofs.Signed.{at₄}
-use Rattle.site.proofs.adding.same.Statement.{statement}
-use Rattle.site.proofs.adding.same.Tie as tie
+use Rattle.site.proofs.in_use.same.Statement.{statement}
+use Rattle.site.proofs.in_use.same.Tie as tie
 
 abbrev one : tie.Start → Site
 one c = site (c .args .ax) (c .args .ay) (c .args .an)

@@ -9,8 +9,8 @@ use Rattle.site.specs.Site.{siteBefore}
 use Rattle.site.specs.SiteList.{columns, site}
 use Rattle.site.proofs.Signed.{at₄}
 use Rattle.site.proofs.SiteList.{site-at}
-use Rattle.site.proofs.adding.same_at.Statement.{statement}
-use Rattle.site.proofs.adding.same_at.Tie as tie
+use Rattle.site.proofs.in_use.same_at.Statement.{statement}
+use Rattle.site.proofs.in_use.same_at.Tie as tie
 
 returns : tie.Need-returns
 returns c =

@@ -10,8 +10,8 @@ use Rattle.site.specs.Site.{siteBefore}
 use Rattle.site.specs.SiteList.{Columns, columns, site, sites, siteAt}
 use Rattle.site.proofs.Signed.{at₄}
 use Rattle.site.proofs.SiteList.{site-at}
-use Rattle.site.proofs.adding.earlier_at.Statement.{statement}
-use Rattle.site.proofs.adding.earlier_at.Tie as tie
+use Rattle.site.proofs.in_use.earlier_at.Statement.{statement}
+use Rattle.site.proofs.in_use.earlier_at.Tie as tie
 
 abbrev entry : tie.After-before2 → tie.Start
 entry c = c .before .before .before .before .before

@@ -1,0 +1,42 @@
+-- Taking out the first element of a column: the loop's invariant is the law of a run that moves down.
+use mathlib.Core.Path.{refl}
+use borrow.Author.Needs.{needs}
+use Prim.Native.Nat.{_-_}
+use lib.ListN.{length}
+use Rattle.column.proofs.Removed.{Lowered, lowered-none, lowered-more, lowered-all}
+use Rattle.column.proofs.pull_u32.Statement.{statement}
+use Rattle.column.proofs.pull_u32.Tie as tie
+
+abbrev Inv-loop : tie.InvT-loop
+Inv-loop column₀ i₀ column i = Lowered column₀ i column
+
+abbrev μ-loop : tie.MeasureT-loop
+μ-loop column₀ i₀ column i = length column₀ - i
+
+loop-holds : tie.Need-loop-holds Inv-loop μ-loop
+loop-holds c = lowered-none _
+
+loop-again : tie.Need-loop-again Inv-loop μ-loop
+loop-again c = lowered-more _ 0 _ _ (search needs) refl (c .before .before .loop .inv)
+
+returns : tie.Need-returns Inv-loop μ-loop
+returns c = lowered-all _ _ _ (search needs) (c .before .loop .inv)
+
+pub pull-u32-spec : {M : Type 1} → statement M
+pull-u32-spec =
+    tie.close
+    (tie.spec
+    Inv-loop
+    μ-loop
+    loop-holds
+    (λ c. search needs)
+    (λ c. search needs)
+    (λ c. search needs)
+    (λ c. search needs)
+    (λ c. search needs)
+    (λ c. search needs)
+    (λ c. search needs)
+    (λ c. search needs)
+    loop-again
+    (λ c. search needs)
+    returns)
