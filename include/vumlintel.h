@@ -4,7 +4,8 @@
  * Every call answers a refusal number, 0 for success. A refused call writes nothing at all: no answer, no column, no buffer,
  * no part of a campaign. A success writes its answers through the pointers at the end of its parameters.
  *
- *   VUMLINTEL_LIST_SIZE       1  columns of unequal length, more than 65,535 sites, or (adding) a count in use above the length
+ *   VUMLINTEL_LIST_SIZE       1  columns of unequal length, more than 65,535 sites, or (adding, removing) a count in use above
+ *                                the length
  *   VUMLINTEL_LIMITS          2  an x or y outside -1,000,000,000 to 1,000,000,000, or a height outside -10,000 to 10,000
  *   VUMLINTEL_ORDER           3  sites not strictly ascending by x, then y, then number
  *   VUMLINTEL_K               4  K is 0 or above 4,096
@@ -17,9 +18,11 @@
  *   VUMLINTEL_SETTLED         9  the job is settled already
  *   VUMLINTEL_FILE           10  the file's contents or length are wrong
  *   VUMLINTEL_PRESENT        11  the same x, y and number is in the list already
+ *   VUMLINTEL_ABSENT         16  no site with this x, y and number is in the list
  *
  * Order: the first list's 1, 2, 3, then the second list's, then the rest by number. Adding tests the new site (2) after the
- * list. A file below 16 bytes gets 10; any other is tested for 1 (counts), then 10, then its lists for 2 and 3.
+ * list; removing does not, and a site outside the limits gets 16. A file below 16 bytes gets 10; any other is tested for 1
+ * (counts), then 10, then its lists for 2 and 3. The numbers 12 to 15 are not in use.
  *
  * A list is four columns: x, y, number and height, each a pointer and an element count. Its order does not look at the height.
  * A site's place is its index from 0. The squared distance of two sites is the sum of the squares of the differences of x, y
@@ -52,7 +55,8 @@ enum {
     VUMLINTEL_RANGE = 8,
     VUMLINTEL_SETTLED = 9,
     VUMLINTEL_FILE = 10,
-    VUMLINTEL_PRESENT = 11
+    VUMLINTEL_PRESENT = 11,
+    VUMLINTEL_ABSENT = 16
 };
 
 /* Checks a list: how many sites it has, or 1, 2, 3. */
@@ -66,6 +70,15 @@ uint32_t vumlintel_check(const int32_t *x, size_t xs, const int32_t *y, size_t y
 uint32_t vumlintel_add(int32_t *x, size_t xs, int32_t *y, size_t ys, uint32_t *number, size_t numbers, int32_t *height,
                        size_t heights, uint32_t in_use, int32_t site_x, int32_t site_y, uint32_t site_number,
                        int32_t site_height, uint32_t *place, uint32_t *count);
+
+/*
+ * Removes the site with this x, y and number from the first `in_use` sites of four columns, whatever its height; later ones move
+ * down by one, in every column. The element freed at the end keeps its old contents, and all past it stay. Answers the place it
+ * had and the new count in use, or 1, 2, 3 for the sites in use, 16.
+ */
+uint32_t vumlintel_remove(int32_t *x, size_t xs, int32_t *y, size_t ys, uint32_t *number, size_t numbers, int32_t *height,
+                          size_t heights, uint32_t in_use, int32_t site_x, int32_t site_y, uint32_t site_number,
+                          uint32_t *place, uint32_t *count);
 
 /*
  * The K list of two lists, by the classic sweep or by Reverse Run: the first K pairs by rank, or all where there are fewer, in

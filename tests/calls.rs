@@ -165,6 +165,22 @@ pub fn add(c: &mut Columns, in_use: u32, s: Site) -> Result<(u32, u32), u32> {
     told(number, (place, count), (U, U))
 }
 
+/// The place that the site with this x, y and number had, and the new count; the columns are changed in place.
+pub fn remove(c: &mut Columns, in_use: u32, s: Site) -> Result<(u32, u32), u32> {
+    let mut l = LentList::new(c);
+    let (mut place, mut count) = (U, U);
+    let number = unsafe {
+        raw::vumlintel_remove(
+            l.x.exclusive(), l.x.len(), l.y.exclusive(), l.y.len(), l.n.exclusive(), l.n.len(),
+            l.h.exclusive(), l.h.len(),
+            in_use, s.x, s.y, s.number,
+            &mut place, &mut count,
+        )
+    };
+    *c = l.back();
+    told(number, (place, count), (U, U))
+}
+
 /// The entry count and the counters.
 pub fn k_list(way: Way, a: &Columns, b: &Columns, k: u32, r: &mut Results) -> Result<(u32, Counters), u32> {
     let (p, q) = (LentList::new(a), LentList::new(b));

@@ -101,6 +101,18 @@ fn heights() {
     assert_eq!(content_refusal(&[low.up(-10_000)]), 0);
 }
 
+/// Document 02 f's example: what moves down, and what stays.
+fn removing() {
+    let row = |x, y, number, height| site(x, y, number).up(height);
+    let c = Columns::of(&[row(0, 0, 11, 1), row(4, 3, 12, 2), row(10, 0, 13, 3), row(7, 7, 7, 7)]);
+    let after = Columns::of(&[row(4, 3, 12, 2), row(10, 0, 13, 3), row(10, 0, 13, 3), row(7, 7, 7, 7)]);
+    assert_eq!(remove(&c, 3, site(0, 0, 11)), Ok((0, 2, after)));
+    assert_eq!(remove(&c, 3, site(10, 0, 13)), Ok((2, 2, c.clone())));
+    assert_eq!(remove(&c, 3, site(7, 7, 7)), Err(16));
+    assert_eq!(remove(&c, 4, site(0, 0, 11)), Err(3));
+    assert_eq!(remove(&c, 0, site(0, 0, 11)), Err(16));
+}
+
 /// The brute force of the plane, held to the examples apart from the other.
 fn of_the_plane() {
     let (a, b) = f();
@@ -154,6 +166,7 @@ pub fn run(h: &mut Harness) {
     h.test("model: M7, M8, M10", m7_m8_and_m10);
     h.test("model: own examples", own_examples);
     h.test("model: heights", heights);
+    h.test("model: removing", removing);
     h.test("model: the plane", of_the_plane);
     h.test("model: case listing", case_listing);
 }

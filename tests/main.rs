@@ -15,6 +15,7 @@ mod pair_lists;
 mod plane;
 mod random;
 mod raw;
+mod removals;
 mod site_files;
 mod site_lists;
 
@@ -24,6 +25,7 @@ fn main() {
     comparison::run(&mut h);
     site_lists::run_check(&mut h);
     site_lists::run_add(&mut h);
+    removals::run(&mut h);
     pair_lists::run_k_list(&mut h);
     pair_lists::run_distance_list(&mut h);
     campaigns::run(&mut h);

@@ -1,4 +1,4 @@
-//! Documents 01 and 02 a, d and l in plain Rust, by brute force: what each call on lists with heights must answer and leave
+//! Documents 01 and 02 a, d, f and l in plain Rust, by brute force: what each call on lists with heights must answer and leave
 //! behind. What is of the plane, the site file and the case listing, is in `plane`.
 
 use std::collections::HashMap;
@@ -109,17 +109,23 @@ pub fn lists(a: &Columns, b: &Columns) -> Result<(Vec<Site>, Vec<Site>), u32> {
     Ok((a.sites(n as usize), b.sites(m as usize)))
 }
 
-/// The place and the new count, and the columns afterwards.
-pub fn add(c: &Columns, in_use: u32, s: Site) -> Result<(u32, u32, Columns), u32> {
+/// The sites in use, or their refusal.
+fn used_sites(c: &Columns, in_use: u32) -> Result<Vec<Site>, u32> {
     let used = in_use as usize;
     if !c.equal() || used > MOST_SITES || used > c.x.len() {
         return Err(1);
     }
     let sites = c.sites(used);
-    let refusal = content_refusal(&sites);
-    if refusal != 0 {
-        return Err(refusal);
+    match content_refusal(&sites) {
+        0 => Ok(sites),
+        refusal => Err(refusal),
     }
+}
+
+/// The place and the new count, and the columns afterwards.
+pub fn add(c: &Columns, in_use: u32, s: Site) -> Result<(u32, u32, Columns), u32> {
+    let sites = used_sites(c, in_use)?;
+    let used = sites.len();
     if outside(&s) {
         return Err(2);
     }
@@ -141,6 +147,20 @@ pub fn add(c: &Columns, in_use: u32, s: Site) -> Result<(u32, u32, Columns), u32
         columns.height[i] = t.height;
     }
     Ok((place as u32, in_use + 1, columns))
+}
+
+/// The place that the site with this x, y and number had and the new count, and the columns afterwards.
+pub fn remove(c: &Columns, in_use: u32, s: Site) -> Result<(u32, u32, Columns), u32> {
+    let sites = used_sites(c, in_use)?;
+    let place = sites.iter().position(|t| t.key() == s.key()).ok_or(16u32)?;
+    let mut columns = c.clone();
+    for (i, later) in sites.iter().enumerate().skip(place + 1) {
+        columns.x[i - 1] = later.x;
+        columns.y[i - 1] = later.y;
+        columns.number[i - 1] = later.number;
+        columns.height[i - 1] = later.height;
+    }
+    Ok((place as u32, in_use - 1, columns))
 }
 
 // Pairs.

@@ -12,6 +12,12 @@ unsafe extern "C" {
         place: *mut u32, count: *mut u32,
     ) -> u32;
 
+    pub fn vumlintel_remove(
+        x: *mut i32, xs: usize, y: *mut i32, ys: usize, n: *mut u32, ns: usize, h: *mut i32, hs: usize,
+        in_use: u32, site_x: i32, site_y: i32, site_number: u32,
+        place: *mut u32, count: *mut u32,
+    ) -> u32;
+
     pub fn vumlintel_k_list_classic(
         ax: X, axs: usize, ay: X, ays: usize, an: N, ans: usize, ah: X, ahs: usize,
         bx: X, bxs: usize, by: X, bys: usize, bn: N, bns: usize, bh: X, bhs: usize,

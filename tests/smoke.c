@@ -51,6 +51,21 @@ static void add(void)
     EXPECT(vumlintel_add(COLUMNS, 3, 4, 3, 5, 0, &place, &count) == VUMLINTEL_PRESENT);
 }
 
+static void remove_site(void)
+{
+    uint32_t count = 99, place = 99;
+    int32_t x[4] = {0, 4, 10, 7}, y[4] = {0, 3, 0, 7}, height[4] = {1, 2, 3, 7};
+    uint32_t number[4] = {11, 12, 13, 7};
+    EXPECT(vumlintel_remove(COLUMNS, 3, 0, 0, 12, &place, &count) == VUMLINTEL_ABSENT && place == 99 && count == 99);
+    EXPECT(vumlintel_remove(COLUMNS, 3, 1000000001, 0, 11, &place, &count) == VUMLINTEL_ABSENT);
+    EXPECT(vumlintel_remove(COLUMNS, 4, 0, 0, 11, &place, &count) == VUMLINTEL_ORDER && place == 99 && count == 99);
+    EXPECT(vumlintel_remove(COLUMNS, 3, 0, 0, 11, &place, &count) == VUMLINTEL_OK);
+    EXPECT(place == 0 && count == 2);
+    EXPECT(x[0] == 4 && x[1] == 10 && x[2] == 10 && x[3] == 7 && y[0] == 3 && y[1] == 0 && y[2] == 0 && y[3] == 7);
+    EXPECT(number[0] == 12 && number[1] == 13 && number[2] == 13 && number[3] == 7);
+    EXPECT(height[0] == 2 && height[1] == 3 && height[2] == 3 && height[3] == 7);
+}
+
 static void k_lists(void)
 {
     uint64_t distance[4] = {7, 7, 7, 7}, looks = 0, distances = 0;
@@ -132,6 +147,7 @@ int main(void)
 {
     check();
     add();
+    remove_site();
     k_lists();
     distance_lists();
     heights();
