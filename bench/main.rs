@@ -10,14 +10,16 @@ mod random;
 mod raw;
 
 use keepers::{Buffered, Entry, Heap, KList, Sorted};
-use ordinary::{Counters, List};
+use ordinary::{Counters, Lent, List};
 use random::Random;
+use std::cell::RefCell;
 use std::hint::black_box;
 use std::time::Instant;
 
 const SITES: usize = 50_000;
 const ROUNDS: usize = 7;
 
+#[derive(Clone, PartialEq)]
 struct Columns {
     x: Vec<i32>,
     y: Vec<i32>,
@@ -45,6 +47,10 @@ impl Columns {
 
     fn lent(&self) -> List<'_> {
         List { x: &self.x, y: &self.y, number: &self.number, height: &self.height }
+    }
+
+    fn changed(&mut self) -> Lent<'_> {
+        Lent { x: &mut self.x, y: &mut self.y, number: &mut self.number, height: &mut self.height }
     }
 }
 
@@ -156,6 +162,61 @@ fn list_check(name: &str, a: &Columns) {
     let [proved, plain] =
         least([&mut || checked(a), &mut || assert_eq!(ordinary::check(black_box(a.lent())), 0)]);
     println!("check {SITES} {name} sites: {proved:.3} ms, Rust {plain:.3} ms, ratio {:.2}", proved / plain);
+}
+
+/// A site: x, y, number and height.
+type Row = (i32, i32, u32, i32);
+
+/// A site added to all but the last of the columns' elements: its place.
+fn added(c: &mut Columns, s: Row) -> u32 {
+    let (n, mut place, mut count) = (c.x.len(), 0, 0);
+    let number = unsafe {
+        raw::vumlintel_add(
+            c.x.as_mut_ptr(), n, c.y.as_mut_ptr(), n, c.number.as_mut_ptr(), n, c.height.as_mut_ptr(), n,
+            n as u32 - 1, s.0, s.1, s.2, s.3, &mut place, &mut count,
+        )
+    };
+    assert_eq!((number, count), (0, n as u32));
+    place
+}
+
+/// A site removed from columns that are full: its place.
+fn removed(c: &mut Columns, s: Row) -> u32 {
+    let (n, mut place, mut count) = (c.x.len(), 0, 0);
+    let number = unsafe {
+        raw::vumlintel_remove(
+            c.x.as_mut_ptr(), n, c.y.as_mut_ptr(), n, c.number.as_mut_ptr(), n, c.height.as_mut_ptr(), n,
+            n as u32, s.0, s.1, s.2, &mut place, &mut count,
+        )
+    };
+    assert_eq!((number, count), (0, n as u32 - 1));
+    place
+}
+
+/// A site added at a place of a list, and removed again.
+fn changes(name: &str, a: &Columns, place: usize) {
+    let used = a.x.len();
+    let next = a.x.get(place).map_or(1_000_000_000, |x| *x);
+    let s: Row = (next, -1_000_000_000, 7, 9);
+    let mut with_room = a.clone();
+    for column in [&mut with_room.x, &mut with_room.y, &mut with_room.height] {
+        column.push(0);
+    }
+    with_room.number.push(0);
+    let (ours, theirs) = (RefCell::new(with_room.clone()), RefCell::new(with_room));
+    let [add, plain_add, remove, plain_remove] = least([
+        &mut || assert_eq!(added(&mut ours.borrow_mut(), s), place as u32),
+        &mut || assert_eq!(theirs.borrow_mut().changed().add(used, (s.0, s.1, s.2), s.3), Ok(place)),
+        &mut || assert_eq!(removed(&mut ours.borrow_mut(), s), place as u32),
+        &mut || assert_eq!(theirs.borrow_mut().changed().remove(used + 1, (s.0, s.1, s.2)), Ok(place)),
+    ]);
+    assert!(ours == theirs, "the columns differ");
+    for (work, proved, plain) in [("add", add, plain_add), ("remove", remove, plain_remove)] {
+        println!(
+            "{work} at place {place} of {used} {name} sites: {proved:.3} ms, Rust {plain:.3} ms, ratio {:.2}",
+            proved / plain
+        );
+    }
 }
 
 type Call = unsafe extern "C" fn(
@@ -436,6 +497,9 @@ fn main() {
     comparisons("many distances alike", &mut Random::new(3), 3);
     for (name, a, _) in &kinds {
         list_check(name, a);
+    }
+    for place in [0, SITES / 2, SITES] {
+        changes(kinds[0].0, &kinds[0].1, place);
     }
     k_lists(&kinds);
     distance_lists(&kinds);

@@ -36,6 +36,71 @@ pub fn check(l: List) -> u32 {
     if ascending { 0 } else { 3 }
 }
 
+/// A list that is changed, as it is lent.
+pub struct Lent<'a> {
+    pub x: &'a mut [i32],
+    pub y: &'a mut [i32],
+    pub number: &'a mut [u32],
+    pub height: &'a mut [i32],
+}
+
+impl Lent<'_> {
+    /// The sites in use tested, and the place of a site among them: where it stands, or where it belongs.
+    fn place(&self, used: usize, site: (i32, i32, u32)) -> Result<Result<usize, usize>, u32> {
+        let n = self.x.len();
+        if self.y.len() != n || self.number.len() != n || self.height.len() != n || used > n {
+            return Err(1);
+        }
+        let (x, y, number) = (&self.x[..used], &self.y[..used], &self.number[..used]);
+        match check(List { x, y, number, height: &self.height[..used] }) {
+            0 => {}
+            refusal => return Err(refusal),
+        }
+        let (mut low, mut high) = (0, used);
+        while low < high {
+            let middle = (low + high) / 2;
+            match (x[middle], y[middle], number[middle]).cmp(&site) {
+                Ordering::Less => low = middle + 1,
+                Ordering::Equal => return Ok(Ok(middle)),
+                Ordering::Greater => high = middle,
+            }
+        }
+        Ok(Err(low))
+    }
+
+    /// Moves a run of rows to another place.
+    fn shift(&mut self, from: std::ops::Range<usize>, to: usize) {
+        self.x.copy_within(from.clone(), to);
+        self.y.copy_within(from.clone(), to);
+        self.number.copy_within(from.clone(), to);
+        self.height.copy_within(from, to);
+    }
+
+    /// The place of a site that is added to the sites in use; there is room.
+    pub fn add(&mut self, used: usize, site: (i32, i32, u32), height: i32) -> Result<usize, u32> {
+        match self.place(used, site)? {
+            Ok(_) => Err(11),
+            Err(place) => {
+                self.shift(place..used, place + 1);
+                (self.x[place], self.y[place], self.number[place]) = site;
+                self.height[place] = height;
+                Ok(place)
+            }
+        }
+    }
+
+    /// The place of a site that is removed from the sites in use.
+    pub fn remove(&mut self, used: usize, site: (i32, i32, u32)) -> Result<usize, u32> {
+        match self.place(used, site)? {
+            Ok(place) => {
+                self.shift(place + 1..used, place);
+                Ok(place)
+            }
+            Err(_) => Err(16),
+        }
+    }
+}
+
 /// Where one entry stands to another, number by number: 0 before, 1 same, 2 after. It is called as the library's is.
 #[inline(never)]
 pub extern "C" fn compare_entries(ad: u64, ai: u32, aj: u32, bd: u64, bi: u32, bj: u32) -> u32 {

@@ -1,5 +1,5 @@
 -- Laws of a column into which one value is put, for any element.
-use mathlib.Core.Path.{_≡_, ap, _∙_}
+use mathlib.Core.Path.{_≡_}
 use mathlib.Core.List.{List, _∷_, _++_}
 use Prim.Native.Nat.{ℕ, zero, suc, _+_, _-_, _≤_, _<_}
 use native.Mathlib.Omega.{arith}
@@ -14,20 +14,20 @@ use Rattle.column.proofs.Moved.{Moved, moved-none, moved-up}
 -- ---- at the start of a column
 
 -- The elements from place `i` to `n` are moved up by one.
-pub record Raised {A : Type 0} (c : List A) (n i : ℕ) (column : List A) : Type 0 where
+pub record ShiftedUp {A : Type 0} (c : List A) (n i : ℕ) (column : List A) : Type 0 where
   pub to : i ≤ n
   pub moved : Moved c (suc i) i (n - i) column
 
 module _ {A : Type 0} (c : List A) (n : ℕ) where
-  pub raised-none : n < length c → Raised c n n c
-  raised-none room =
+  pub shifted-up-none : n < length c → ShiftedUp c n n c
+  shifted-up-none room =
       let none : n - n ≡ 0 = omega arith in
       record { to = omega arith; moved = rw none (moved-none c (suc n) n room) }
 
-  pub raised-more : (d : A) (i : ℕ) (column : List A) {v : A} → 0 < i → v ≡ getD column (i - 1) d → Raised c n i column
-      → Raised c n (i - 1) (set column i v)
-  raised-more d zero column h read r = absurd (omega arith)
-  raised-more d (suc i) column {v} h read r =
+  pub shifted-up-more : (d : A) (i : ℕ) (column : List A) {v : A} → 0 < i → v ≡ getD column (i - 1) d → ShiftedUp c n i column
+      → ShiftedUp c n (i - 1) (set column i v)
+  shifted-up-more d zero column h read r = absurd (omega arith)
+  shifted-up-more d (suc i) column {v} h read r =
       let one : suc i - 1 ≡ i = omega arith in
       let more : n - i ≡ suc (n - suc i) = omega (arith, r .to) in
       rw one (record {
@@ -36,10 +36,10 @@ module _ {A : Type 0} (c : List A) (n : ℕ) where
       })
 
   -- `u` is the value, as it was handed over.
-  pub raised-all : (i : ℕ) (column : List A) {u v : A} → i ≤ 0 → n < length c → u ≡ v → Raised c n i column
+  pub shifted-up-all : (i : ℕ) (column : List A) {u v : A} → i ≤ 0 → n < length c → u ≡ v → ShiftedUp c n i column
       → set column 0 u ≡ inserted 0 n v c
   unfolding inserted
-  raised-all i column {u} {v} h room read r =
+  shifted-up-all i column {u} {v} h room read r =
       let first : i ≡ 0 = omega arith in
       let whole : n - 0 ≡ n = omega arith in
       let is : column ≡ stored 1 (take n c) c = rw (first, whole) at (r .moved .holds) in
@@ -68,10 +68,8 @@ module _ {A : Type 0} (p n : ℕ) (c : List A) (low : p ≤ n) (room : n < lengt
       → take p c ++ (part ++ drop (length c - p) (drop p c)) ≡ inserted p n v c
   unfolding inserted
   inserted-part {u} {v} part read is =
-      let whole : take (length c - p) (drop p c) ≡ drop p c = take-all (length c - p) (drop p c) (rw length-drop (omega arith)) in
+      let all : length (drop p c) ≤ length c - p = rw length-drop (omega arith) in
       let same : (n - p) - 0 ≡ n - p = omega arith in
-      let run : v ∷ take ((n - p) - 0) (drop 0 (take (length c - p) (drop p c))) ≡ v ∷ take (n - p) (drop p c) = rw (same, whole) in
-      let rest = drop (length c - p) (drop p c) in
-      ap (λ (l : List A). take p c ++ (l ++ rest)) (rw read at is)
-      ∙ ap (λ (l : List A). take p c ++ (stored 0 l (take (length c - p) (drop p c)) ++ rest)) run
-      ∙ stored-part p (length c - p) (v ∷ take (n - p) (drop p c)) c (omega (arith, run-length)) (omega arith)
+      let run : v ∷ take ((n - p) - 0) (drop 0 (take (length c - p) (drop p c))) ≡ v ∷ take (n - p) (drop p c) =
+      rw (same, take-all (length c - p) (drop p c) all) in
+      rw (is, read, run) (stored-part p (v ∷ take (n - p) (drop p c)) c (omega (arith, run-length)))

@@ -1,11 +1,11 @@
 -- Values in a column from a position on: lengths, what stands beside them, and one run of values after another.
 use mathlib.Core.Path.{_≡_, refl, sym, ap, _∙_}
-use mathlib.Core.List.{List, [], _∷_, _++_, append-assoc}
+use mathlib.Core.List.{List, [], _∷_, _++_, append-assoc, append-nil}
 use Prim.Native.Nat.{ℕ, suc, _+_, _-_, _≤_, _<_}
 use native.Mathlib.Nat.{add-zero, zero-add}
 use native.Mathlib.Omega.{arith}
-use lib.ListN.{length, take, drop, getD, set, length-append, length-drop, take-append-drop, List·getD-append}
-use lib.Seq.{take-suc, append-snoc, set-at, drop-append-le, length-take-le, take-at, drop-at, drop-drop, getD-take, getD-drop, sets, sets-eq}
+use lib.ListN.{length, take, drop, getD, set, length-append, length-drop, take-append-drop, drop-of-length-le, List·getD-append}
+use lib.Seq.{take-suc, append-snoc, set-at, take-all, length-take-le, take-at, drop-at, drop-drop, getD-take, getD-drop, sets, sets-eq}
 use Rattle.column.specs.Column.{overwritten, stored}
 
 module _ {A : Type 0} where
@@ -93,16 +93,11 @@ module _ {A : Type 0} where
         ∙ ap (λ (r : List A). getD r (j - (at + length v)) d) drop-stored
         ∙ getD-drop (at + length v) l (j - (at + length v)) d)
 
-  -- Values stored at the start of a part of the column are stored at the part's place.
-  pub stored-part : (p m : ℕ) (v l : List A) → length v ≤ m → p + m ≤ length l
-      → take p l ++ (stored 0 v (take m (drop p l)) ++ drop m (drop p l)) ≡ stored p v l
+  -- Values stored at the start of the part from a place on are stored at the place.
+  pub stored-part : (p : ℕ) (v l : List A) → p + length v ≤ length l
+      → take p l ++ (stored 0 v (take (length l - p) (drop p l)) ++ drop (length l - p) (drop p l)) ≡ stored p v l
   unfolding stored
-  stored-part p m v l h inside =
-      let part = take m (drop p l) in
-      let long : length part ≡ m = length-take-le m (drop p l) (rw length-drop (omega arith)) in
-      let rest : drop (length v) part ++ drop m (drop p l) ≡ drop (p + length v) l =
-      sym (drop-append-le (length v) part (drop m (drop p l)) (omega (arith, long)))
-      ∙ ap (drop (length v)) (take-append-drop m (drop p l))
-      ∙ drop-drop (length v) p l in
-      ap (λ (r : List A). take p l ++ r)
-      (rw zero-add (append-assoc v (drop (length v) part) (drop m (drop p l))) ∙ ap (λ (r : List A). v ++ r) rest)
+  stored-part p v l h =
+      let all : length (drop p l) ≤ length l - p = rw length-drop (omega arith) in
+      let none : drop (length l - p) (drop p l) ≡ [] = drop-of-length-le (drop p l) {i = length l - p} all in
+      rw (take-all (length l - p) (drop p l) all, none, append-nil, zero-add, drop-drop (length v) p l)

@@ -61,40 +61,42 @@ pub fn insert_i32(column: &mut [i32], p: usize, n: usize, v: i32)
     push_i32(&mut column[p..], n - p, v);
 }
 
-// Takes out the first element, moving down by one all that stand behind it; the last one stays.
-fn pull_u32(column: &mut [u32])
-    ensures { λ _. let c = now (column .entry) in ⌜ now (column .exit) ≡ removed 0 (length c) c ⌝ }
+// Takes out the first element, moving down by one what stands behind it and before place `n`; the last of these stays.
+fn pull_u32(column: &mut [u32], n: usize)
+    requires { ⌜ n ≤ length (now column) ⌝ }
+    ensures { λ _. ⌜ now (column .exit) ≡ removed 0 n (now (column .entry)) ⌝ }
 {
     let mut i = 0;
-    while i + 1 < column.len() {
+    while i + 1 < n {
         column[i] = column[i + 1];
         i += 1;
     }
 }
 
-// Takes out the element at place `p`, moving down by one what stands behind it and before place `n`; the last one stays.
+// Takes out the element at place `p`, moving down by one what stands behind it and before place `n`; the last of these stays.
 pub fn remove_u32(column: &mut [u32], p: usize, n: usize)
     requires { ⌜ (p < n) × (n ≤ length (now column)) ⌝ }
     ensures { λ _. ⌜ now (column .exit) ≡ removed p n (now (column .entry)) ⌝ }
 {
-    pull_u32(&mut column[p..n]);
+    pull_u32(&mut column[p..], n - p);
 }
 
-// Takes out the first element, moving down by one all that stand behind it; the last one stays.
-fn pull_i32(column: &mut [i32])
-    ensures { λ _. let c = now (column .entry) in ⌜ now (column .exit) ≡ removed 0 (length c) c ⌝ }
+// Takes out the first element, moving down by one what stands behind it and before place `n`; the last of these stays.
+fn pull_i32(column: &mut [i32], n: usize)
+    requires { ⌜ n ≤ length (now column) ⌝ }
+    ensures { λ _. ⌜ now (column .exit) ≡ removed 0 n (now (column .entry)) ⌝ }
 {
     let mut i = 0;
-    while i + 1 < column.len() {
+    while i + 1 < n {
         column[i] = column[i + 1];
         i += 1;
     }
 }
 
-// Takes out the element at place `p`, moving down by one what stands behind it and before place `n`; the last one stays.
+// Takes out the element at place `p`, moving down by one what stands behind it and before place `n`; the last of these stays.
 pub fn remove_i32(column: &mut [i32], p: usize, n: usize)
     requires { ⌜ (p < n) × (n ≤ length (now column)) ⌝ }
     ensures { λ _. ⌜ now (column .exit) ≡ removed p n (now (column .entry)) ⌝ }
 {
-    pull_i32(&mut column[p..n]);
+    pull_i32(&mut column[p..], n - p);
 }

@@ -4,11 +4,12 @@ use mathlib.Core.List.{List, [], _∷_, map, zipWith}
 use Prim.Native.Nat.{ℕ, _<_}
 use native.Mathlib.Omega.{arith}
 use lib.IntN.{ℤ, pos}
-use lib.ListN.{length, getD, length-map}
+use lib.ListN.{length, take, getD, length-map}
+use lib.Seq.{getD-take}
 use Rattle.order.specs.Lists.{All}
-use Rattle.order.proofs.Lists.{length-zip, zip-at}
+use Rattle.order.proofs.Lists.{length-zip, zip-at, zip-take}
 use Rattle.site.specs.Site.{Site}
-use Rattle.site.specs.SiteList.{Columns, columns, Plane, site, withCoordinate, withColumns, sites, siteAt, columnsOf}
+use Rattle.site.specs.SiteList.{Columns, columns, Plane, site, withCoordinate, withColumns, sites, siteAt, columnsOf, inUse}
 use Rattle.site.specs.Terms.{Level}
 
 -- The site that stands where a list has none.
@@ -90,6 +91,28 @@ module _ (c : Columns) (level : Level c) where
   pub site-at : (i : ℕ) → i < length (c .x) → siteAt (sites c) i ≡ columnsAt c i
   unfolding siteAt
   site-at i h = sites-at i nowhere h
+
+-- ---- the sites in use
+
+columns-take : (n : ℕ) (further : List (List ℤ)) (l : List Site)
+    → withColumns (map (take n) further) (take n l) ≡ take n (withColumns further l)
+unfolding withColumns
+columns-take n [] l = refl
+columns-take n (column ∷ further) l =
+    ap (zipWith withCoordinate (take n column)) (columns-take n further l) ∙ zip-take withCoordinate n column (withColumns further l)
+
+pub sites-take : (n : ℕ) (c : Columns) → sites (inUse n c) ≡ take n (sites c)
+unfolding sites inUse
+sites-take n c =
+    ap (withColumns (map (take n) (c .further)))
+    (ap (λ (makes : List (ℕ → Site)). zipWith (λ make k. make k) makes (take n (c .number))) (zip-take site n (c .x) (c .y))
+    ∙ zip-take (λ make k. make k) n (zipWith site (c .x) (c .y)) (c .number))
+    ∙ columns-take n (c .further) (zipWith (λ make k. make k) (zipWith site (c .x) (c .y)) (c .number))
+
+-- The site at a place of those in use.
+pub in-use-at : (n : ℕ) (c : Columns) (i : ℕ) → i < n → siteAt (sites (inUse n c)) i ≡ siteAt (sites c) i
+unfolding siteAt
+in-use-at n c i h = ap (λ (l : List Site). getD l i nowhere) (sites-take n c) ∙ getD-take n (sites c) i nowhere h
 
 -- ---- the site list in the plane
 

@@ -52,7 +52,7 @@ fn add_refusal(
     if 65_535 <= count {
         return 6;
     }
-    if in_use::is_in_use(x, y, number, n, sx, sy, sn) {
+    if in_use::is_present(x, y, number, n, sx, sy, sn) {
         return 11;
     }
     0
@@ -98,7 +98,7 @@ pub fn add(
         return Changed::Refused(refusal);
     }
     let n = count as usize;
-    let place = in_use::place_in_use(x, y, number, n, s.x, s.y, s.number);
+    let place = in_use::place_of(x, y, number, n, s.x, s.y, s.number);
     insert_site(x, y, number, height, place as usize, n, s);
     Changed::At {
         place,

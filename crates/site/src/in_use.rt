@@ -74,54 +74,30 @@ fn same_at(x: &[i32], y: &[i32], number: &[u32], i: usize, sx: i32, sy: i32, sn:
     same(x[i], y[i], number[i], sx, sy, sn)
 }
 
-// The place of a site in a list: how many of its sites come before it.
-fn place_of(x: &[i32], y: &[i32], number: &[u32], sx: i32, sy: i32, sn: u32) -> u32
-    requires { ⌜ (Level (columns (now x) (now y) (now number))) × (length (now x) ≤ 65_535) ⌝ }
-    ensures { λ r. ⌜ r ≡ placeOf (site sx sy sn) (sites (lentPlane x y number .entry)) ⌝ }
+// The place of a site among the first `n`: how many of them come before it.
+pub fn place_of(x: &[i32], y: &[i32], number: &[u32], n: usize, sx: i32, sy: i32, sn: u32) -> u32
+    requires { ⌜ (Level (columns (now x) (now y) (now number))) × (n ≤ length (now x)) × (n ≤ 65_535) ⌝ }
+    ensures { λ r. ⌜ r ≡ placeOf (site sx sy sn) (sites (inUse n (lentPlane x y number .entry))) ⌝ }
 {
     let mut place: u32 = 0;
     let mut i = 0;
-    while i < x.len() {
+    while i < n {
         place += earlier_at(x, y, number, i, sx, sy, sn);
         i += 1;
     }
     place
 }
 
-// Whether a site stands in a list.
-fn is_present(x: &[i32], y: &[i32], number: &[u32], sx: i32, sy: i32, sn: u32) -> bool
-    requires { ⌜ (Level (columns (now x) (now y) (now number))) × (length (now x) ≤ 65_535) ⌝ }
-    ensures { λ r. ⌜ r ≡ present (site sx sy sn) (sites (lentPlane x y number .entry)) ⌝ }
+// Whether a site stands among the first `n`.
+pub fn is_present(x: &[i32], y: &[i32], number: &[u32], n: usize, sx: i32, sy: i32, sn: u32) -> bool
+    requires { ⌜ (Level (columns (now x) (now y) (now number))) × (n ≤ length (now x)) × (n ≤ 65_535) ⌝ }
+    ensures { λ r. ⌜ r ≡ present (site sx sy sn) (sites (inUse n (lentPlane x y number .entry))) ⌝ }
 {
     let mut same: u32 = 0;
     let mut i = 0;
-    while i < x.len() {
+    while i < n {
         same += same_at(x, y, number, i, sx, sy, sn);
         i += 1;
     }
     same != 0
-}
-
-// The place of a site among the first `n`.
-pub fn place_in_use(
-    x: &[i32],
-    y: &[i32],
-    number: &[u32],
-    n: usize,
-    sx: i32,
-    sy: i32,
-    sn: u32,
-) -> u32
-    requires { ⌜ (Level (columns (now x) (now y) (now number))) × (n ≤ length (now x)) × (n ≤ 65_535) ⌝ }
-    ensures { λ r. ⌜ r ≡ placeOf (site sx sy sn) (sites (inUse n (lentPlane x y number .entry))) ⌝ }
-{
-    place_of(&x[..n], &y[..n], &number[..n], sx, sy, sn)
-}
-
-// Whether a site stands among the first `n`.
-pub fn is_in_use(x: &[i32], y: &[i32], number: &[u32], n: usize, sx: i32, sy: i32, sn: u32) -> bool
-    requires { ⌜ (Level (columns (now x) (now y) (now number))) × (n ≤ length (now x)) × (n ≤ 65_535) ⌝ }
-    ensures { λ r. ⌜ r ≡ present (site sx sy sn) (sites (inUse n (lentPlane x y number .entry))) ⌝ }
-{
-    is_present(&x[..n], &y[..n], &number[..n], sx, sy, sn)
 }

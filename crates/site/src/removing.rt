@@ -26,7 +26,7 @@ fn remove_refusal(
     if refusal != 0 {
         return refusal;
     }
-    if in_use::is_in_use(x, y, number, count as usize, sx, sy, sn) {
+    if in_use::is_present(x, y, number, count as usize, sx, sy, sn) {
         0
     } else {
         16
@@ -74,7 +74,7 @@ pub fn remove(
         return Changed::Refused(refusal);
     }
     let n = count as usize;
-    let place = in_use::place_in_use(x, y, number, n, sx, sy, sn);
+    let place = in_use::place_of(x, y, number, n, sx, sy, sn);
     remove_site(x, y, number, height, place as usize, n);
     Changed::At {
         place,

@@ -49,7 +49,7 @@ learnt c =
 abbrev begun : tie.Else1 → tie.Start
 begun c = start (c .before)
 
-abbrev passed : tie.After-place-in-use → tie.Else1
+abbrev passed : tie.After-place-of → tie.Else1
 passed c = c .before .before .before .before .before .before
 
 accepted : (c : tie.Else1) → addRefusal (lent (begun c)) (begun c .args .count) (new (begun c)) ≡ 0
@@ -68,19 +68,19 @@ returns : tie.Need-returns
 unfolding addAnswer
 returns c = let e = start (c .before) in unchanged _ (lent e) (learnt (c .before)) (c .if1 .taken)
 
-place-in-use-requires : tie.Need-place-in-use-requires
-place-in-use-requires c κs =
+place-of-requires : tie.Need-place-of-requires
+place-of-requires c κs =
     let f = c .before .before .before .before .before in
     let e = begun f in
     (flat-level _ (level f), used-inside (lent e) (e .args .count) (used f), used-few (lent e) (e .args .count) (used f))
 
-learnt-place : (c : tie.After-place-in-use)
-    → (let e = begun (passed c) in c .place-in-use .result ≡ placeOf (new e) (sites (inUse (e .args .count) (lent e))))
+learnt-place : (c : tie.After-place-of)
+    → (let e = begun (passed c) in c .place-of .result ≡ placeOf (new e) (sites (inUse (e .args .count) (lent e))))
 learnt-place c =
     let f = passed c in
     let e = begun f in
     let n = e .args .count in
-    c .place-in-use .ensures
+    c .place-of .ensures
     ∙ (λ i. placeOf (site (toZ-ofZ (fits-x (f .before)) i) (toZ-ofZ (fits-y (f .before)) i) (e .args .s .number)) (sites (inUse n (flattened (lent e)))))
     ∙ in-use-place (lent e) n (level f) (used-inside (lent e) n (used f)) (new e)
 
@@ -102,7 +102,7 @@ insert-site-requires c κs =
 abbrev put : tie.After-height → tie.After-insert-site
 put c = c .before .before .before .before .before
 
-abbrev found : tie.After-insert-site → tie.After-place-in-use
+abbrev found : tie.After-insert-site → tie.After-place-of
 found h = h .before .before .before .before .before
 
 add-count : (c : tie.Else1) → begun c .args .count < 65_535
@@ -129,7 +129,7 @@ add-spec =
     (λ c. search needs)
     (λ c. search needs)
     returns
-    place-in-use-requires
+    place-of-requires
     (λ c. search needs)
     insert-site-requires
     (λ c. omega (arith, add-count (passed (found (put c)))))

@@ -67,23 +67,23 @@ returns-4 c =
 abbrev from4 : tie.Else4 → tie.Else2
 from4 c = c .before .before
 
-is-in-use-requires : tie.Need-is-in-use-requires
-is-in-use-requires c κs =
+is-present-requires : tie.Need-is-present-requires
+is-present-requires c κs =
     let f = from2 (from4 c) in
     let e = from1 f in
     let n = e .args .count in
     (flat-level _ (used-level (lent e) n (accepted f)), used-inside (lent e) n (accepted f), used-few (lent e) n (accepted f))
 
-abbrev start : tie.After-is-in-use → tie.Else1
+abbrev start : tie.After-is-present → tie.Else1
 start c = from2 (from4 (c .before))
 
-learnt-present : (c : tie.After-is-in-use)
-    → (let e = from1 (start c) in c .is-in-use .result ≡ present (new e) (sites (inUse (e .args .count) (lent e))))
+learnt-present : (c : tie.After-is-present)
+    → (let e = from1 (start c) in c .is-present .result ≡ present (new e) (sites (inUse (e .args .count) (lent e))))
 learnt-present c =
     let e = from1 (start c) in
     let n = e .args .count in
     let ok = accepted (start c) in
-    c .is-in-use .ensures
+    c .is-present .ensures
     ∙ (λ i. present (site (toZ-ofZ (e .fits .sx) i) (toZ-ofZ (e .fits .sy) i) (e .args .sn)) (sites (inUse n (flattened (lent e)))))
     ∙ in-use-present (lent e) n (used-level (lent e) n ok) (used-inside (lent e) n ok) (new e)
 
@@ -113,6 +113,6 @@ add-refusal-spec =
     returns-2
     returns-3
     returns-4
-    is-in-use-requires
+    is-present-requires
     returns-5
     returns-6)

@@ -37,7 +37,7 @@ learnt c =
 abbrev begun : tie.Else1 → tie.Start
 begun c = start (c .before)
 
-abbrev passed : tie.After-place-in-use → tie.Else1
+abbrev passed : tie.After-place-of → tie.Else1
 passed c = c .before .before .before .before
 
 accepted : (c : tie.Else1) → removeRefusal (lent (begun c)) (begun c .args .count) (asked (begun c)) ≡ 0
@@ -53,23 +53,23 @@ returns : tie.Need-returns
 unfolding removeAnswer
 returns c = let e = start (c .before) in unchanged _ (lent e) (learnt (c .before)) (c .if1 .taken)
 
-place-in-use-requires : tie.Need-place-in-use-requires
-place-in-use-requires c κs =
+place-of-requires : tie.Need-place-of-requires
+place-of-requires c κs =
     let f = c .before .before .before in
     let e = begun f in
     (flat-level _ (level f), used-inside (lent e) (e .args .count) (used f), used-few (lent e) (e .args .count) (used f))
 
-learnt-place : (c : tie.After-place-in-use)
-    → (let e = begun (passed c) in c .place-in-use .result ≡ placeOf (asked e) (sites (inUse (e .args .count) (lent e))))
+learnt-place : (c : tie.After-place-of)
+    → (let e = begun (passed c) in c .place-of .result ≡ placeOf (asked e) (sites (inUse (e .args .count) (lent e))))
 learnt-place c =
     let f = passed c in
     let e = begun f in
     let n = e .args .count in
-    c .place-in-use .ensures
+    c .place-of .ensures
     ∙ (λ i. placeOf (site (toZ-ofZ (e .fits .sx) i) (toZ-ofZ (e .fits .sy) i) (e .args .sn)) (sites (inUse n (flattened (lent e)))))
     ∙ in-use-place (lent e) n (level f) (used-inside (lent e) n (used f)) (asked e)
 
-low : (c : tie.After-place-in-use) → c .place-in-use .result < begun (passed c) .args .count
+low : (c : tie.After-place-of) → c .place-of .result < begun (passed c) .args .count
 low c =
     let f = passed c in
     let e = begun f in
@@ -88,7 +88,7 @@ remove-site-requires c κs =
 abbrev taken-out : tie.After-height → tie.After-remove-site
 taken-out c = c .before .before .before .before .before
 
-abbrev found : tie.After-remove-site → tie.After-place-in-use
+abbrev found : tie.After-remove-site → tie.After-place-of
 found h = h .before .before .before .before .before
 
 returns-2 : tie.Need-returns-2
@@ -111,7 +111,7 @@ remove-spec =
     (λ c. search needs)
     (λ c. search needs)
     returns
-    place-in-use-requires
+    place-of-requires
     (λ c. search needs)
     remove-site-requires
     (λ c. omega (arith, low (found (taken-out c))))

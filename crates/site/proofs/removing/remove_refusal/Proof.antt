@@ -29,19 +29,19 @@ returns c =
     let e = c .before .before .before in
     remove-used (lent e) (e .args .count) (asked e) (c .before .used-refusal .ensures) (c .if1 .taken)
 
-is-in-use-requires : tie.Need-is-in-use-requires
-is-in-use-requires c κs =
+is-present-requires : tie.Need-is-present-requires
+is-present-requires c κs =
     let e = begun c in
     let n = e .args .count in
     (flat-level _ (used-level (lent e) n (accepted c)), used-inside (lent e) n (accepted c), used-few (lent e) n (accepted c))
 
-learnt : (c : tie.After-is-in-use)
-    → (let e = begun (c .before) in c .is-in-use .result ≡ present (asked e) (sites (inUse (e .args .count) (lent e))))
+learnt : (c : tie.After-is-present)
+    → (let e = begun (c .before) in c .is-present .result ≡ present (asked e) (sites (inUse (e .args .count) (lent e))))
 learnt c =
     let e = begun (c .before) in
     let n = e .args .count in
     let ok = accepted (c .before) in
-    c .is-in-use .ensures
+    c .is-present .ensures
     ∙ (λ i. present (site (toZ-ofZ (e .fits .sx) i) (toZ-ofZ (e .fits .sy) i) (e .args .sn)) (sites (inUse n (flattened (lent e)))))
     ∙ in-use-present (lent e) n (used-level (lent e) n ok) (used-inside (lent e) n ok) (asked e)
 
@@ -59,4 +59,4 @@ returns-3 c =
 
 pub remove-refusal-spec : {M : Type 1} → statement M
 remove-refusal-spec =
-    tie.close (tie.spec (λ c κs. search needs) returns is-in-use-requires returns-2 returns-3)
+    tie.close (tie.spec (λ c κs. search needs) returns is-present-requires returns-2 returns-3)
