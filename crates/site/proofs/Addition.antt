@@ -18,19 +18,9 @@ abbrev noRoom : Columns → ℕ → Bool
 noRoom c n = leb (length (c .x)) n || leb 65_535 n
 
 module _ (c : Columns) (n : ℕ) (s : Site) where
-  -- What is tested after the sites in use, after the new site, and after the room.
-  after-room : ℕ
-  after-room = cond (present s (sites (inUse n c))) 11 0
-
-  after-site : ℕ
-  after-site = orElse (cond (noRoom c n) 6 0) after-room
-
-  after-use : ℕ
-  after-use = orElse (cond (not (lawfulSite s)) 2 0) after-site
-
   pub add-used : {r : ℕ} → r ≡ usedRefusal c n → (r ≡ 0 → ⊥) → r ≡ addRefusal c n s
-  unfolding addRefusal after-use after-site after-room
-  add-used e h = first-refused after-use e h
+  unfolding addRefusal
+  add-used e h = first-refused _ e h
 
   module _ (ok : usedRefusal c n ≡ 0) where
     pub add-outside : lawfulSite s ≡ false → 2 ≡ addRefusal c n s
@@ -58,28 +48,25 @@ module _ (c : Columns) (n : ℕ) (s : Site) where
   -- What an accepted addition has.
   module _ (ok : addRefusal c n s ≡ 0) where
     pub added-used : usedRefusal c n ≡ 0
-    unfolding addRefusal after-use after-site after-room
-    added-used = orElse-first (usedRefusal c n) after-use ok
+    unfolding addRefusal
+    added-used = orElse-first (usedRefusal c n) _ ok
 
-    site-rest : after-use ≡ 0
-    unfolding addRefusal after-use after-site after-room
-    site-rest = orElse-second (usedRefusal c n) after-use ok
+    -- What is tested after the sites in use, and after the new site.
+    site-rest : orElse (cond (not (lawfulSite s)) 2 0) (orElse (cond (noRoom c n) 6 0) (cond (present s (sites (inUse n c))) 11 0)) ≡ 0
+    unfolding addRefusal
+    site-rest = orElse-second (usedRefusal c n) _ ok
+
+    room-rest : orElse (cond (noRoom c n) 6 0) (cond (present s (sites (inUse n c))) 11 0) ≡ 0
+    room-rest = orElse-second (cond (not (lawfulSite s)) 2 0) _ site-rest
 
     pub added-lawful : lawfulSite s ≡ true
-    unfolding after-use
-    added-lawful = fault-none (lawfulSite s) 1 (orElse-first (cond (not (lawfulSite s)) 2 0) after-site site-rest)
-
-    room-rest : after-site ≡ 0
-    unfolding after-use
-    room-rest = orElse-second (cond (not (lawfulSite s)) 2 0) after-site site-rest
+    added-lawful = fault-none (lawfulSite s) 1 (orElse-first _ (orElse (cond (noRoom c n) 6 0) _) site-rest)
 
     room-left : noRoom c n ≡ false
-    unfolding after-site
-    room-left = no-fault (noRoom c n) 5 (orElse-first (cond (noRoom c n) 6 0) after-room room-rest)
+    room-left = no-fault (noRoom c n) 5 (orElse-first _ (cond (present s (sites (inUse n c))) 11 0) room-rest)
 
     pub added-new : present s (sites (inUse n c)) ≡ false
-    unfolding after-site after-room
-    added-new = no-fault (present s (sites (inUse n c))) 10 (orElse-second (cond (noRoom c n) 6 0) after-room room-rest)
+    added-new = no-fault (present s (sites (inUse n c))) 10 (orElse-second (cond (noRoom c n) 6 0) _ room-rest)
 
     pub added-room : n < length (c .x)
     added-room = leb-false (length (c .x)) n (or-first (leb (length (c .x)) n) (leb 65_535 n) room-left)

@@ -1,6 +1,6 @@
 -- The refusal of a removal, by the tests in their order, and what an accepted one has.
 use mathlib.Core.Path.{_≡_}
-use mathlib.Core.Bool.{true, false, not, cond}
+use mathlib.Core.Bool.{true, false}
 use Prim.Native.Nat.{ℕ}
 use Rattle.site.specs.Answer.{orElse}
 use Rattle.site.specs.Site.{Site}
@@ -27,7 +27,7 @@ module _ (c : Columns) (n : ℕ) (s : Site) where
   module _ (ok : removeRefusal c n s ≡ 0) where
     pub removed-used : usedRefusal c n ≡ 0
     unfolding removeRefusal
-    removed-used = orElse-first (usedRefusal c n) (cond (not (present s (sites (inUse n c)))) 16 0) ok
+    removed-used = orElse-first (usedRefusal c n) _ ok
 
     pub removed-present : present s (sites (inUse n c)) ≡ true
     unfolding removeRefusal
