@@ -20,5 +20,5 @@ pub mod Removal
 pub mod Rows
 pub mod InsertSite
 pub mod RemoveSite
-pub mod AddRemove
+pub mod Undoing
 pub mod Examples

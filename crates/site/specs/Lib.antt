@@ -6,5 +6,6 @@ pub mod Refusal
 pub mod InUse
 pub mod Addition
 pub mod Removal
+pub mod Undoing
 -- Nothing to believe: terms of contracts that other crates cite.
 pub mod Terms

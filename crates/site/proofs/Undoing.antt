@@ -1,4 +1,4 @@
--- "Adding and at once removing one site, or the reverse, gives back the columns' used part." (02 f)
+-- Adding and removing undo each other.
 use mathlib.Core.Path.{_≡_, refl, sym, ap, _∙_}
 use mathlib.Core.Bool.{true, false, not}
 use mathlib.Core.List.{List}
@@ -9,13 +9,13 @@ use lib.Seq.{length-take-le}
 use Rattle.order.specs.Order.{lex}
 use Rattle.order.proofs.Lists.{all-at, holds-all}
 use Rattle.order.proofs.Places.{put, without, placeBy, put-found, place-put, without-new, place-without}
-use Rattle.site.specs.Answer.{Answer, answered}
 use Rattle.site.specs.Site.{Site, lawfulSite, siteBefore}
 use Rattle.site.specs.SiteList.{Columns, sites, siteAt, inUse}
 use Rattle.site.specs.Terms.{Level}
-use Rattle.site.specs.InUse.{placeOf, present, ChangeValues, changeValues}
+use Rattle.site.specs.InUse.{placeOf, present, changeValues}
 use Rattle.site.specs.Addition.{addRefusal, insertSite, addAnswer}
 use Rattle.site.specs.Removal.{removeRefusal, removeSite, removeAnswer}
+use Rattle.site.specs.Undoing.{GivenBack, Undoing}
 use Rattle.site.proofs.SiteBefore.{site-order}
 use Rattle.site.proofs.SiteList.{nowhere, flat-site, site-at}
 use Rattle.site.proofs.Answer.{answer-values}
@@ -26,14 +26,6 @@ use Rattle.site.proofs.Removal.{remove-ok, removed-used}
 use Rattle.site.proofs.Rows.{putRow, withoutRow, without-row-put, put-row-without, in-use-inserted, in-use-removed, length-inserted-x, level-inserted, length-removed-x, level-removed}
 use Rattle.site.proofs.InsertSite as inserting
 use Rattle.site.proofs.RemoveSite as removing
-
--- The answer is the place and the count, and the used part is that of `c`.
-pub record GivenBack (c : Columns) (n place : ℕ) (answer : Answer ChangeValues) : Type 0 where
-  pub values : ChangeValues
-  pub answers : answer ≡ answered values
-  pub same-place : values .place ≡ place
-  pub same-count : values .count ≡ n
-  pub same-used : inUse n (values .columns) ≡ inUse n c
 
 -- No height is given to a removal: it looks at x, y and number alone.
 remove-flat : (c : Columns) (n : ℕ) (s : Site) → removeAnswer c n (flat-site s) ≡ removeAnswer c n s
@@ -89,17 +81,10 @@ module _ (c : Columns) (n : ℕ) (s : Site) (fit : length (s .further) ≡ lengt
   back = record {
     values = changeValues (removeSite (placeOf s larger) (n + 1) d) (placeOf s larger) ((n + 1) - 1);
     answers = sym (answer-values (sym (remove-ok d (n + 1) s (inserting.after-used c n s fit ok) there)));
-    same-place = its-place;
-    same-count = omega arith;
-    same-used = ap (λ (q : ℕ). inUse n (removeSite q (n + 1) d)) its-place ∙ shrunk;
+    samePlace = its-place;
+    sameCount = omega arith;
+    sameUsed = ap (λ (q : ℕ). inUse n (removeSite q (n + 1) d)) its-place ∙ shrunk;
   }
-
--- The site that was added has as many coordinates as there are columns of them; it is named by x, y and number.
-pub add-remove : (c : Columns) (n : ℕ) (s : Site) {v : ChangeValues} → length (s .further) ≡ length (c .further)
-    → addAnswer c n s ≡ answered v → GivenBack c n (v .place) (removeAnswer (v .columns) (v .count) (flat-site s))
-add-remove c n s {v} fit told =
-    let e = inserting.added-values c n s fit told in
-    rw (← e .1, remove-flat) (back c n s fit (e .0))
 
 -- ---- removing, then adding
 
@@ -176,12 +161,19 @@ module _ (c : Columns) (n : ℕ) (s : Site) (ok : removeRefusal c n s ≡ 0) whe
   again = record {
     values = changeValues (insertSite (placeOf t smaller) (n - 1) t rest) (placeOf t smaller) ((n - 1) + 1);
     answers = sym (answer-values acceptable);
-    same-place = t-place;
-    same-count = omega (arith, gone-low);
-    same-used = ap (λ (q : ℕ). inUse n (insertSite q (n - 1) t rest)) t-place ∙ grown;
+    samePlace = t-place;
+    sameCount = omega (arith, gone-low);
+    sameUsed = ap (λ (q : ℕ). inUse n (insertSite q (n - 1) t rest)) t-place ∙ grown;
   }
 
--- The site that was taken out is added, with the height it had.
-pub remove-add : (c : Columns) (n : ℕ) (s : Site) {v : ChangeValues} → removeAnswer c n s ≡ answered v
-    → GivenBack c n (v .place) (addAnswer (v .columns) (v .count) (siteAt (sites (inUse n c)) (v .place)))
-remove-add c n s {v} told = let e = removing.removed-values c n s told in rw (← e .1) (again c n s (e .0))
+pub undoing : Undoing
+undoing = record {
+  addingUndone = λ c n s v fit told.
+      let e = inserting.added-values c n s fit told in
+      rw (← e .1, remove-flat) (back c n s fit (e .0));
+  removingUndone = λ c n s v told.
+      let e = removing.removed-values c n s told in
+      rw (← e .1) (again c n s (e .0));
+  asked = λ c n s v told. removing.removed-site c n s told;
+  lawful = λ c n s v told. removing.removed-accepted c n s told;
+}
