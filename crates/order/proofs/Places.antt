@@ -6,6 +6,7 @@ use mathlib.Core.List.{List, [], _∷_, _++_, zipWith, Permᴰ·symm}
 use Prim.Native.Nat.{ℕ, zero, suc, _≤_, _<_}
 use native.Mathlib.Nat.{le-of-suc-le-suc}
 use native.Mathlib.Omega.{arith}
+use lib.Dec.{leb, leb·suc-suc, leb·suc-zero}
 use lib.ListN.{length, take, drop, getD}
 use Rattle.order.specs.Lists.{all, keep, All}
 use Rattle.order.specs.Sort.{insert}
@@ -105,6 +106,11 @@ module _ {A : Type 0} {same : A → A → Type 0} {before : A → A → Bool} (o
   ascends-without (suc p) [] s = tt
   ascends-without (suc p) (a ∷ l) s = (all-without (λ b. before a b ≡ true) p l (s .0), ascends-without p l (s .1))
 
+  -- What comes before an element comes before all that this comes before.
+  later-apart : (e h : A) (t : List A) → All (λ b. before h b ≡ true) t → before e h ≡ true → All (λ b. apart e b ≡ true) t
+  later-apart e h t s q =
+      all-weaken (λ b. before h b ≡ true) (λ b. apart e b ≡ true) (λ b r. rw (before-trans o e h b q r) (or-true (before b e))) t s
+
   -- What is not new stands at its place.
   pub place-found : (e d : A) (l : List A) → Ascends before l → all (apart e) l ≡ false
       → (placeBy before e l < length l) × same (getD l (placeBy before e l) d) e
@@ -118,11 +124,20 @@ module _ {A : Type 0} {same : A → A → Type 0} {before : A → A → Bool} (o
       (λ p.
       byTest (before e h)
       (λ q.
-      let later = all-weaken (λ b. before h b ≡ true) (λ b. apart e b ≡ true)
-      (λ b r. rw (before-trans o e h b q r) (or-true (before b e))) t (s .0) in
-      let whole : all (apart e) t ≡ false = rw (p, q) at f in
-      never-both (holds-all (apart e) t later) whole)
+      let none : all (apart e) t ≡ false = rw (p, q) at f in
+      never-both (holds-all (apart e) t (later-apart e h t (s .0) q)) none)
       (λ q. rw (first-place e h t s p) (omega arith, o .total h e p q)))
+
+  -- What is new belongs past the end, or comes before what stands at its place.
+  pub new-at-place : (e d : A) (l : List A) → Ascends before l
+      → all (apart e) l ≡ (leb (length l) (placeBy before e l) || before e (getD l (placeBy before e l) d))
+  unfolding Ascends all keep
+  new-at-place e d [] s = refl
+  new-at-place e d (h ∷ t) s =
+      byTest (before h e)
+      (λ p. rw (keep-yes (λ x. before x e) h t p, p, leb·suc-suc) (new-at-place e d t (s .1)))
+      (λ p. rw (first-place e h t s p, leb·suc-zero, p)
+      (byTest (before e h) (λ q. rw q (holds-all (apart e) t (later-apart e h t (s .0) q))) (λ q. rw q)))
 
   -- What was put in is not new, and stands where it was put.
   pub put-found : (p : ℕ) (e : A) (l : List A) → all (apart e) (put p e l) ≡ false

@@ -10,20 +10,21 @@ use lib.IntN.{ℤ}
 use lib.ListN.{length, take, length-take}
 use lib.Seq.{length-take-le}
 use Rattle.order.specs.Lists.{all}
+use Rattle.order.specs.Order.{ascending}
 use Rattle.order.proofs.Lists.{all-map, all-weaken}
 use Rattle.site.specs.declared.Changed.the-variants.{At, Refused}
 use Rattle.site.specs.Answer.{answerUnless, afterwards, orElse}
-use Rattle.site.specs.Site.{Site}
+use Rattle.site.specs.Site.{Site, siteBefore}
 use Rattle.site.specs.SiteList.{Columns, raised, sites, inUse}
 use Rattle.site.specs.Terms.{Level}
 use Rattle.site.specs.Refusal.{equalLengths, sizeFault, contentRefusal, listRefusal}
 use Rattle.site.specs.InUse.{usedRefusal, placeOf, present, ChangeValues, changeValues, changedAnswer}
 use Rattle.site.proofs.Tests.{and-first, and-second}
 use Rattle.site.proofs.Answer.{answer-values, answer-refused, after-refused, after-answered, orElse-first, orElse-second, fault-none}
-use Rattle.site.proofs.SiteList.{sites-length, flattened, flat-site, flat-sites}
+use Rattle.site.proofs.SiteList.{sites-length, flattened, flat-level, flat-site, flat-sites}
 use Rattle.site.proofs.PlaceOf.{place-flat, present-flat}
-use Rattle.site.proofs.Refusal.{level-equal, equal-level, content-left}
-use Rattle.site.proofs.Accepted.{LawfulList, content-inside, content-ascends, lawful-accepted}
+use Rattle.site.proofs.Refusal.{level-equal, equal-level, content-left, flat-ascending}
+use Rattle.site.proofs.Accepted.{LawfulList, content-inside, content-order, content-ascends, lawful-accepted}
 
 -- ---- the refusal
 
@@ -70,6 +71,11 @@ module _ (c : Columns) (n : ℕ) where
       unfolding inUse
       in-use-present s = ap (present (flat-site s)) (sym (flat-sites (inUse n c) in-use-level)) ∙ present-flat s (sites (inUse n c))
 
+      -- They ascend where those in the plane do.
+      pub in-use-ascending : ascending siteBefore (sites (inUse n (flattened c))) ≡ ascending siteBefore (sites (inUse n c))
+      unfolding inUse
+      in-use-ascending = flat-ascending (inUse n c) in-use-level
+
       pub used-list : n ≤ 65_535 → listRefusal (inUse n c) ≡ usedRefusal c n
       unfolding usedRefusal sizeFault orElse inUse
       used-list few =
@@ -105,6 +111,14 @@ module _ (c : Columns) (n : ℕ) (ok : usedRefusal c n ≡ 0) where
   pub used-content : contentRefusal (sites (inUse n c)) ≡ 0
   unfolding usedRefusal
   used-content = orElse-second (cond (sizeFault c n) 1 0) (contentRefusal (sites (inUse n c))) ok
+
+  -- What a look for a site among them asks.
+  pub used-asked : ((Level (flattened c)) × (n ≤ length (c .x)) × (n ≤ 65_535))
+      × (ascending siteBefore (sites (inUse n (flattened c))) ≡ true)
+  used-asked = (
+    (flat-level c used-level, used-inside, used-few),
+    in-use-ascending c n used-level used-inside ∙ content-order (sites (inUse n c)) used-content,
+  )
 
   pub used-lawful : LawfulList (inUse n c)
   unfolding inUse

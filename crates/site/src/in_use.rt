@@ -1,16 +1,17 @@
 // The sites in use: their refusal, the place of a site among them, and whether it is there.
 use super::lists;
 ghost use mathlib.Core.Path.{_≡_};
-ghost use mathlib.Core.Bool.{cond, _||_};
+ghost use mathlib.Core.Bool.{true, cond};
 ghost use Prim.Native.Nat.{_≤_, _<_};
 ghost use lib.ListN.{length};
+ghost use Rattle.order.specs.Order.{ascending};
 ghost use Rattle.site.specs.Site.{siteBefore};
 ghost use Rattle.site.specs.SiteList.{site, columns, lentPlane, lentList, sites, siteAt, inUse};
 ghost use Rattle.site.specs.InUse.{usedRefusal, placeOf, present};
 ghost use Rattle.site.specs.Terms.{Level};
 
 // The refusal of the sites in use, 1, 2 or 3; 0 for none.
-pub fn used_refusal(x: &[i32], y: &[i32], number: &[u32], height: &[i32], count: u32) -> u32
+pub(super) fn used_refusal(x: &[i32], y: &[i32], number: &[u32], height: &[i32], count: u32) -> u32
     ensures { λ r. ⌜ r ≡ usedRefusal (lentList x y number height .entry) count ⌝ }
 {
     if x.len() != y.len() {
@@ -46,36 +47,16 @@ fn earlier_at(x: &[i32], y: &[i32], number: &[u32], i: usize, sx: i32, sy: i32, 
     }
 }
 
-// 0 where one site comes before or after another, else 1.
-fn same(ax: i32, ay: i32, an: u32, bx: i32, by: i32, bn: u32) -> u32
-    ensures { λ r.
-        let a = site ax ay an in
-        let b = site bx by bn in
-        ⌜ r ≡ cond (siteBefore a b || siteBefore b a) 0 1 ⌝ }
-{
-    if lists::before(ax, ay, an, bx, by, bn) {
-        return 0;
-    }
-    if lists::before(bx, by, bn, ax, ay, an) {
-        0
-    } else {
-        1
-    }
-}
-
-// The same of the site at `i` and another.
-fn same_at(x: &[i32], y: &[i32], number: &[u32], i: usize, sx: i32, sy: i32, sn: u32) -> u32
-    requires { ⌜ (Level (columns (now x) (now y) (now number))) × (i < length (now x)) ⌝ }
-    ensures { λ r.
-        let a = siteAt (sites (lentPlane x y number .entry)) i in
-        let b = site sx sy sn in
-        ⌜ r ≡ cond (siteBefore a b || siteBefore b a) 0 1 ⌝ }
-{
-    same(x[i], y[i], number[i], sx, sy, sn)
-}
-
 // The place of a site among the first `n`: how many of them come before it.
-pub fn place_of(x: &[i32], y: &[i32], number: &[u32], n: usize, sx: i32, sy: i32, sn: u32) -> u32
+pub(super) fn place_of(
+    x: &[i32],
+    y: &[i32],
+    number: &[u32],
+    n: usize,
+    sx: i32,
+    sy: i32,
+    sn: u32,
+) -> u32
     requires { ⌜ (Level (columns (now x) (now y) (now number))) × (n ≤ length (now x)) × (n ≤ 65_535) ⌝ }
     ensures { λ r. ⌜ r ≡ placeOf (site sx sy sn) (sites (inUse n (lentPlane x y number .entry))) ⌝ }
 {
@@ -88,16 +69,23 @@ pub fn place_of(x: &[i32], y: &[i32], number: &[u32], n: usize, sx: i32, sy: i32
     place
 }
 
-// Whether a site stands among the first `n`.
-pub fn is_present(x: &[i32], y: &[i32], number: &[u32], n: usize, sx: i32, sy: i32, sn: u32) -> bool
+// Whether a site stands among the first `n`, which ascend: at its place, or nowhere.
+pub(super) fn is_present(
+    x: &[i32],
+    y: &[i32],
+    number: &[u32],
+    n: usize,
+    sx: i32,
+    sy: i32,
+    sn: u32,
+) -> bool
     requires { ⌜ (Level (columns (now x) (now y) (now number))) × (n ≤ length (now x)) × (n ≤ 65_535) ⌝ }
+    requires { ⌜ ascending siteBefore (sites (inUse n (columns (now x) (now y) (now number)))) ≡ true ⌝ }
     ensures { λ r. ⌜ r ≡ present (site sx sy sn) (sites (inUse n (lentPlane x y number .entry))) ⌝ }
 {
-    let mut same: u32 = 0;
-    let mut i = 0;
-    while i < n {
-        same += same_at(x, y, number, i, sx, sy, sn);
-        i += 1;
+    let place = place_of(x, y, number, n, sx, sy, sn) as usize;
+    if n <= place {
+        return false;
     }
-    same != 0
+    !lists::before(sx, sy, sn, x[place], y[place], number[place])
 }

@@ -7,8 +7,8 @@ use mir.Facts.{toZ-ofZ}
 use Rattle.site.specs.Site.{Site, lawfulSite}
 use Rattle.site.specs.SiteList.{Columns, raised, site, raisedSite, sites, inUse}
 use Rattle.site.specs.InUse.{usedRefusal, present}
-use Rattle.site.proofs.SiteList.{flattened, flat-level}
-use Rattle.site.proofs.InUse.{used-level, used-few, used-inside, in-use-present}
+use Rattle.site.proofs.SiteList.{flattened}
+use Rattle.site.proofs.InUse.{used-level, used-inside, used-asked, in-use-present}
 use Rattle.site.proofs.Addition.{add-used, add-outside, add-full, add-most, add-present, add-ok}
 use Rattle.site.proofs.adding.add_refusal.Statement.{statement}
 use Rattle.site.proofs.adding.add_refusal.Tie as tie
@@ -71,8 +71,7 @@ is-present-requires : tie.Need-is-present-requires
 is-present-requires c κs =
     let f = from2 (from4 c) in
     let e = from1 f in
-    let n = e .args .count in
-    (flat-level _ (used-level (lent e) n (accepted f)), used-inside (lent e) n (accepted f), used-few (lent e) n (accepted f))
+    used-asked (lent e) (e .args .count) (accepted f)
 
 abbrev start : tie.After-is-present → tie.Else1
 start c = from2 (from4 (c .before))

@@ -1,108 +1,103 @@
--- `site::is_present` meets its contract. The invariant: the same sites counted, and those in what is left, are all there are.
-use mathlib.Core.Path.{_≡_, ap, sym, _∙_}
-use mathlib.Core.Bool.{cond, not}
+-- `site::is_present` meets its contract: where the first sites ascend, a site stands at its place or nowhere.
+use mathlib.Core.Path.{_≡_, sym, ap, _∙_}
+use mathlib.Core.Bool.{not}
 use mathlib.Core.List.{List}
-use Prim.Native.Nat.{ℕ, _+_, _-_, _≤_, _<_}
 use native.Mathlib.Omega.{arith}
-use borrow.Author.Needs.{needs}
-use lib.Dec.{eqb}
-use lib.IntN.{ℤ}
-use lib.ListN.{length, drop}
-use mir.Syntax.{w32}
-use mir.Val.{toZ, ofZ}
+use borrow.Author.Needs.{needs, sfits-of}
+use borrow.Author.Tests.{le-leb, lt-leb}
+use lib.IntN.{ℤ, pos}
+use lib.ListN.{length, getD}
 use mir.Facts.{toZ-ofZ}
-use Rattle.site.specs.Site.{Site}
+use Rattle.order.proofs.Sorted.{Ascends, ascending-ascends}
+use Rattle.site.specs.Site.{Site, siteBefore}
 use Rattle.site.specs.SiteList.{Columns, columns, site, sites, siteAt, inUse}
-use Rattle.site.specs.InUse.{present}
-use Rattle.site.proofs.Signed.{at₂}
-use Rattle.site.proofs.SiteList.{nowhere, in-use-at}
+use Rattle.site.specs.InUse.{placeOf}
+use Rattle.site.proofs.Signed.{at₂, at₄}
+use Rattle.site.proofs.SiteBefore.{site-order}
+use Rattle.site.proofs.SiteList.{site-at, in-use-at}
+use Rattle.site.proofs.PlaceOf.{present-at}
 use Rattle.site.proofs.InUse.{in-use-length}
-use Rattle.site.proofs.Counting.{failing, no-le, failing-step, failing-end}
-use Rattle.site.proofs.PlaceOf.{apart, present-failing}
 use Rattle.site.proofs.in_use.is_present.Statement.{statement}
 use Rattle.site.proofs.in_use.is_present.Tie as tie
 
-abbrev Inv-loop : tie.InvT-loop
-Inv-loop x y number n sx sy sn same₀ i₀ same i =
-    let l = sites (inUse n (columns x y number)) in
-    let test = apart (site (toZ w32 sx) (toZ w32 sy) sn) in
-    (i ≤ n) × (same ≤ i) × (same + failing test (drop i l) ≡ failing test l)
-
-abbrev μ-loop : tie.MeasureT-loop
-μ-loop x y number n sx sy sn same₀ i₀ same i = n - i
-
-abbrev lent : tie.Start Inv-loop μ-loop → Columns
+abbrev lent : tie.Start → Columns
 lent c = columns (c .args .x .now) (c .args .y .now) (c .args .number .now)
 
 -- The sites in use.
-abbrev used : tie.Start Inv-loop μ-loop → List Site
+abbrev used : tie.Start → List Site
 used c = sites (inUse (c .args .n) (lent c))
 
-used-length : (c : tie.Start Inv-loop μ-loop) → length (used c) ≡ c .args .n
-used-length c = in-use-length (lent c) (c .args .n) (c .pre .0) (c .pre .1)
+abbrev asked : tie.Start → Site
+asked c = site (c .args .sx) (c .args .sy) (c .args .sn)
 
--- The site as it is handed on.
-abbrev handed : tie.Start Inv-loop μ-loop → Site
-handed c = site (toZ w32 (ofZ w32 (c .args .sx))) (toZ w32 (ofZ w32 (c .args .sy))) (c .args .sn)
+used-length : (c : tie.Start) → length (used c) ≡ c .args .n
+used-length c = in-use-length (lent c) (c .args .n) (c .pre .0 .0) (c .pre .0 .1)
 
-abbrev entry : tie.After-same-at Inv-loop μ-loop → tie.Start Inv-loop μ-loop
-entry c = c .before .before .before .before
+ascends : (c : tie.Start) → Ascends siteBefore (used c)
+ascends c = ascending-ascends site-order (used c) (c .pre .1)
 
-same-at-requires : tie.Need-same-at-requires Inv-loop μ-loop
-same-at-requires c κs =
-    let e = c .before .before .before in
-    (e .pre .0, omega (arith, c .loop-test .taken, e .pre .1))
+abbrev start : tie.After-place-of → tie.Start
+start c = c .before .before
 
-compared : (c : tie.After-same-at Inv-loop μ-loop)
-    → c .same-at .result ≡ cond (apart (handed (entry c)) (siteAt (used (entry c)) (c .before .before .loop .i))) 0 1
-unfolding apart
-compared c =
-    let e = entry c in
-    rw (in-use-at (e .args .n) (lent e) (c .before .before .loop .i) (c .before .loop-test .taken)) (c .same-at .ensures)
+place : (c : tie.After-place-of) → c .place-of .result ≡ placeOf (asked (start c)) (used (start c))
+place c =
+    let e = start c in
+    at₂ (λ (x y : ℤ). placeOf (site x y (e .args .sn)) (used e)) (toZ-ofZ (e .fits .sx)) (toZ-ofZ (e .fits .sy)) (c .place-of .ensures)
 
-small : (c : tie.After-same-at Inv-loop μ-loop) → c .same-at .result ≤ 1
-small c = no-le (apart (handed (entry c)) (siteAt (used (entry c)) (c .before .before .loop .i))) (compared c)
-
--- How many are left to count from a place on.
-abbrev left : tie.After-same-at Inv-loop μ-loop → ℕ → ℕ
-left c i = failing (apart (handed (entry c))) (drop i (used (entry c)))
-
-learnt : (c : tie.After-same-at Inv-loop μ-loop)
-    → c .same-at .result + left c (c .before .before .loop .i + 1) ≡ left c (c .before .before .loop .i)
-unfolding siteAt
-learnt c =
-    let e = entry c in
-    let i = c .before .before .loop .i in
-    let k : i < length (used e) = omega (arith, c .before .loop-test .taken, used-length e) in
-    rw (failing-step (apart (handed e)) (used e) i nowhere k)
-    (ap (λ (n : ℕ). n + failing (apart (handed e)) (drop (i + 1) (used e))) (compared c))
-
-add-same : tie.Need-add-same Inv-loop μ-loop
-add-same c = omega (arith, small c, c .before .before .loop .inv, c .before .loop-test .taken, entry c .pre .2)
-
-loop-again : tie.Need-loop-again Inv-loop μ-loop
-loop-again c = omega (arith, small c, learnt c, c .before .before .loop .inv, c .before .loop-test .taken)
-
-returns : tie.Need-returns Inv-loop μ-loop
+returns : tie.Need-returns
 returns c =
-    let e = c .before .before .before in
-    let i = c .before .loop .i in
-    let h = c .loop-test .left in
-    let k : length (used e) ≤ i = omega (arith, used-length e) in
-    let q : c .before .loop .same ≡ failing (apart (handed e)) (used e) = omega (arith, failing-end (apart (handed e)) (used e) i k) in
-    at₂ (λ (x y : ℤ). present (site x y (e .args .sn)) (used e)) (toZ-ofZ (e .fits .sx)) (toZ-ofZ (e .fits .sy))
-    (ap (λ (n : ℕ). not (eqb n 0)) q ∙ sym (present-failing (handed e) (used e)))
+    let e = start (c .before) in
+    let past = le-leb (length (used e)) (placeOf (asked e) (used e)) (omega (arith, used-length e, place (c .before), c .if1 .taken)) in
+    simp (present-at (asked e) (used e) (ascends e), past)
+
+-- The site at the place, as it is read.
+abbrev found : tie.Else1 → Site
+found c =
+    let a = start (c .before) .args in
+    let i = c .before .place-of .result in
+    site (getD (a .x .now) i (pos 0)) (getD (a .y .now) i (pos 0)) (getD (a .number .now) i 0)
+
+read : (c : tie.Else1) → siteAt (used (start (c .before))) (c .before .place-of .result) ≡ found c
+read c =
+    let e = start (c .before) in
+    let i = c .before .place-of .result in
+    in-use-at (e .args .n) (lent e) i (c .if1 .left) ∙ site-at (lent e) (e .pre .0 .0) i (omega (arith, c .if1 .left, e .pre .0 .1))
+
+abbrev tested : tie.After-before2 → tie.Else1
+tested c = c .before .before .before .before
+
+compared : (c : tie.After-before2) → c .before2 .result ≡ siteBefore (asked (start (tested c .before))) (found (tested c))
+compared c =
+    let e = start (tested c .before) in
+    let t = found (tested c) in
+    at₄ (λ (sx sy x y : ℤ). siteBefore (site sx sy (e .args .sn)) (site x y (t .number)))
+    (toZ-ofZ (e .fits .sx))
+    (toZ-ofZ (e .fits .sy))
+    (toZ-ofZ (sfits-of (c .before .before .before .before-arg .given)))
+    (toZ-ofZ (sfits-of (c .before .before .before-arg2 .given)))
+    (c .before2 .ensures)
+
+returns-2 : tie.Need-returns-2
+returns-2 c =
+    let f = tested c in
+    let e = start (f .before) in
+    let p = place (f .before) in
+    let inside = lt-leb (length (used e)) (placeOf (asked e) (used e)) (omega (arith, used-length e, p, f .if1 .left)) in
+    let there : siteAt (used e) (placeOf (asked e) (used e)) ≡ found f = ap (siteAt (used e)) (sym p) ∙ read f in
+    simp (present-at (asked e) (used e) (ascends e), inside, there) (ap not (compared c))
 
 pub is-present-spec : {M : Type 1} → statement M
 is-present-spec =
     tie.close
     (tie.spec
-    Inv-loop
-    μ-loop
-    (λ c. omega arith)
-    same-at-requires
-    add-same
+    (λ c κs. search needs)
+    (λ c. search needs)
+    returns
     (λ c. search needs)
     (λ c. search needs)
-    loop-again
-    returns)
+    (λ c. search needs)
+    (λ c. search needs)
+    (λ c. search needs)
+    (λ c. search needs)
+    (λ c κs. search needs)
+    returns-2)

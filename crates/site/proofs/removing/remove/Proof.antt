@@ -10,8 +10,8 @@ use Rattle.site.specs.SiteList.{Columns, raised, site, sites, inUse}
 use Rattle.site.specs.Terms.{Level}
 use Rattle.site.specs.InUse.{usedRefusal, placeOf, changeValues}
 use Rattle.site.specs.Removal.{removeRefusal, removeSite, removeAnswer}
-use Rattle.site.proofs.SiteList.{flattened, flat-level}
-use Rattle.site.proofs.InUse.{used-level, used-few, used-inside, in-use-place, changed, unchanged}
+use Rattle.site.proofs.SiteList.{flattened}
+use Rattle.site.proofs.InUse.{used-level, used-inside, used-asked, in-use-place, changed, unchanged}
 use Rattle.site.proofs.Removal.{removed-used}
 use Rattle.site.proofs.RemoveSite.{removed-low}
 use Rattle.site.proofs.removing.remove.Statement.{statement}
@@ -57,7 +57,7 @@ place-of-requires : tie.Need-place-of-requires
 place-of-requires c κs =
     let f = c .before .before .before in
     let e = begun f in
-    (flat-level _ (level f), used-inside (lent e) (e .args .count) (used f), used-few (lent e) (e .args .count) (used f))
+    used-asked (lent e) (e .args .count) (used f) .0
 
 learnt-place : (c : tie.After-place-of)
     → (let e = begun (passed c) in c .place-of .result ≡ placeOf (asked e) (sites (inUse (e .args .count) (lent e))))

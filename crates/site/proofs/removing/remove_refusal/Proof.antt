@@ -5,8 +5,8 @@ use mir.Facts.{toZ-ofZ}
 use Rattle.site.specs.Site.{Site}
 use Rattle.site.specs.SiteList.{Columns, raised, site, sites, inUse}
 use Rattle.site.specs.InUse.{usedRefusal, present}
-use Rattle.site.proofs.SiteList.{flattened, flat-level}
-use Rattle.site.proofs.InUse.{used-level, used-few, used-inside, in-use-present}
+use Rattle.site.proofs.SiteList.{flattened}
+use Rattle.site.proofs.InUse.{used-level, used-inside, used-asked, in-use-present}
 use Rattle.site.proofs.Removal.{remove-used, remove-absent, remove-ok}
 use Rattle.site.proofs.removing.remove_refusal.Statement.{statement}
 use Rattle.site.proofs.removing.remove_refusal.Tie as tie
@@ -32,8 +32,7 @@ returns c =
 is-present-requires : tie.Need-is-present-requires
 is-present-requires c κs =
     let e = begun c in
-    let n = e .args .count in
-    (flat-level _ (used-level (lent e) n (accepted c)), used-inside (lent e) n (accepted c), used-few (lent e) n (accepted c))
+    used-asked (lent e) (e .args .count) (accepted c)
 
 learnt : (c : tie.After-is-present)
     → (let e = begun (c .before) in c .is-present .result ≡ present (asked e) (sites (inUse (e .args .count) (lent e))))
