@@ -72,9 +72,9 @@ uint32_t vumlintel_add(int32_t *x, size_t xs, int32_t *y, size_t ys, uint32_t *n
                        int32_t site_height, uint32_t *place, uint32_t *count);
 
 /*
- * Removes the site with this x, y and number from the first `in_use` sites of four columns, whatever its height; later ones move
- * down by one, in every column. The element freed at the end keeps its old contents, and all past it stay. Answers the place it
- * had and the new count in use, or 1, 2, 3 for the sites in use, 16.
+ * Removes the site with this x, y and number, whatever its height, from the first `in_use` sites of four columns; later ones
+ * move down by one, in every column. The element freed at the end keeps its old contents, and all past it stay. Answers the
+ * place it had and the new count in use, or 1, 2, 3 for the sites in use, 16.
  */
 uint32_t vumlintel_remove(int32_t *x, size_t xs, int32_t *y, size_t ys, uint32_t *number, size_t numbers, int32_t *height,
                           size_t heights, uint32_t in_use, int32_t site_x, int32_t site_y, uint32_t site_number,
