@@ -63,6 +63,11 @@ module _ {A : Type 0} where
       sets-stored (a ∷ []) (stored at v l) (at + length v) (rw (stored-length at v l (omega arith)) (omega arith))
       ∙ stored-after at (at + length v) v (a ∷ []) l refl (omega arith)
 
+  pub overwritten-last : (v l : List A) (a : A) → length v < length l
+      → set (overwritten v l) (length v) a ≡ overwritten (v ++ (a ∷ [])) l
+  overwritten-last v l a h =
+      rw (← stored-start v l, ← stored-start (v ++ (a ∷ [])) l) (rw (zero-add (length v)) at (stored-last 0 v l a (omega arith)))
+
   -- What stands before the values and past them.
   module _ (at : ℕ) (v l : List A) (inside : at + length v ≤ length l) where
     front : length (take at l ++ v) ≡ at + length v

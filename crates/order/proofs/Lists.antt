@@ -6,7 +6,7 @@ use mathlib.Core.List.{List, [], _∷_, _++_, map, zipWith, append-assoc, List·
 use Prim.Native.Nat.{ℕ, zero, suc, _+_, _-_, _≤_, _<_, min}
 use native.Mathlib.Nat.{add-zero, sub-zero, zero-sub, suc-sub-suc}
 use native.Mathlib.Omega.{arith}
-use lib.ListN.{length, take, drop, getD, set, take-append-drop, drop-of-length-le}
+use lib.ListN.{length, take, drop, getD, set, length-map, take-append-drop, drop-of-length-le}
 use lib.Seq.{getD-drop, drop-cons}
 use Rattle.order.specs.Lists.{all, keep, All, Distinct, last, sum}
 use Rattle.order.proofs.Order.{byTest, never-both}
@@ -178,12 +178,56 @@ module _ {A : Type 0} (test : A → Bool) where
       (λ p. rw (keep-yes a l p) (omega (arith, length-keep l)))
       (λ p. rw (keep-no a l p) (omega (arith, length-keep l)))
 
+  -- How many are kept where the test holds of exactly the elements from place `f` up to place `t`.
+  pub length-keep-run : (l : List A) (d : A) (f t : ℕ) → f ≤ t → t ≤ length l
+      → ((k : ℕ) → k < f → test (getD l k d) ≡ false)
+      → ((k : ℕ) → f ≤ k → k < t → test (getD l k d) ≡ true)
+      → ((k : ℕ) → t ≤ k → k < length l → test (getD l k d) ≡ false)
+      → length (keep test l) ≡ t - f
+  length-keep-run [] d f t u h before inside after = rw keep-nil (omega arith)
+  length-keep-run (a ∷ l) d zero zero u h before inside after =
+      rw (keep-no a l (after 0 (omega arith) (omega arith)))
+      (length-keep-run l d 0 0 u (omega arith) (λ k p. absurd (omega arith)) (λ k p q. absurd (omega arith))
+      (λ k p q. after (suc k) (omega arith) (omega arith)))
+  length-keep-run (a ∷ l) d (suc f) zero u h before inside after = absurd (omega arith)
+  length-keep-run (a ∷ l) d zero (suc t) u h before inside after =
+      rw (keep-yes a l (inside 0 (omega arith) (omega arith)))
+      (omega (
+        arith,
+        length-keep-run l d 0 t (omega arith) (omega arith) (λ k p. absurd (omega arith))
+            (λ k p q. inside (suc k) (omega arith) (omega arith))
+            (λ k p q. after (suc k) (omega arith) (omega arith)),
+      ))
+  length-keep-run (a ∷ l) d (suc f) (suc t) u h before inside after =
+      rw (keep-no a l (before 0 (omega arith)))
+      (omega (
+        arith,
+        length-keep-run l d f t (omega arith) (omega arith) (λ k p. before (suc k) (omega arith))
+            (λ k p q. inside (suc k) (omega arith) (omega arith))
+            (λ k p q. after (suc k) (omega arith) (omega arith)),
+      ))
+
+  -- A test that implies another keeps no more.
+  pub keep-fewer : (other : A → Bool) → ((a : A) → test a ≡ true → other a ≡ true) → (l : List A)
+      → length (keep test l) ≤ length (keep other l)
+  unfolding keep
+  keep-fewer other h [] = omega arith
+  keep-fewer other h (a ∷ l) =
+      let m = keep-fewer other h l in
+      byTest (test a)
+      (λ p. rw (p, h a p) (omega arith))
+      (λ p. byTest (other a) (λ q. rw (p, q) (omega arith)) (λ q. rw (p, q) (omega arith)))
+
 pub keep-map : {A B : Type 0} (test : B → Bool) (f : A → B) (l : List A) → keep test (map f l) ≡ map f (keep (λ a. test (f a)) l)
 keep-map test f [] = simp keep-nil
 keep-map {A} {B} test f (a ∷ l) =
     byTest (test (f a))
     (λ p. rw (keep-yes test (f a) (map f l) p, keep-yes (λ (x : A). test (f x)) a l p) (ap (λ (r : List B). f a ∷ r) (keep-map test f l)))
     (λ p. rw (keep-no test (f a) (map f l) p, keep-no (λ (x : A). test (f x)) a l p) (keep-map test f l))
+
+pub length-keep-map : {A B : Type 0} (test : B → Bool) (f : A → B) (l : List A)
+    → length (keep test (map f l)) ≡ length (keep (λ a. test (f a)) l)
+length-keep-map {A} test f l = ap length (keep-map test f l) ∙ length-map (keep (λ (a : A). test (f a)) l) f
 
 -- ---- permutations
 

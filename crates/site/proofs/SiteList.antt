@@ -1,6 +1,6 @@
 -- The sites of columns of one length.
 use mathlib.Core.Path.{_≡_, refl, sym, ap, ap₂, _∙_}
-use mathlib.Core.List.{List, [], _∷_, map, zipWith}
+use mathlib.Core.List.{List, [], _∷_, map, map-map, zipWith}
 use Prim.Native.Nat.{ℕ, _<_}
 use native.Mathlib.Omega.{arith}
 use lib.IntN.{ℤ, pos}
@@ -177,6 +177,14 @@ sites-columns (x ∷ xs) [] ns p q = absurd (omega arith)
 sites-columns (x ∷ xs) (y ∷ ys) [] p q = absurd (omega arith)
 sites-columns (x ∷ xs) (y ∷ ys) (n ∷ ns) p q =
     ap (λ (c : Columns). columns (x ∷ c .x) (y ∷ c .y) (n ∷ c .number)) (sites-columns xs ys ns (omega arith) (omega arith))
+
+-- The x of the sites are the column of x.
+pub sites-x : (c : Columns) → Level c → map (λ s. s .x) (sites c) ≡ c .x
+unfolding columnsOf
+sites-x c level =
+    sym (map-map (λ s. s .x) flat-site (sites c))
+    ∙ ap (map (λ s. s .x)) (flat-sites c level)
+    ∙ ap (λ (d : Columns). d .x) (sites-columns (c .x) (c .y) (c .number) (level .y) (level .number))
 
 pub columns-length : (l : List Site) → length (columnsOf l .x) ≡ length l
 unfolding columnsOf

@@ -70,7 +70,7 @@ placed-mem n (t ∷ l) s (suc i) h =
     let z : n + suc i ≡ suc n + i = omega arith in rw z (List·Memᴰ·tail (placed-mem (suc n) l s i (omega arith)))
 
 -- Places go up by one.
-placed-later : (n m : ℕ) (l : List Site) → n < m → All (λ x. ltb n (x .place) ≡ true) (placedFrom m l)
+pub placed-later : (n m : ℕ) (l : List Site) → n < m → All (λ x. ltb n (x .place) ≡ true) (placedFrom m l)
 unfolding placedFrom All
 placed-later n m [] h = tt
 placed-later n m (s ∷ l) h = (lt-ltb n m h, placed-later n (suc m) l (omega arith))
@@ -85,6 +85,10 @@ placed-ascends n (s ∷ l) = (placed-later n (suc n) l (omega arith), placed-asc
 pub length-whole : (l : List Site) → length (whole l) ≡ length l
 unfolding whole
 length-whole l = length-placed 0 l
+
+pub sites-whole : (l : List Site) → sitesOf (whole l) ≡ l
+unfolding whole
+sites-whole l = placed-sites 0 l
 
 pub mem-whole : {x : Placed} (l : List Site) (s : Site) → List·Memᴰ x (whole l) → (x .place < length l) × (x .site ≡ getD l (x .place) s)
 unfolding whole
