@@ -10,8 +10,8 @@
  *   VUMLINTEL_ORDER           3  sites not strictly ascending by x, then y, then number
  *   VUMLINTEL_K               4  K is 0 or above 4,096
  *   VUMLINTEL_CUT_ENDS        5  cut ends unlawful: at most 32, strictly ascending, each above 0, the last the list's length
- *   VUMLINTEL_ROOM            6  a result column shorter than K, too few elements for the pairs found, a buffer shorter than
- *                                the file, or no room for one more site
+ *   VUMLINTEL_ROOM            6  a result column shorter than K, too few elements for the pairs found, a forecast's column
+ *                                shorter than the first list, a buffer shorter than the file, or no room for one more site
  *   VUMLINTEL_CAMPAIGN        7  the campaign or its result columns do not fit each other or the lists; an entry of co-sited
  *                                cells is such a fault
  *   VUMLINTEL_RANGE           8  a strip number not below the strip count, or a place not below the list's count
@@ -107,6 +107,17 @@ uint32_t vumlintel_distance_list(const int32_t *ax, size_t axs, const int32_t *a
                                  const int32_t *ah, size_t ahs, const int32_t *bx, size_t bxs, const int32_t *by, size_t bys,
                                  const uint32_t *bn, size_t bns, const int32_t *bh, size_t bhs, uint32_t e, uint32_t *first,
                                  size_t first_length, uint32_t *second, size_t second_length, uint64_t *count);
+
+/*
+ * The forecast of a distance list's size: how many places of the second list are at most e from a place of the first in x,
+ * whatever their y and height, co-sited cells among them. Answers the total, and in the column the number of each place of the
+ * first list, or 1, 2, 3 for each list, or 6 for a column shorter than the first list. Elements past the list stay. A distance
+ * list with this e has no more pairs, in total and for each place, so columns as long as the total have room for it.
+ */
+uint32_t vumlintel_forecast(const int32_t *ax, size_t axs, const int32_t *ay, size_t ays, const uint32_t *an, size_t ans,
+                            const int32_t *ah, size_t ahs, const int32_t *bx, size_t bxs, const int32_t *by, size_t bys,
+                            const uint32_t *bn, size_t bns, const int32_t *bh, size_t bhs, uint32_t e, uint32_t *partners,
+                            size_t partners_length, uint64_t *total);
 
 /* A campaign. It may be kept anywhere between calls; its result columns, which hold its entries, belong to it. */
 typedef struct vumlintel_campaign {

@@ -228,6 +228,26 @@ pub fn distance_list(a: &Columns, b: &Columns, e: u32, first: &mut Vec<u32>, sec
     told(number, count, L)
 }
 
+/// The total; the column is written in place.
+pub fn forecast(a: &Columns, b: &Columns, e: u32, partners: &mut Vec<u32>) -> Result<u64, u32> {
+    let (p, q) = (LentList::new(a), LentList::new(b));
+    let mut column = Lent::new(partners, U);
+    let mut total = L;
+    let number = unsafe {
+        raw::vumlintel_forecast(
+            p.x.shared(), p.x.len(), p.y.shared(), p.y.len(), p.n.shared(), p.n.len(), p.h.shared(), p.h.len(),
+            q.x.shared(), q.x.len(), q.y.shared(), q.y.len(), q.n.shared(), q.n.len(), q.h.shared(), q.h.len(),
+            e,
+            column.exclusive(), column.len(),
+            &mut total,
+        )
+    };
+    p.unchanged(a);
+    q.unchanged(b);
+    *partners = column.back().to_vec();
+    told(number, total, L)
+}
+
 /// The campaign is written in place by an accepted opening.
 pub fn open(
     a: &Columns,

@@ -148,6 +148,18 @@ fn own_examples() {
     assert_eq!((pair_count(Strip::whole(&a), Strip::whole(&b)), pair_count(Strip::whole(&a), Strip::whole(&a))), (1, 0));
 }
 
+fn forecasts() {
+    let (a, b) = f();
+    let (a, b) = (Columns::of(&a), Columns::of(&b));
+    assert_eq!(forecast(&a, &b, 4, 3), Ok((vec![2, 2, 1], 5)));
+    assert_eq!(forecast(&a, &b, 0, 4), Ok((vec![1, 1, 0], 2)));
+    assert_eq!(forecast(&a, &b, 4, 2), Err(6));
+    // co-sited cells are partners
+    let one = Columns::of(&[site(0, 0, 1)]);
+    assert_eq!(forecast(&one, &one, 0, 1), Ok((vec![1], 1)));
+    assert_eq!(plane::forecast(&plane::flat(&f().0), &plane::flat(&f().1), 4), [2, 2, 1]);
+}
+
 fn case_listing() {
     let (a, b) = f();
     let mut input = 3u32.to_le_bytes().to_vec();
@@ -167,6 +179,7 @@ pub fn run(h: &mut Harness) {
     h.test("model: own examples", own_examples);
     h.test("model: heights", heights);
     h.test("model: removing", removing);
+    h.test("model: forecasts", forecasts);
     h.test("model: the plane", of_the_plane);
     h.test("model: case listing", case_listing);
 }

@@ -64,6 +64,14 @@ fn same_distance_list(r: &mut Random, a: &Level, b: &Level, e: u32) {
     assert!(first.into_iter().zip(second).eq(pairs), "e {e}: a column differs");
 }
 
+fn same_forecast(r: &mut Random, a: &Level, b: &Level, e: u32) {
+    let partners = plane::forecast(&a.plane, &b.plane, e);
+    let mut column = numbers(r, partners.len());
+    let answer = calls::forecast(&a.columns, &b.columns, e, &mut column);
+    assert_eq!(answer, Ok(partners.iter().map(|n| *n as u64).sum()), "e {e}");
+    assert!(column == partners, "e {e}: the column differs");
+}
+
 fn distance_lists(r: &mut Random) {
     let rounds = 6_000;
     for round in 0..rounds {
@@ -77,6 +85,7 @@ fn distance_lists(r: &mut Random) {
             _ => r.below(40) as u32,
         };
         same_distance_list(r, &a, &b, e);
+        same_forecast(r, &a, &b, e);
     }
 }
 
@@ -121,6 +130,6 @@ fn campaigns(r: &mut Random) {
 
 pub fn run(h: &mut Harness) {
     h.test("every height 0: the plane's K lists", || k_lists(&mut Random::new(91)));
-    h.test("every height 0: the plane's distance lists", || distance_lists(&mut Random::new(92)));
+    h.test("every height 0: the plane's distance lists and forecasts", || distance_lists(&mut Random::new(92)));
     h.test("every height 0: the plane's campaigns", || campaigns(&mut Random::new(93)));
 }

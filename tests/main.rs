@@ -6,6 +6,7 @@ mod campaigns;
 mod case_listing;
 mod comparison;
 mod examples;
+mod forecasts;
 mod harness;
 mod height_0;
 mod heights;
@@ -28,6 +29,7 @@ fn main() {
     removals::run(&mut h);
     pair_lists::run_k_list(&mut h);
     pair_lists::run_distance_list(&mut h);
+    forecasts::run(&mut h);
     campaigns::run(&mut h);
     heights::run(&mut h);
     height_0::run(&mut h);

@@ -396,6 +396,24 @@ pub fn distance_list(a: &Columns, b: &Columns, e: u32, shorter: usize) -> Result
     if found.len() > shorter { Err(6) } else { Ok(found) }
 }
 
+/// The partners of each place of the first list no further than `e` in x, co-sited ones too, and all pairs of partners.
+pub fn forecast(a: &Columns, b: &Columns, e: u32, column: usize) -> Result<(Vec<u32>, u64), u32> {
+    let (a, b) = lists(a, b)?;
+    if column < a.len() {
+        return Err(6);
+    }
+    let (mut partners, mut total) = (vec![0; a.len()], 0);
+    for (i, s) in a.iter().enumerate() {
+        for t in &b {
+            if s.x.abs_diff(t.x) <= e {
+                partners[i] += 1;
+                total += 1;
+            }
+        }
+    }
+    Ok((partners, total))
+}
+
 // Campaigns.
 
 #[repr(C)]

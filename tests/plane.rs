@@ -201,6 +201,12 @@ pub fn distance_list(a: &[Site], b: &[Site], e: u32) -> Vec<(u32, u32)> {
     pairs.iter().map(|p| (p.first, p.second)).collect()
 }
 
+/// The numbers of partners no further than `e` in x of the first list's places.
+pub fn forecast(a: &[Site], b: &[Site], e: u32) -> Vec<u32> {
+    let near = |s: &Site, t: &Site| (s.x as i64 - t.x as i64).abs() <= e as i64;
+    a.iter().map(|s| b.iter().filter(|t| near(s, t)).count() as u32).collect()
+}
+
 /// A campaign on two lawful lists, kept from its calls.
 pub struct Campaign<'a> {
     a: &'a [Site],

@@ -42,6 +42,14 @@ unsafe extern "C" {
         count: *mut u64,
     ) -> u32;
 
+    pub fn vumlintel_forecast(
+        ax: X, axs: usize, ay: X, ays: usize, an: N, ans: usize, ah: X, ahs: usize,
+        bx: X, bxs: usize, by: X, bys: usize, bn: N, bns: usize, bh: X, bhs: usize,
+        e: u32,
+        partners: *mut u32, partners_len: usize,
+        total: *mut u64,
+    ) -> u32;
+
     pub fn vumlintel_open(
         ax: X, axs: usize, ay: X, ays: usize, an: N, ans: usize, ah: X, ahs: usize,
         bx: X, bxs: usize, by: X, bys: usize, bn: N, bns: usize, bh: X, bhs: usize,

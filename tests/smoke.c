@@ -89,6 +89,18 @@ static void distance_lists(void)
     EXPECT(vumlintel_distance_list(A, B, 5, first, 4, second, 5, &count) == VUMLINTEL_ROOM && count == 3);
 }
 
+static void forecasts(void)
+{
+    uint32_t partners[4] = {7, 7, 7, 7}, first[5], second[5];
+    uint64_t total = 9, count = 9;
+    EXPECT(vumlintel_forecast(A, B, 4, partners, 2, &total) == VUMLINTEL_ROOM && total == 9 && partners[0] == 7);
+    EXPECT(vumlintel_forecast(A, B, 4, partners, 4, &total) == VUMLINTEL_OK && total == 5);
+    EXPECT(partners[0] == 2 && partners[1] == 2 && partners[2] == 1 && partners[3] == 7);
+    EXPECT(vumlintel_distance_list(A, B, 4, first, total, second, total, &count) == VUMLINTEL_OK && count <= total);
+    EXPECT(vumlintel_forecast(A, B, 0, partners, 3, &total) == VUMLINTEL_OK && total == 2);
+    EXPECT(partners[0] == 1 && partners[1] == 1 && partners[2] == 0);
+}
+
 /* Two sites at one x and y, three apart in height: a pair at 9. */
 static void heights(void)
 {
@@ -150,6 +162,7 @@ int main(void)
     remove_site();
     k_lists();
     distance_lists();
+    forecasts();
     heights();
     campaigns();
     site_files();

@@ -30,12 +30,12 @@ use Rattle.demands.specs.Demand2.{KClosest, WithinLimit, Demand2}
 use Rattle.demands.proofs.KClosest.{k-list-closest, written, k-list-values}
 
 -- The values of an accepted distance list: its places written into the columns, and its count.
-abbrev written-values : Columns → Columns → ℕ → List ℕ → List ℕ → DistanceValues
+abbrev pub written-values : Columns → Columns → ℕ → List ℕ → List ℕ → DistanceValues
 written-values a b e first second =
     let l = distanceList e (sites a) (sites b) in
     distanceValues (overwritten (map (λ p. p .first) l) first) (overwritten (map (λ p. p .second) l) second) (length l)
 
-distance-values : (a b : Columns) (e : ℕ) (first second : List ℕ) (v : DistanceValues)
+pub distance-values : (a b : Columns) (e : ℕ) (first second : List ℕ) (v : DistanceValues)
     → distanceAnswer a b e first second ≡ answered v → written-values a b e first second ≡ v
 unfolding distanceAnswer
 distance-values a b e first second v accepted = answered-values (distanceRefusal a b e first second) _ v accepted .1

@@ -1,4 +1,4 @@
--- Examples of the two lists: what M1 to M10 do not tell apart.
+-- Examples of the two lists and of the forecast: what M1 to M10 do not tell apart.
 use mathlib.Core.Path.{_≡_, refl}
 use mathlib.Core.List.{[], _∷_, flatMap, zipWith}
 use lib.IntN.{pos}
@@ -11,6 +11,7 @@ use Rattle.entry.specs.Entry.{entry, rankBefore, apart, bestK}
 use Rattle.sweep.specs.Strip.{placedFrom, whole, pair, product, pairs}
 use Rattle.pairs.specs.KList.{kList}
 use Rattle.pairs.specs.DistanceList.{distanceList}
+use Rattle.pairs.specs.Forecast.{countWithin, forecastTotal, forecastPartners}
 
 -- Co-sited cells are in neither list, whatever K and the limit.
 co-sited : (kList 2 (site (pos 0) (pos 0) 1 ∷ []) (site (pos 0) (pos 0) 2 ∷ site (pos 3) (pos 4) 3 ∷ []) ≡ entry 25 0 1 ∷ [])
@@ -27,3 +28,12 @@ heights : (distanceList 3 (raisedSite (pos 0) (pos 0) 1 (pos 0) ∷ []) (raisedS
 unfolding
     keep sum gap square squaredDistance apart placedFrom whole pair product flatMap pairs distanceList zipWith
 heights = (refl, refl)
+
+-- The forecast of lists F: a partner exactly e away counts, one further does not. Co-sited cells are partners.
+forecasts : let a = site (pos 0) (pos 0) 11 ∷ site (pos 4) (pos 3) 12 ∷ site (pos 10) (pos 0) 13 ∷ [] in
+    let b = site (pos 0) (pos 5) 21 ∷ site (pos 4) (pos 0) 22 ∷ site (pos 9) (pos 2) 23 ∷ [] in
+    (forecastPartners 4 a b ≡ 2 ∷ 2 ∷ 1 ∷ []) × (forecastTotal 4 a b ≡ 5)
+    × (forecastPartners 0 a b ≡ 1 ∷ 1 ∷ 0 ∷ []) × (forecastTotal 0 a b ≡ 2)
+    × (forecastTotal 0 (site (pos 0) (pos 0) 1 ∷ []) (site (pos 0) (pos 0) 2 ∷ []) ≡ 1)
+unfolding keep gap product flatMap countWithin forecastTotal forecastPartners
+forecasts = (refl, refl, refl, refl, refl)

@@ -1,8 +1,11 @@
--- The laws of the two lists of pairs.
+-- The laws of the two lists of pairs and of the forecast.
 pub mod Examples
 pub mod Offset
 pub mod NearSites
 pub mod NearPairs
 pub mod Written
 pub mod DistanceList
+pub mod PartnerCounts
+pub mod ForecastAnswer
+pub mod Foreseen
 pub mod KList

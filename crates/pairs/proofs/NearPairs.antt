@@ -146,7 +146,12 @@ pub ready-starts : {a b : List ℤ} {e : ℕ} → Ready a b e 0 (record { left =
 ready-starts =
     record {
       within = omega arith;
-      behind = λ h. record { left = omega arith; right = omega arith; below = λ k p. absurd (omega arith) };
+      behind = λ h. record {
+        left = omega arith;
+        right = omega arith;
+        below = λ k p. absurd (omega arith);
+        reached = λ k p. absurd (omega arith);
+      };
     }
 
 -- The next reference stands further right.
@@ -155,8 +160,11 @@ pub ready-more : {a b : List ℤ} {e i : ℕ} {run : Run} → Rising a → i < l
 ready-more {a} {b} {e} {i} {run} rising h r =
     record {
       within = omega arith;
-      behind = λ g. record { left = r .behind .left; right = r .behind .right; below = below g };
+      behind = λ g. record { left = r .behind .left; right = r .behind .right; below = below g; reached = reached g };
     }
   where
     below : i + 1 < length a → (k : ℕ) → k < run .left → offsetAt b k + e < offsetAt a (i + 1)
     below g k p = omega (arith, r .behind .below k p, rising .rises i (i + 1) (omega arith) g)
+
+    reached : i + 1 < length a → (k : ℕ) → k < run .right → offsetAt b k ≤ offsetAt a (i + 1) + e
+    reached g k p = omega (arith, r .behind .reached k p, rising .rises i (i + 1) (omega arith) g)

@@ -4,21 +4,18 @@ use mathlib.Core.Bool.{Bool, true, false}
 use mathlib.Core.List.{List, [], _∷_, _++_, append-nil}
 use Prim.Native.Nat.{ℕ, zero, suc, _+_, _-_, _≤_, _<_}
 use native.Mathlib.Omega.{arith}
-use borrow.Author.Tests.{ltb-true, ltb-false}
-use lib.Dec.{ltb}
 use lib.IntN.{ℤ, pos}
 use lib.ListN.{length, getD}
 use Rattle.order.proofs.Lists.{keep-append, keep-yes, keep-no, keep-nil}
 use Rattle.site.specs.Site.{within, square}
 use Rattle.site.specs.Terms.{Coordinates}
-use Rattle.site.proofs.Tests.{byTest}
 use Rattle.site.proofs.Accepted.{coordinate-x}
 use Rattle.sweep.specs.Strip.{Placed}
 use Rattle.sweep.specs.Terms.{spot}
 use Rattle.sweep.proofs.SiteRuns.{rightward-nil, rightward-cons, rightward-join}
 use Rattle.pairs.specs.declared.Run.{Run}
 use Rattle.pairs.specs.Internal.{RunOf, near, nearSites}
-use Rattle.pairs.proofs.Offset.{far-left, far-right, far}
+use Rattle.pairs.proofs.Offset.{far-left, far-right, far, run-ends}
 
 module _ (limit : ℕ) (x y h : ℤ) (xs ys hs : List ℤ) where
   -- The test of a site, and of the site at a place.
@@ -74,24 +71,15 @@ module _ (limit : ℕ) (x y h : ℤ) (xs ys hs : List ℤ) where
       (near-join f t (length xs) up g ∙ ap (λ (l : List Placed). between f t ++ l) (far-between t (length xs) g after))
       ∙ append-nil (between f t)
 
--- The ends of a reference's run, and that all near sites of the list are between them.
+-- All near sites of the list are in a reference's run.
 module _ {ax bx by : List ℤ} {e i : ℕ} {run : Run} (c : Coordinates bx by) (r : RunOf ax bx e i run) where
-  run-ends : run .left ≤ run .right
-  run-ends =
-      byTest (ltb (run .right) (run .left))
-      (λ t.
-      let h = ltb-true (run .right) (run .left) t in
-      let l = r .behind .left in
-      omega (arith, r .behind .below (run .right) h, r .above (run .right) (omega arith) (omega arith)))
-      (λ t. ltb-false (run .right) (run .left) t)
-
   pub row-run : (y h : ℤ) (bh : List ℤ) → within (getD ax i (pos 0)) ≡ true
       → nearSites (square e) (getD ax i (pos 0)) y h bx by bh 0 (length bx)
       ≡ nearSites (square e) (getD ax i (pos 0)) y h bx by bh (run .left) (run .right)
   unfolding spot
   row-run y h bh inside =
       let x = getD ax i (pos 0) in
-      near-part (square e) x y h bx by bh (run .left) (run .right) run-ends (r .behind .right)
+      near-part (square e) x y h bx by bh (run .left) (run .right) (run-ends r) (r .behind .right)
       (λ k p.
       let below : k < length bx = omega (arith, r .behind .left) in
       far x y h _ e (far-left x (getD bx k (pos 0)) e inside (coordinate-x c k below) (r .behind .below k p)))

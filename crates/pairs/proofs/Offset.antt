@@ -1,6 +1,7 @@
 -- Offsets of coordinates: which sites are too far in x.
 use mathlib.Core.Path.{_≡_, refl}
 use mathlib.Core.Bool.{true, false, _&&_}
+use mathlib.Core.Logic.{_⊎_, inl, inr, ⊎-elim}
 use mathlib.Core.List.{List}
 use Prim.Native.Nat.{ℕ, _+_, _*_, _-_, _%_, _^_, _≤_, _<_}
 use native.Mathlib.Nat.{mul-lt-mul-of-pos-right, mul-le-mul, mul-le-mul-left, mul-le-mul-right}
@@ -21,7 +22,7 @@ use Rattle.site.proofs.Tests.{byTest, and-first}
 use Rattle.site.proofs.Integers.{up, down, le-sides, le-total, le-trans, size-up, size-down}
 use Rattle.site.proofs.Distance.{squared-gap-x, squared-gap-y}
 use Rattle.pairs.specs.declared.Run.{Run}
-use Rattle.pairs.specs.Internal.{offset, offsetAt, Rising, Skipped, Behind, RunOf, near}
+use Rattle.pairs.specs.Internal.{offset, offsetAt, Rising, Across, Skipped, Behind, RunOf, near}
 
 within-tests : (x : ℤ) → within x ≡ true → (leZ (negsuc 999_999_999) x && leZ x (pos 1_000_000_000)) ≡ true
 unfolding within between
@@ -47,22 +48,30 @@ rising {xs} {ys} c = record {
       (not-before-x (positionAt xs ys m) (positionAt xs ys k) (c .rising k m h g));
 }
 
--- Offsets that are more than `e` apart.
-pub far-left : (a b : ℤ) (e : ℕ) → within a ≡ true → within b ≡ true → offset b + e < offset a → e < gap a b
+pub across : {xs ys : List ℤ} → Coordinates xs ys → Across xs
+across c = record { few = c .few; inside = c .xs-within; rising = rising c }
+
+-- A difference is that of the offsets.
+gap-offsets : (a b : ℤ) → within a ≡ true → within b ≡ true
+    → (offset a + gap a b ≡ offset b) ⊎ (offset b + gap a b ≡ offset a)
 unfolding gap
-far-left a b e h k t =
+gap-offsets a b h k =
     let p = offset-sides a h in
     let q = offset-sides b k in
-    byTest (leZ a b) (λ l. omega (arith, le-sides a b l)) (λ l. omega (arith, size-down a b (le-total a b l)))
+    byTest (leZ a b) (λ l. inl (omega (arith, size-up a b l))) (λ l. inr (omega (arith, size-down a b (le-total a b l))))
 
-pub far-right : (a b : ℤ) (e : ℕ) → within a ≡ true → within b ≡ true → offset a + e < offset b → e < gap a b
-unfolding gap
-far-right a b e h k t =
-    let p = offset-sides a h in
-    let q = offset-sides b k in
-    byTest (leZ a b) (λ l. omega (arith, size-up a b l)) (λ l. omega (arith, le-sides b a (le-total a b l)))
+-- So offsets that are more than `e` apart, and that are not.
+module _ (a b : ℤ) (e : ℕ) (h : within a ≡ true) (k : within b ≡ true) where
+  pub far-left : offset b + e < offset a → e < gap a b
+  far-left t = ⊎-elim (λ g. omega arith) (λ g. omega arith) (gap-offsets a b h k)
 
-square-lt : (m n : ℕ) → m < n → square m < square n
+  pub far-right : offset a + e < offset b → e < gap a b
+  far-right t = ⊎-elim (λ g. omega arith) (λ g. omega arith) (gap-offsets a b h k)
+
+  pub near-x : offset b ≤ offset a + e → offset a ≤ offset b + e → gap a b ≤ e
+  near-x t u = ⊎-elim (λ g. omega arith) (λ g. omega arith) (gap-offsets a b h k)
+
+pub square-lt : (m n : ℕ) → m < n → square m < square n
 unfolding square
 square-lt m n h =
     let p : m * n ≤ n * n = mul-le-mul-right n (omega arith) in
@@ -108,7 +117,8 @@ pub run-next : (a b : List ℤ) (e i : ℕ) (last : Run) {x low left right : ℕ
     → RunOf a b e i (record { left = left; right = right })
 run-next a b e i last {x} {low} {left} {right} rises behind p q l r =
     record {
-      behind = record { left = l .inside; right = r .inside; below = below };
+      behind = record { left = l .inside; right = r .inside; below = below; reached = reached };
+      from = from;
       above = above;
     }
   where
@@ -117,8 +127,26 @@ run-next a b e i last {x} {low} {left} {right} rises behind p q l r =
         byTest (ltb k (last .left)) (λ t. behind .below k (ltb-true k (last .left) t))
         (λ t. omega (arith, l .below k (ltb-false k (last .left) t) h))
 
+    reached : (k : ℕ) → k < right → offsetAt b k ≤ offsetAt a i + e
+    reached k h =
+        byTest (ltb k (last .right)) (λ t. behind .reached k (ltb-true k (last .right) t))
+        (λ t. omega (arith, r .below k (ltb-false k (last .right) t) h))
+
+    from : (k : ℕ) → left ≤ k → k < length b → offsetAt a i ≤ offsetAt b k + e
+    from k h g = omega (arith, l .stop (omega arith), rises .rises left k h g)
+
     above : (k : ℕ) → right ≤ k → k < length b → offsetAt a i + e < offsetAt b k
     above k h g = omega (arith, r .stop (omega arith), rises .rises right k h g)
+
+-- Its ends do not cross.
+pub run-ends : {a b : List ℤ} {e i : ℕ} {run : Run} → RunOf a b e i run → run .left ≤ run .right
+run-ends {run = run} r =
+    byTest (ltb (run .right) (run .left))
+    (λ t.
+    let h = ltb-true (run .right) (run .left) t in
+    let l = r .behind .left in
+    omega (arith, r .behind .below (run .right) h, r .above (run .right) (omega arith) (omega arith)))
+    (λ t. ltb-false (run .right) (run .left) t)
 
 -- The square of a `u32` fits 64 bits.
 pub square-fits : {e : ℕ} → Fits w32 e → Fits w64 (e * e)

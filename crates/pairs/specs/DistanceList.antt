@@ -5,14 +5,12 @@ use lib.Dec.{leb, ltb}
 use lib.ListN.{length}
 use Rattle.order.specs.Lists.{keep}
 use Rattle.column.specs.Column.{overwritten}
-use Rattle.site.specs.Answer.{Answer, refused, answered, answerUnless, refuseIf, orElse}
+use Rattle.site.specs.Answer.{Answer, answerUnless, refuseIf, orElse}
 use Rattle.site.specs.Site.{Site, square}
 use Rattle.site.specs.SiteList.{Columns, sites}
 use Rattle.site.specs.Refusal.{listsRefusal}
 use Rattle.entry.specs.declared.Entry.{Entry}
 use Rattle.sweep.specs.Strip.{allPairs}
-use Rattle.pairs.specs.declared.Within.{Within}
-use Rattle.pairs.specs.declared.Within.the-variants.{Pairs, Refused}
 
 -- "All pairs with squared distance at most e², by first place and then second." (01: distance list.)
 unfoldable pub distanceList : ℕ → List Site → List Site → List Entry
@@ -38,8 +36,3 @@ distanceAnswer a b e f s =
     let l = distanceList e (sites a) (sites b) in
     answerUnless (distanceRefusal a b e f s)
     (distanceValues (overwritten (map (λ p. p .first) l) f) (overwritten (map (λ p. p .second) l) s) (length l))
-
--- The paper's number and value for each case of the answer, with what the columns hold at exit.
-unfoldable pub withinAnswer : Within → List ℕ → List ℕ → Answer DistanceValues
-withinAnswer (Pairs count) first second = answered (distanceValues first second count)
-withinAnswer (Refused number) first second = refused number

@@ -1,4 +1,5 @@
--- Terms that only this crate's functions cite: the run of sites near a reference in x, the near ones, and their pairs.
+-- Terms that only this crate's functions cite: the run of sites near a reference in x, how many they are, the near ones, and
+-- their pairs.
 use mathlib.Core.Path.{_≡_}
 use mathlib.Core.Bool.{Bool, true, _&&_}
 use mathlib.Core.List.{List, map}
@@ -6,8 +7,8 @@ use Prim.Native.Nat.{ℕ, _+_, _*_, _-_, _≤_, _<_}
 use lib.Dec.{leb}
 use lib.IntN.{ℤ, pos, negsuc}
 use lib.ListN.{length, getD}
-use Rattle.order.specs.Lists.{keep}
-use Rattle.column.specs.Column.{stored}
+use Rattle.order.specs.Lists.{all, keep, sum}
+use Rattle.column.specs.Column.{overwritten, stored}
 use Rattle.column.specs.Lent.{Lent}
 use Rattle.site.specs.Site.{Site, within, heightWithin, gap, square, squaredDistance}
 use Rattle.site.specs.SiteList.{raisedSite}
@@ -16,6 +17,7 @@ use Rattle.entry.specs.declared.Entry.{Entry}
 use Rattle.sweep.specs.Strip.{Placed, pair, pairs}
 use Rattle.sweep.specs.Terms.{spotOf, rightward}
 use Rattle.pairs.specs.declared.Run.{Run}
+use Rattle.pairs.specs.Forecast.{countWithin}
 
 -- How far a coordinate is right of the least `i32`.
 unfoldable pub offset : ℤ → ℕ
@@ -29,6 +31,12 @@ offsetAt xs k = offset (getD xs k (pos 0))
 pub record Rising (xs : List ℤ) : Type 0 where
   pub rises : (k m : ℕ) → k ≤ m → m < length xs → offsetAt xs k ≤ offsetAt xs m
 
+-- The x of a lawful list: few, inside the limits, and never falling.
+pub record Across (xs : List ℤ) : Type 0 where
+  pub few : length xs ≤ 65_535
+  pub inside : all within xs ≡ true
+  pub rising : Rising xs
+
 -- `r` is the first place from `from` on whose offset is `limit` or more.
 pub record Skipped (xs : List ℤ) (from limit r : ℕ) : Type 0 where
   pub onward : from ≤ r
@@ -36,16 +44,29 @@ pub record Skipped (xs : List ℤ) (from limit r : ℕ) : Type 0 where
   pub below : (k : ℕ) → from ≤ k → k < r → offsetAt xs k < limit
   pub stop : r < length xs → limit ≤ offsetAt xs r
 
--- Each place before the run's left end is further than `e` to the left of the reference at `i`; both ends are inside.
+-- Each place before the run's left end is further than `e` to the left of the reference at `i`, and none before its right end
+-- is further than `e` to the right; both ends are inside.
 pub record Behind (a b : List ℤ) (e i : ℕ) (run : Run) : Type 0 where
   pub left : run .left ≤ length b
   pub right : run .right ≤ length b
   pub below : (k : ℕ) → k < run .left → offsetAt b k + e < offsetAt a i
+  pub reached : (k : ℕ) → k < run .right → offsetAt b k ≤ offsetAt a i + e
 
--- Besides, each place from the run's right end on is further than `e` to the right.
+-- Besides, none from the run's left end on is further than `e` to the left, and each from its right end on is to the right:
+-- the run has exactly the places no further than `e` in x.
 pub record RunOf (a b : List ℤ) (e i : ℕ) (run : Run) : Type 0 where
   pub behind : Behind a b e i run
+  pub from : (k : ℕ) → run .left ≤ k → k < length b → offsetAt a i ≤ offsetAt b k + e
   pub above : (k : ℕ) → run .right ≤ k → k < length b → offsetAt a i + e < offsetAt b k
+
+-- How many partners each of some x has among others.
+unfoldable pub partnersAcross : ℕ → List ℤ → List ℤ → List ℕ
+partnersAcross e ax bx = map (λ x. countWithin e (map (gap x) bx)) ax
+
+-- A column that held `before` holds them from its start on, and `r` is their sum.
+pub record Foretold (ax bx : List ℤ) (e : ℕ) (before after : List ℕ) (r : ℕ) : Type 0 where
+  pub column : after ≡ overwritten (partnersAcross e ax bx) before
+  pub total : r ≡ sum (partnersAcross e ax bx)
 
 -- A site whose squared distance from a position is at most a limit, and 1 or more.
 unfoldable pub near : ℕ → ℤ → ℤ → ℤ → Site → Bool

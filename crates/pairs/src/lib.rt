@@ -1,10 +1,12 @@
-// The calls on two whole lists: the K list by either sweep, and the distance list.
+// The calls on two whole lists: the K list by either sweep, the distance list, and the forecast of its size.
 mod closest;
 mod nearby;
+mod partners;
 mod window;
 
 pub use closest::k_list;
 pub use nearby::distance_list;
+pub use partners::forecast;
 use sweep::Distances;
 use sweep::Looks;
 
@@ -18,7 +20,7 @@ pub enum Listed {
     Refused(u32),
 }
 
-// What a distance list answers: its count, or the refusal's number.
+// What a distance list and a forecast answer: the number of pairs, or the refusal's number.
 pub enum Within {
     Pairs(u64),
     Refused(u32),

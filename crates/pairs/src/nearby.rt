@@ -10,7 +10,8 @@ ghost use Rattle.site.specs.Answer.{afterwards};
 ghost use Rattle.site.specs.SiteList.{lentList};
 ghost use Rattle.site.specs.Terms.{Coordinates, Heights};
 ghost use Rattle.sweep.specs.Terms.{spot};
-ghost use Rattle.pairs.specs.DistanceList.{distanceRefusal, distanceAnswer, withinAnswer};
+ghost use Rattle.pairs.specs.Within.{withinAnswer};
+ghost use Rattle.pairs.specs.DistanceList.{distanceRefusal, distanceAnswer, distanceValues};
 ghost use Rattle.pairs.specs.Internal.{
   near,
   nearSites,
@@ -210,7 +211,7 @@ pub fn distance_list(
         let b = lentList bx by bn bh .entry in
         let answer = distanceAnswer a b e (now (first .entry)) (now (second .entry)) in
         ⌜
-        (withinAnswer r (now (first .exit)) (now (second .exit)) ≡ answer)
+        (withinAnswer r (distanceValues (now (first .exit)) (now (second .exit))) ≡ answer)
         × ((now (first .exit) ≡ afterwards (λ v. v .first) answer (now (first .entry)))
         × (now (second .exit) ≡ afterwards (λ v. v .second) answer (now (second .entry))))
         ⌝ }

@@ -1,7 +1,8 @@
--- Every height 0: the K list and the distance list.
+-- Every height 0: the K list, the distance list and the forecast.
 use mathlib.Core.Path.{_≡_, refl, sym, ap₂, _∙_}
 use mathlib.Core.List.{List, [], map}
 use Prim.Native.Nat.{ℕ}
+use lib.ListN.{length-map}
 use Rattle.site.specs.Site.{Site}
 use Rattle.site.specs.SiteList.{Columns, Plane, onGround, sites}
 use Rattle.site.proofs.Ground.{ground, ground-sites, ground-distance, ground-lists}
@@ -13,6 +14,8 @@ use Rattle.sweep.specs.Sweep.{sweep}
 use Rattle.sweep.proofs.Alike.{each, whole-each, sweep-alike, pairs-alike}
 use Rattle.pairs.specs.KList.{kList, kListRefusal, kListAnswer}
 use Rattle.pairs.specs.DistanceList.{distanceList, distanceRefusal, distanceAnswer}
+use Rattle.pairs.specs.Forecast.{forecastRefusal, forecastAnswer}
+use Rattle.pairs.proofs.ForecastAnswer.{partners-alike, total-alike}
 
 -- ---- any sites
 
@@ -50,3 +53,17 @@ module _ (a b : Columns) (pa : Plane a) (pb : Plane b) where
       → distanceAnswer (onGround a) (onGround b) e first second ≡ distanceAnswer a b e first second
   unfolding distanceAnswer distanceRefusal distanceList
   distance-list-same e first second = rw (ground-lists a b pa pb, pairs-same)
+
+  pub forecast-same : (e : ℕ) (column : List ℕ) → forecastAnswer (onGround a) (onGround b) e column ≡ forecastAnswer a b e column
+  unfolding forecastAnswer forecastRefusal
+  forecast-same e column =
+      let l = sites a in
+      let m = sites b in
+      rw (
+        ground-lists a b pa pb,
+        ground-sites a pa,
+        ground-sites b pb,
+        length-map l ground,
+        partners-alike e ground (λ s. refl) l m,
+        total-alike e ground (λ s. refl) l m,
+      )

@@ -7,6 +7,7 @@ use Rattle.entry.specs.Results.{Results}
 use Rattle.sweep.specs.declared.Way.{Way}
 use Rattle.pairs.specs.KList.{kListAnswer}
 use Rattle.pairs.specs.DistanceList.{distanceAnswer}
+use Rattle.pairs.specs.Forecast.{forecastAnswer}
 use Rattle.campaign.specs.declared.Campaign.{Campaign}
 use Rattle.campaign.specs.Grid.{Job}
 use Rattle.campaign.specs.Calls.{openAnswer, jobAnswer, statusAnswer}
@@ -18,6 +19,8 @@ pub record PlaneAnswers (a b : Columns) : Type 0 where
   pub distanceLists :
       (e : ℕ) (first second : List ℕ)
       → distanceAnswer (onGround a) (onGround b) e first second ≡ distanceAnswer a b e first second
+  pub forecasts :
+      (e : ℕ) (column : List ℕ) → forecastAnswer (onGround a) (onGround b) e column ≡ forecastAnswer a b e column
   pub openings :
       (k : ℕ) (ends ends' : List ℕ) (r : Results)
       → openAnswer (onGround a) (onGround b) k ends ends' r ≡ openAnswer a b k ends ends' r

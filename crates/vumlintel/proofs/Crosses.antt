@@ -1,5 +1,5 @@
 -- An answer crosses: in its values, or in its number and what was there before.
-use mathlib.Core.Path.{_≡_, refl}
+use mathlib.Core.Path.{_≡_, refl, ap}
 use Prim.Native.Nat.{ℕ}
 use lib.IntN.{ℤ}
 use mir.Syntax.{w32}
@@ -10,6 +10,9 @@ use Rattle.site.specs.declared.Changed.{Changed}
 use Rattle.site.specs.SiteList.{Columns, site, raisedSite}
 use Rattle.site.specs.Answer.{Answer, refused, answered, numberOf, afterwards}
 use Rattle.site.specs.InUse.{ChangeValues, changeValues, changedAnswer}
+use Rattle.pairs.specs.declared.Within.{Within}
+use Rattle.pairs.specs.declared.Within.the-variants.{Pairs, Refused}
+use Rattle.pairs.specs.Within.{withinAnswer}
 use Rattle.vumlintel.specs.Crosses.{Crosses}
 
 module _ {A : Type 0} {answer : Answer A} where
@@ -47,3 +50,15 @@ crossed-change {answer = refused number} told {d = d} call crossed = rw (← cal
 crossed-change {answer = answered values} told {d = d} call crossed =
     let there = rw (call .0) at (crossed d) in
     record { number = there .number; values = there .values }
+
+-- A number of pairs crosses beside its columns: those that the call left, and those that it was lent.
+pub crossed-within : {A : Type 0} {answer : Answer A} {n k k' : ℕ} (told : Within) {before after : ℕ → A}
+    → withinAnswer told after ≡ answer
+    → ((m : ℕ) → refused m ≡ answer → after ≡ before)
+    → Crosses (withinAnswer told (λ c. c)) n (record { entry = k; exit = k' })
+    → Crosses answer n (record { entry = before k; exit = after k' })
+unfolding withinAnswer numberOf afterwards
+crossed-within (Pairs count) {after = after} call leaves crossed =
+    rw (crossed .number) (crossed-values call (ap after (crossed .values)))
+crossed-within (Refused number) call leaves crossed =
+    rw (crossed .number) (crossed-refusal call (λ i. leaves number call i (crossed .values i)))

@@ -1,7 +1,7 @@
 -- `pairs::distance_list` meets its contract.
 use mathlib.Core.Path.{sym, _∙_}
 use borrow.Author.Needs.{needs}
-use Rattle.pairs.specs.DistanceList.{withinAnswer}
+use Rattle.pairs.specs.Within.{withinAnswer}
 use Rattle.pairs.proofs.DistanceList.{accepted, refused-is, answered-is}
 use Rattle.pairs.proofs.nearby.distance_list.Statement.{statement}
 use Rattle.pairs.proofs.nearby.distance_list.Tie as tie
