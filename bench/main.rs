@@ -336,6 +336,40 @@ fn distance_list(name: &str, a: &Columns, b: &Columns, wanted: usize) {
     );
 }
 
+/// A forecast beside the same in ordinary Rust, and beside checking the two lists.
+fn forecast(name: &str, a: &Columns, b: &Columns, e: u32) {
+    let (mut ours, mut theirs) = (vec![0; SITES], vec![0; SITES]);
+    let (mut total, mut expected) = (0, None);
+    let [proved, plain, checks] = least([
+        &mut || {
+            let number = unsafe {
+                raw::vumlintel_forecast(
+                    a.x.as_ptr(), a.x.len(), a.y.as_ptr(), a.y.len(), a.number.as_ptr(), a.number.len(),
+                    a.height.as_ptr(), a.height.len(),
+                    b.x.as_ptr(), b.x.len(), b.y.as_ptr(), b.y.len(), b.number.as_ptr(), b.number.len(),
+                    b.height.as_ptr(), b.height.len(),
+                    e,
+                    ours.as_mut_ptr(), ours.len(),
+                    &mut total,
+                )
+            };
+            assert_eq!(number, 0);
+        },
+        &mut || {
+            assert!(ordinary::check(a.lent()) == 0 && ordinary::check(b.lent()) == 0);
+            expected = ordinary::forecast(a.lent(), b.lent(), e, &mut theirs);
+        },
+        &mut || [a, b].into_iter().for_each(checked),
+    ]);
+    assert!(Some(total) == expected && ours == theirs, "the answers differ");
+    println!(
+        "forecast, {name}, e {e}, {total} pairs: {proved:.3} ms, Rust {plain:.3} ms, ratio {:.2}; both lists checked in \
+         {checks:.3} ms, ratio {:.2}",
+        proved / plain,
+        proved / checks,
+    );
+}
+
 /// A campaign as the calls take it.
 struct Campaign {
     numbers: [u32; 4],
@@ -503,6 +537,7 @@ fn main() {
     }
     k_lists(&kinds);
     distance_lists(&kinds);
+    forecasts(&kinds);
     campaigns(&kinds, &[1_000, 4_096]);
     let long_in_y = [("band long in y", band(r), band(r)), ("road along y", road(r), road(r))];
     campaigns(&long_in_y, &[1_000]);
@@ -526,6 +561,14 @@ fn distance_lists(kinds: &[(&str, Columns, Columns)]) {
     for (name, a, b) in kinds {
         for pairs in [100_000, 1_000_000] {
             distance_list(name, a, b, pairs);
+        }
+    }
+}
+
+fn forecasts(kinds: &[(&str, Columns, Columns)]) {
+    for (name, a, b) in kinds {
+        for e in [0, 30_000, 10_000_000, u32::MAX] {
+            forecast(name, a, b, e);
         }
     }
 }

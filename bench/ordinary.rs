@@ -222,6 +222,25 @@ pub fn distance_list(a: List, b: List, e: u32, first: &mut [u32], second: &mut [
     Some(pairs.len())
 }
 
+/// The partners of each place of the first list no further than `e` in x, in a lent column: the total, or none, with nothing
+/// written, where it is too short.
+pub fn forecast(a: List, b: List, e: u32, partners: &mut [u32]) -> Option<u64> {
+    let e = e as i64;
+    let (mut left, mut right, mut total) = (0, 0, 0);
+    for (x, n) in a.x.iter().zip(partners.get_mut(..a.x.len())?) {
+        let x = *x as i64;
+        while left < b.x.len() && x - b.x[left] as i64 > e {
+            left += 1;
+        }
+        while right < b.x.len() && b.x[right] as i64 - x <= e {
+            right += 1;
+        }
+        *n = (right - left) as u32;
+        total += (right - left) as u64;
+    }
+    Some(total)
+}
+
 /// The box of a strip, least and greatest x, y and height. The list ascends by x.
 fn box_of(l: List, (from, to): (usize, usize)) -> [i32; 6] {
     let edges = |c: &[i32]| (*c.iter().min().unwrap(), *c.iter().max().unwrap());
