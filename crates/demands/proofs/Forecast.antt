@@ -28,7 +28,7 @@ use Rattle.pairs.specs.Forecast.{
   forecastAnswer,
 }
 use Rattle.pairs.proofs.ForecastAnswer.{total-sums}
-use Rattle.pairs.proofs.Foreseen.{no-more, no-more-for}
+use Rattle.pairs.proofs.ForecastBound.{no-more, no-more-for}
 use Rattle.demands.specs.Forecast.{Foretells, ForecastsHold}
 use Rattle.demands.proofs.KClosest.{written}
 use Rattle.demands.proofs.Demand2.{written-values, distance-values}

@@ -5,7 +5,7 @@ pub mod NearSites
 pub mod NearPairs
 pub mod Written
 pub mod DistanceList
-pub mod PartnerCounts
+pub mod PartnersAcross
 pub mod ForecastAnswer
-pub mod Foreseen
+pub mod ForecastBound
 pub mod KList

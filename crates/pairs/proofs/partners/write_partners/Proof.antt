@@ -5,7 +5,7 @@ use native.Mathlib.Omega.{arith}
 use lib.ListN.{length}
 use Rattle.pairs.proofs.Offset.{run-ends}
 use Rattle.pairs.proofs.NearPairs.{Ready, ready-starts, ready-more}
-use Rattle.pairs.proofs.PartnerCounts.{run-partners, Filled, filled-none, filled-more, filled-all}
+use Rattle.pairs.proofs.PartnersAcross.{run-partners, Filled, filled-none, filled-more, filled-all}
 use Rattle.pairs.proofs.partners.write_partners.Statement.{statement}
 use Rattle.pairs.proofs.partners.write_partners.Tie as tie
 
