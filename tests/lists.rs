@@ -143,6 +143,16 @@ pub fn damaged(r: &mut Random, c: &Columns) -> Columns {
     c
 }
 
+/// Two lists of a kind, each of 0 to 40 sites, and each damaged now and then.
+pub fn two_lists(r: &mut Random, kind: usize) -> (Columns, Columns) {
+    let mut list = || {
+        let sites = [0, 1, 2, 5, 12, 40][r.below(6)];
+        let c = Columns::of(&lawful(r, kind, sites));
+        if r.once_in(8) { damaged(r, &c) } else { c }
+    };
+    (list(), list())
+}
+
 /// The lists F of document 01, at height 0.
 pub fn f() -> (Vec<Site>, Vec<Site>) {
     (

@@ -2,7 +2,7 @@
 
 use crate::calls;
 use crate::harness::{Harness, progress};
-use crate::lists::{KINDS, MAX, MIN, damaged, even, f, lawful, stacked};
+use crate::lists::{KINDS, MAX, MIN, damaged, even, f, lawful, stacked, two_lists};
 use crate::model::{self, Columns, Counters, Entry, Results, Site, Strip, WAYS, Way, site};
 use crate::random::Random;
 
@@ -254,15 +254,7 @@ fn random_distance_lists(r: &mut Random) {
     let rounds = 24_000;
     for round in 0..rounds {
         progress(round, rounds);
-        let (n, m) = ([0, 1, 2, 5, 12, 40][r.below(6)], [0, 1, 2, 5, 12, 40][r.below(6)]);
-        let mut a = Columns::of(&lawful(r, round, n));
-        let mut b = Columns::of(&lawful(r, round, m));
-        if r.once_in(8) {
-            a = damaged(r, &a);
-        }
-        if r.once_in(8) {
-            b = damaged(r, &b);
-        }
+        let (a, b) = two_lists(r, round);
         let e = match r.below(5) {
             0 => r.below(8) as u32,
             1 => r.next() as u32,

@@ -3,14 +3,13 @@ use mathlib.Core.Path.{_≡_, refl, sym, ap, _∙_}
 use mathlib.Core.List.{List, map}
 use Prim.Native.Nat.{ℕ, min, _≤_}
 use native.Mathlib.Omega.{arith}
-use borrow.Author.Tests.{le-ltb, ltb-true, ltb-false}
-use lib.Dec.{ltb, eqb}
-use lib.ListN.{length, take, getD, length-map, List·getD-eq-default}
+use borrow.Author.Tests.{le-ltb}
+use lib.Dec.{eqb}
+use lib.ListN.{length, take, getD, length-map}
 use Rattle.order.specs.Lists.{keep, sum}
-use Rattle.order.proofs.Order.{byTest}
 use Rattle.order.proofs.Lists.{length-keep-map}
 use Rattle.column.specs.Column.{overwritten}
-use Rattle.column.proofs.Overwritten.{take-overwritten, getD-overwritten}
+use Rattle.column.proofs.Overwritten.{take-overwritten}
 use Rattle.site.specs.Answer.{answered}
 use Rattle.site.specs.SiteList.{Columns, sites}
 use Rattle.site.specs.Refusal.{listsRefusal}
@@ -29,7 +28,7 @@ use Rattle.pairs.specs.Forecast.{
 }
 use Rattle.pairs.proofs.ForecastAnswer.{total-sums}
 use Rattle.pairs.proofs.ForecastBound.{no-more, no-more-for}
-use Rattle.demands.specs.Forecast.{Foretells, ForecastsHold}
+use Rattle.demands.specs.Forecast.{placeNumbers, Foretells, ForecastsHold}
 use Rattle.demands.proofs.KClosest.{written}
 use Rattle.demands.proofs.Demand2.{written-values, distance-values}
 
@@ -51,20 +50,17 @@ module _ (a b : Columns) (e : ℕ) (column : List ℕ) where
   unfolding forecastPartners
   partners-length = length-map (sites a) (λ s. countWithin e (map (xGap s) (sites b)))
 
-  -- What the column holds at a place is no less than the place's number, and past the list anything.
-  no-less : (place : ℕ) → getD partners place 0 ≤ getD (overwritten partners column) place 0
-  no-less place =
-      byTest (ltb place (length partners))
-      (λ t. omega (arith, getD-overwritten partners column place 0 (ltb-true place (length partners) t)))
-      (λ t. omega (arith, List·getD-eq-default partners 0 (ltb-false place (length partners) t)))
+  -- The column starts with the places' numbers.
+  numbers-are : placeNumbers a foretold ≡ partners
+  numbers-are = rw partners-length at (take-overwritten partners column)
 
   place-told : (first second : List ℕ) (place : ℕ)
       → let w = written-values a b e first second in
-      length (keep (λ p. eqb p place) (take (w .count) (w .first))) ≤ getD (overwritten partners column) place 0
+      length (keep (λ p. eqb p place) (take (w .count) (w .first))) ≤ getD (placeNumbers a foretold) place 0
   place-told first second place =
       let l = distanceList e (sites a) (sites b) in
-      rw (written l (λ p. p .first) first, length-keep-map (λ p. eqb p place) (λ (p : Entry). p .first) l)
-      (omega (arith, no-more-for e (sites a) (sites b) place, no-less place))
+      rw (numbers-are, written l (λ p. p .first) first, length-keep-map (λ p. eqb p place) (λ (p : Entry). p .first) l)
+      (no-more-for e (sites a) (sites b) place)
 
   module _ (ok : listsRefusal a b ≡ 0) where
     enough : (first second : List ℕ) → foretold .total ≤ length first → foretold .total ≤ length second
@@ -78,7 +74,7 @@ module _ (a b : Columns) (e : ℕ) (column : List ℕ) where
     foretells : Foretells a b e foretold
     foretells =
         record {
-          sums = total-sums e (sites a) (sites b) ∙ ap sum (sym (rw partners-length at (take-overwritten partners column)));
+          sums = total-sums e (sites a) (sites b) ∙ ap sum (sym numbers-are);
           inTotal = λ first second w accepted.
               rw (← distance-values a b e first second w accepted) (no-more e (sites a) (sites b));
           forPlace = λ first second w accepted place.

@@ -10,17 +10,21 @@ use Rattle.site.specs.SiteList.{Columns, sites}
 use Rattle.pairs.specs.DistanceList.{DistanceValues, distanceAnswer}
 use Rattle.pairs.specs.Forecast.{ForecastValues, forecastAnswer}
 
+-- The numbers that it leaves in the column, one for each place of the first list.
+abbrev pub placeNumbers : Columns → ForecastValues → List ℕ
+placeNumbers a v = take (length (sites a)) (v .partners)
+
 -- What the values of a forecast tell.
 pub record Foretells (a b : Columns) (e : ℕ) (v : ForecastValues) : Type 0 where
   -- The numbers of the first list's places make up the total.
-  pub sums : v .total ≡ sum (take (length (sites a)) (v .partners))
+  pub sums : v .total ≡ sum (placeNumbers a v)
   -- "A distance list with that e never has more pairs than the forecast, in total or for a place":
   pub inTotal :
       (first second : List ℕ) (w : DistanceValues) → distanceAnswer a b e first second ≡ answered w → w .count ≤ v .total
-  -- a place stands in the first column no more often than it has partners.
+  -- a place stands in the first column no more often than it has partners, and one past the first list never.
   pub forPlace :
       (first second : List ℕ) (w : DistanceValues) → distanceAnswer a b e first second ≡ answered w → (place : ℕ)
-      → length (keep (λ p. eqb p place) (take (w .count) (w .first))) ≤ getD (v .partners) place 0
+      → length (keep (λ p. eqb p place) (take (w .count) (w .first))) ≤ getD (placeNumbers a v) place 0
   -- "Distance columns as long as the total never get 6", nor any other refusal.
   pub room :
       (first second : List ℕ) → v .total ≤ length first → v .total ≤ length second
