@@ -146,7 +146,7 @@ fn books_columns(r: &mut Random) {
         calls::distance_list(&a, &b, e, &mut first, &mut second).unwrap();
         for (place, most) in partners.iter().enumerate() {
             let pairs = first[..count as usize].iter().filter(|p| **p == place as u32).count();
-            assert!(pairs <= *most as usize, "place {place}: {pairs} pairs, {most} foretold");
+            assert!(pairs <= *most as usize, "place {place}: {pairs} pairs, {most} forecast");
         }
         full += (count == total && total > 0) as u32;
         spare += (count < total) as u32;

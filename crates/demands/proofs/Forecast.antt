@@ -28,7 +28,7 @@ use Rattle.pairs.specs.Forecast.{
 }
 use Rattle.pairs.proofs.ForecastAnswer.{total-sums}
 use Rattle.pairs.proofs.ForecastBound.{no-more, no-more-for}
-use Rattle.demands.specs.Forecast.{placeNumbers, Foretells, ForecastsHold}
+use Rattle.demands.specs.Forecast.{placeNumbers, ForecastBounds, ForecastsHold}
 use Rattle.demands.proofs.KClosest.{written}
 use Rattle.demands.proofs.Demand2.{written-values, distance-values}
 
@@ -37,13 +37,13 @@ module _ (a b : Columns) (e : ℕ) (column : List ℕ) where
   partners = forecastPartners e (sites a) (sites b)
 
   -- The values of an accepted forecast.
-  abbrev foretold : ForecastValues
-  foretold = forecastValues (overwritten partners column) (forecastTotal e (sites a) (sites b))
+  abbrev values : ForecastValues
+  values = forecastValues (overwritten partners column) (forecastTotal e (sites a) (sites b))
 
-  accepted-values : (v : ForecastValues) → forecastAnswer a b e column ≡ answered v → (listsRefusal a b ≡ 0) × (foretold ≡ v)
+  accepted-values : (v : ForecastValues) → forecastAnswer a b e column ≡ answered v → (listsRefusal a b ≡ 0) × (values ≡ v)
   unfolding forecastAnswer forecastRefusal
   accepted-values v accepted =
-      let w = answered-values (forecastRefusal a b column) foretold v accepted in
+      let w = answered-values (forecastRefusal a b column) values v accepted in
       (orElse-first _ _ (w .0), w .1)
 
   partners-length : length partners ≡ length (sites a)
@@ -51,19 +51,19 @@ module _ (a b : Columns) (e : ℕ) (column : List ℕ) where
   partners-length = length-map (sites a) (λ s. countWithin e (map (xGap s) (sites b)))
 
   -- The column starts with the places' numbers.
-  numbers-are : placeNumbers a foretold ≡ partners
+  numbers-are : placeNumbers a values ≡ partners
   numbers-are = rw partners-length at (take-overwritten partners column)
 
-  place-told : (first second : List ℕ) (place : ℕ)
+  place-bound : (first second : List ℕ) (place : ℕ)
       → let w = written-values a b e first second in
-      length (keep (λ p. eqb p place) (take (w .count) (w .first))) ≤ getD (placeNumbers a foretold) place 0
-  place-told first second place =
+      length (keep (λ p. eqb p place) (take (w .count) (w .first))) ≤ getD (placeNumbers a values) place 0
+  place-bound first second place =
       let l = distanceList e (sites a) (sites b) in
       rw (numbers-are, written l (λ p. p .first) first, length-keep-map (λ p. eqb p place) (λ (p : Entry). p .first) l)
       (no-more-for e (sites a) (sites b) place)
 
   module _ (ok : listsRefusal a b ≡ 0) where
-    enough : (first second : List ℕ) → foretold .total ≤ length first → foretold .total ≤ length second
+    enough : (first second : List ℕ) → values .total ≤ length first → values .total ≤ length second
         → distanceAnswer a b e first second ≡ answered (written-values a b e first second)
     unfolding distanceAnswer distanceRefusal
     enough first second f s =
@@ -71,18 +71,18 @@ module _ (a b : Columns) (e : ℕ) (column : List ℕ) where
         let room = le-ltb (min (length first) (length second)) (length (distanceList e (sites a) (sites b))) (omega arith) in
         sym (answer-values (sym (next-decides {q = listsRefusal a b} refl ok (rw room))))
 
-    foretells : Foretells a b e foretold
-    foretells =
+    bounds : ForecastBounds a b e values
+    bounds =
         record {
           sums = total-sums e (sites a) (sites b) ∙ ap sum (sym numbers-are);
           inTotal = λ first second w accepted.
               rw (← distance-values a b e first second w accepted) (no-more e (sites a) (sites b));
           forPlace = λ first second w accepted place.
-              rw (← distance-values a b e first second w accepted) (place-told first second place);
+              rw (← distance-values a b e first second w accepted) (place-bound first second place);
           room = λ first second f s. (written-values a b e first second, enough first second f s);
         }
 
 pub forecasts-hold : ForecastsHold
 unfolding ForecastsHold
 forecasts-hold a b e column v accepted =
-    let w = accepted-values a b e column v accepted in rw (← w .1) (foretells a b e column (w .0))
+    let w = accepted-values a b e column v accepted in rw (← w .1) (bounds a b e column (w .0))

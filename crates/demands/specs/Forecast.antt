@@ -15,7 +15,7 @@ abbrev pub placeNumbers : Columns → ForecastValues → List ℕ
 placeNumbers a v = take (length (sites a)) (v .partners)
 
 -- What the values of a forecast tell.
-pub record Foretells (a b : Columns) (e : ℕ) (v : ForecastValues) : Type 0 where
+pub record ForecastBounds (a b : Columns) (e : ℕ) (v : ForecastValues) : Type 0 where
   -- The numbers of the first list's places make up the total.
   pub sums : v .total ≡ sum (placeNumbers a v)
   -- "A distance list with that e never has more pairs than the forecast, in total or for a place":
@@ -34,4 +34,4 @@ pub record Foretells (a b : Columns) (e : ℕ) (v : ForecastValues) : Type 0 whe
 unfoldable pub ForecastsHold : Type 0
 ForecastsHold =
     (a b : Columns) (e : ℕ) (column : List ℕ) (v : ForecastValues) → forecastAnswer a b e column ≡ answered v
-    → Foretells a b e v
+    → ForecastBounds a b e v

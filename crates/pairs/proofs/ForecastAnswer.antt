@@ -38,7 +38,7 @@ use Rattle.pairs.specs.Forecast.{
   forecastValues,
   forecastAnswer,
 }
-use Rattle.pairs.specs.Internal.{Across, partnersAcross, Foretold}
+use Rattle.pairs.specs.Internal.{Across, partnersAcross, PartnersWritten}
 use Rattle.pairs.proofs.Offset.{across}
 
 -- ---- of any sites
@@ -130,7 +130,7 @@ module _ (a b : Columns) (column : List ℕ) where
   unfolding forecastAnswer
   refused-is e p h = (answer-refused _ p h, after-refused (λ v. v .partners) _ column p h)
 
-  pub answered-is : {e n : ℕ} {after : List ℕ} → forecastRefusal a b column ≡ 0 → Foretold (a .x) (b .x) e column after n
+  pub answered-is : {e n : ℕ} {after : List ℕ} → forecastRefusal a b column ≡ 0 → PartnersWritten (a .x) (b .x) e column after n
       → (answered (forecastValues after n) ≡ forecastAnswer a b e column)
       × (after ≡ afterwards (λ v. v .partners) (forecastAnswer a b e column) column)
   unfolding forecastAnswer

@@ -17,7 +17,7 @@ use Rattle.column.proofs.Stored.{overwritten-last}
 use Rattle.site.specs.Site.{within, gap}
 use Rattle.pairs.specs.declared.Run.{Run}
 use Rattle.pairs.specs.Forecast.{countWithin}
-use Rattle.pairs.specs.Internal.{Across, RunOf, partnersAcross, Foretold}
+use Rattle.pairs.specs.Internal.{Across, RunOf, partnersAcross, PartnersWritten}
 use Rattle.pairs.proofs.Offset.{far-left, far-right, near-x, run-ends}
 
 pub across-at : {xs : List ℤ} → Across xs → (i : ℕ) → i < length xs → within (getD xs i (pos 0)) ≡ true
@@ -84,7 +84,7 @@ module _ {a b : List ℤ} {e : ℕ} {before : List ℕ} where
       }
 
   pub filled-all : {i : ℕ} {column : List ℕ} {t : ℕ} → length a ≤ i → Filled a b e before i column t
-      → Foretold a b e before column t
+      → PartnersWritten a b e before column t
   filled-all {i} h f =
       let all = take-all i a h in
       record { column = rw all at (f .holds); total = rw all at (f .total) }

@@ -64,7 +64,7 @@ unfoldable pub partnersAcross : ℕ → List ℤ → List ℤ → List ℕ
 partnersAcross e ax bx = map (λ x. countWithin e (map (gap x) bx)) ax
 
 -- A column that held `before` holds them from its start on, and `r` is their sum.
-pub record Foretold (ax bx : List ℤ) (e : ℕ) (before after : List ℕ) (r : ℕ) : Type 0 where
+pub record PartnersWritten (ax bx : List ℤ) (e : ℕ) (before after : List ℕ) (r : ℕ) : Type 0 where
   pub column : after ≡ overwritten (partnersAcross e ax bx) before
   pub total : r ≡ sum (partnersAcross e ax bx)
 

@@ -9,13 +9,13 @@ ghost use Rattle.site.specs.Answer.{afterwards};
 ghost use Rattle.site.specs.SiteList.{lentList};
 ghost use Rattle.pairs.specs.Within.{withinAnswer};
 ghost use Rattle.pairs.specs.Forecast.{forecastRefusal, forecastAnswer, forecastValues};
-ghost use Rattle.pairs.specs.Internal.{Across, Foretold};
+ghost use Rattle.pairs.specs.Internal.{Across, PartnersWritten};
 
 // Writes the number of partners of each place into the column, which has room for them: the total.
 fn write_partners(ax: &[i32], bx: &[i32], e: u32, partners: &mut [u32]) -> u64
     requires { ⌜ (Across (now ax)) × (Across (now bx)) × (length (now ax) ≤ length (now partners)) ⌝ }
     ensures { λ r.
-        ⌜ Foretold (now (ax .entry)) (now (bx .entry)) e (now (partners .entry)) (now (partners .exit)) r ⌝ }
+        ⌜ PartnersWritten (now (ax .entry)) (now (bx .entry)) e (now (partners .entry)) (now (partners .exit)) r ⌝ }
 {
     let mut total: u64 = 0;
     let mut run = Run { left: 0, right: 0 };
