@@ -10,7 +10,7 @@ use Rattle.site.specs.SiteList.{Columns, sites}
 use Rattle.pairs.specs.DistanceList.{DistanceValues, distanceAnswer}
 use Rattle.pairs.specs.Forecast.{ForecastValues, forecastAnswer}
 
--- The numbers that it leaves in the column, one for each place of the first list.
+-- The numbers that a forecast leaves in its column, one for each place of the first list.
 abbrev pub placeNumbers : Columns → ForecastValues → List ℕ
 placeNumbers a v = take (length (sites a)) (v .partners)
 
