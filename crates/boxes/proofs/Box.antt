@@ -11,8 +11,8 @@ use lib.IntN.{ℤ, pos, negsuc}
 use lib.Signed.{ltZ, leZ}
 use lib.ListN.{length, take, drop, getD, length-take, length-drop}
 use Rattle.order.specs.Lists.{all, All, sum}
-use Rattle.order.specs.Order.{after}
-use Rattle.order.proofs.Order.{ltZ-order}
+use Rattle.order.specs.Order.{after, foremost}
+use Rattle.order.proofs.Order.{byTest, ltZ-order}
 use Rattle.order.proofs.Lists.{all-mem, all-weaken, all-holds, holds-all, all-append, map-take, map-drop, fromPlace, by-places}
 use Rattle.order.proofs.Foremost.{after-order, foremost-none, foremost-holds}
 use Rattle.site.specs.Site.{Site, coordinates, between, within, heightWithin, gap, square, squaredDistance}
@@ -20,7 +20,7 @@ use Rattle.site.specs.SiteList.{raised, withColumns, sites}
 use Rattle.site.specs.Terms.{Level}
 use Rattle.site.proofs.Tests.{and-first, and-second}
 use Rattle.site.proofs.Integers.{not-lt-le}
-use Rattle.site.proofs.Distance.{square-le, squaredOver}
+use Rattle.site.proofs.Distance.{gap-sym, gap-same, square-le, squaredOver}
 use Rattle.site.proofs.SiteList.{sites-length}
 use Rattle.boxes.specs.Box.{
   least,
@@ -176,6 +176,28 @@ box-gap-under p q {s} {t} m n =
     around-gap-under (coordinateColumns p) (coordinateColumns q) (coordinates s) (coordinates t)
     (all-mem (λ u. Covers (coordinateColumns p) (coordinates u)) (covers p) m)
     (all-mem (λ u. Covers (coordinateColumns q) (coordinates u)) (covers q) n)
+
+-- ---- single sites
+
+-- The gap of two ranges of one coordinate each is their difference.
+point-gap : (c d : ℤ) → rangeGap c c d d ≡ gap c d
+unfolding rangeGap
+point-gap c d =
+    byTest (ltZ c d) (λ h. rw h)
+    (λ h.
+    rw h
+    (byTest (ltZ d c) (λ g. rw g (gap-sym d c)) (λ g. rw g (let e : c ≡ d = ltZ-order .total c d h g in rw e (sym (gap-same d))))))
+
+points-gap : (cs ds : List ℤ) → squaredBoxGap (boxAround (map (λ c. c ∷ []) cs)) (boxAround (map (λ c. c ∷ []) ds)) ≡ squaredOver cs ds
+unfolding squaredBoxGap boxAround flatMap edges gaps sum zipWith foremost
+points-gap [] ds = refl
+points-gap (c ∷ cs) [] = refl
+points-gap (c ∷ cs) (d ∷ ds) = ap₂ _+_ (ap square (point-gap c d)) (points-gap cs ds)
+
+-- The gap squared of two boxes around a single site each is their squared distance.
+pub single-gap : (s t : Site) → squaredBoxGap (boxOf (s ∷ [])) (boxOf (t ∷ [])) ≡ squaredDistance s t
+unfolding boxOf coordinateColumns squaredDistance
+single-gap s t = points-gap (coordinates s) (coordinates t)
 
 -- ---- sites with heights
 

@@ -1,7 +1,7 @@
 -- The gap of two ranges, test by test, and how far apart what stands in them is.
 use mathlib.Core.Path.{_≡_}
-use mathlib.Core.Bool.{true, false}
-use Prim.Native.Nat.{_≤_}
+use mathlib.Core.Bool.{true, false, cond}
+use Prim.Native.Nat.{ℕ, _≤_}
 use native.Mathlib.Nat.{le-trans}
 use native.Mathlib.Omega.{arith}
 use lib.IntN.{ℤ}
@@ -9,21 +9,21 @@ use lib.Signed.{ltZ, leZ}
 use Rattle.order.proofs.Order.{byTest}
 use Rattle.site.specs.Site.{within, gap}
 use Rattle.site.proofs.Integers.{lt-le, le-trans as leZ-trans}
-use Rattle.site.proofs.Distance.{gap-sym, gap-grows, gap-shrinks, gap-within}
+use Rattle.site.proofs.Distance.{gap-sym, gap-grows, gap-shrinks, gap-some, gap-within}
 use Rattle.boxes.specs.Box.{rangeGap}
 
 module _ (from to from' to' : ℤ) where
-  pub range-before : ltZ to from' ≡ true → gap to from' ≡ rangeGap from to from' to'
+  -- From the two sides on which there may be one.
+  pub range-above : {above : ℕ} → above ≡ cond (ltZ to from') (gap to from') 0 → (above ≡ 0 → ⊥) → above ≡ rangeGap from to from' to'
   unfolding rangeGap
-  range-before h = rw h
+  range-above e some =
+      byTest (ltZ to from') (λ h. rw h (rw h at e)) (λ h. absurd (some (rw h at e)))
 
-  pub range-after : ltZ to from' ≡ false → ltZ to' from ≡ true → gap to' from ≡ rangeGap from to from' to'
+  pub range-below : {above below : ℕ} → above ≡ cond (ltZ to from') (gap to from') 0 → below ≡ cond (ltZ to' from) (gap to' from) 0
+      → above ≡ 0 → below ≡ rangeGap from to from' to'
   unfolding rangeGap
-  range-after h g = rw (h, g)
-
-  pub range-touch : ltZ to from' ≡ false → ltZ to' from ≡ false → 0 ≡ rangeGap from to from' to'
-  unfolding rangeGap
-  range-touch h g = rw (h, g)
+  range-below e e' none =
+      byTest (ltZ to from') (λ h. absurd (omega (arith, gap-some to from' h, none, (rw h at e)))) (λ h. rw h e')
 
   -- It is small where the edges are inside the limits.
   pub range-within : within from ≡ true → within to ≡ true → within from' ≡ true → within to' ≡ true

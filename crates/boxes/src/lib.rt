@@ -73,17 +73,13 @@ pub fn box_around(x: &[i32], y: &[i32], height: &[i32]) -> [i32; 6]
     ]
 }
 
-// The difference of two ranges, 0 where they touch or overlap.
+// The difference of two ranges, 0 where they touch or overlap. Neither side is jumped to: which one has a gap is hard to foretell.
 fn range_gap(from: i32, to: i32, other_from: i32, other_to: i32) -> u64
     ensures { λ r. ⌜ r ≡ rangeGap from to «other_from» «other_to» ⌝ }
 {
-    if to < other_from {
-        return site::gap(to, other_from);
-    }
-    if other_to < from {
-        return site::gap(other_to, from);
-    }
-    0
+    let above = site::rise(to, other_from);
+    let below = site::rise(other_to, from);
+    if above == 0 { below } else { above }
 }
 
 // The gap of two boxes along the coordinate whose edges stand at a place and behind it.

@@ -18,6 +18,9 @@ use Rattle.sweep.specs.declared.Way.the-variants.{Classic}
 use Rattle.sweep.specs.Strip.{whole, placedFrom, strip, pair, product, pairs}
 use Rattle.sweep.specs.Scan.{beyond, taken, scan}
 use Rattle.sweep.specs.Sweep.{classicOver, leads, look, sweep}
+use Rattle.halves.specs.Gap.{squaredStripGap}
+use Rattle.join.specs.declared.Join.the-variants.{Sweep}
+use Rattle.join.specs.Join.{join}
 use Rattle.campaign.specs.declared.Campaign.{Campaign}
 use Rattle.campaign.specs.Grid.{
   lawfulEnds,
@@ -33,7 +36,6 @@ use Rattle.campaign.specs.Grid.{
   lawfulMarks,
   jobPairs,
   jobsPairs,
-  squaredStripGap,
 }
 use Rattle.campaign.specs.Soundness.{firstEnds, secondEnds, soundEntry, sound, campaignRefusal}
 use Rattle.campaign.specs.Calls.{slots, newCampaign, jobRefusal, skips, jobEntries, afterJob, JobValues, jobAnswer}
@@ -47,7 +49,7 @@ answerAs (answered v) = 200 - 100 * v .swept
 answersOf : Columns → Columns → Campaign → Results → List Job → List ℕ
 answersOf a b c r [] = []
 answersOf a b c r (j ∷ l) =
-    let answer = jobAnswer Classic c a b r j in
+    let answer = jobAnswer (Sweep Classic) c a b r j in
     let c' = afterwards (λ (v : JobValues). v .campaign) answer c in
     let r' = afterwards (λ (v : JobValues). v .results) answer r in
     answerAs answer ∷ answersOf a b c' r' l
@@ -123,7 +125,7 @@ unfolding
     afterJob afterwards all allWithin answerAs answersOf answerUnless apart apartInHeight apartInY ascending bestK between beyond boxAround
     boxOf campaignRefusal classicOver contentRefusal coordinateColumns coSited countFrom edges entriesOf equalGap equalLengths firstEnds firstOf
     flatMap foremost gap gaps heightWithin holding insert jobAnswer
-    jobEntries jobPairs jobRefusal jobs jobsPairs keep last lastDistance lawfulEnds lawfulK lawfulMarks lawfulSite leads
+    jobEntries jobPairs jobRefusal join jobs jobsPairs keep last lastDistance lawfulEnds lawfulK lawfulMarks lawfulSite leads
     lex listRefusal listsRefusal look markOf newCampaign offer one onePosition orElse origin overwritten ownRanges pair
     pairs placedFrom product rangeGap rankBefore roomFor scan secondEnds settled settledJobs settledWith siteAt siteBefore sites
     sizeFault skips slots sort sound soundEntry soundnessFirst square squaredBoxGap squaredDistance squaredStripGap strip stripAt

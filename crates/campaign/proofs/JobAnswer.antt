@@ -19,37 +19,38 @@ use Rattle.entry.specs.Entry.{bestK}
 use Rattle.entry.specs.Results.{Results, entriesOf, holding, roomFor}
 use Rattle.entry.proofs.Rank.{rank-order}
 use Rattle.entry.proofs.Results.{length-entries, last-distance-column, holding-self}
-use Rattle.sweep.specs.declared.Way.{Way}
-use Rattle.sweep.specs.declared.Swept.{Swept}
 use Rattle.sweep.specs.Strip.{Placed, strip, pairs}
 use Rattle.sweep.specs.Scan.{beyond}
-use Rattle.sweep.specs.Sweep.{sweep}
-use Rattle.sweep.specs.Terms.{SweptTo}
 use Rattle.sweep.proofs.ScanLaws.{beyond-under}
 use Rattle.sweep.proofs.LeftOf.{leftOf, strip-sorted}
-use Rattle.sweep.proofs.SweepLaws.{sweep-sorted}
+use Rattle.halves.specs.Gap.{squaredStripGap}
+use Rattle.halves.proofs.HalvesLaws.{pairs-far}
+use Rattle.join.specs.declared.Join.{Join}
+use Rattle.join.specs.declared.Joined.{Joined}
+use Rattle.join.specs.Join.{noCounts, join}
+use Rattle.join.specs.Terms.{JoinedTo}
+use Rattle.join.proofs.JoinLaws.{join-best}
 use Rattle.campaign.specs.declared.Campaign.{Campaign}
 use Rattle.campaign.specs.declared.Outcome.the-variants as outcome
 use Rattle.campaign.specs.declared.JobDone.{JobDone}
 use Rattle.campaign.specs.declared.Strip.{Strip}
-use Rattle.campaign.specs.Grid.{stripAt, jobOf, jobPairs, squaredStripGap}
+use Rattle.campaign.specs.Grid.{stripAt, jobOf, jobPairs}
 use Rattle.campaign.specs.Soundness.{firstEnds, secondEnds}
 use Rattle.campaign.specs.Calls.{jobRefusal, skips, jobEntries, afterJob, JobValues, jobValues, jobAnswer, jobDoneAnswer}
 use Rattle.campaign.specs.Internal.{StripOf}
 use Rattle.site.proofs.Accepted.{accepted-order}
 use Rattle.campaign.proofs.SoundPlan.{strips-are}
 use Rattle.campaign.proofs.SoundCampaign.{campaign-sorted, campaign-length}
-use Rattle.campaign.proofs.SquaredStripGap.{pairs-far}
 use Rattle.campaign.proofs.JobRefusal.{job-sound}
 
--- ---- the columns that a sweep is lent
+-- ---- the columns that a join is lent
 
 module _ (c : Campaign) {s t : ℕ} {p q : Strip} (is : StripOf (take (c .«first_strips») (c .«first_ends»)) s p)
     (js : StripOf (take (c .«second_strips») (c .«second_ends»)) t q) where
-  -- What a sweep of the strips' places promises, of the strips by number.
-  pub by-number : (way : Way) (k : ℕ) (a b : List Site) (l : List Entry) {r r' : Results} {d : Swept}
-      → SweptTo (sweep way k (strip (p .from) (p .to) a) (strip (q .from) (q .to) b) l) r r' d
-      → SweptTo (sweep way k (stripAt (firstEnds c) a s) (stripAt (secondEnds c) b t) l) r r' d
+  -- What a join of the strips' places promises, of the strips by number.
+  pub by-number : (way : Join) (k : ℕ) (a b : List Site) (l : List Entry) {r r' : Results} {d : Joined}
+      → JoinedTo (join way k (strip (p .from) (p .to) a) (strip (q .from) (q .to) b) l) r r' d
+      → JoinedTo (join way k (stripAt (firstEnds c) a s) (stripAt (secondEnds c) b t) l) r r' d
   by-number way k a b l w = let e = strips-are c is js a b in rw (e .0, e .1) at w
 
   -- ---- the test of a skip
@@ -71,7 +72,7 @@ not-full c a b r s t room most h = simp (length-entries (c .k) (c .entries) r ro
 
 -- ---- what a job leaves
 
-module _ (way : Way) (c : Campaign) (a b : Columns) (r : Results) (s t : ℕ) where
+module _ (way : Join) (c : Campaign) (a b : Columns) (r : Results) (s t : ℕ) where
   -- A job as its answer, its campaign and the result columns tell it.
   abbrev pub Done-as : JobDone → Results → Type 0
   Done-as d r' =
@@ -124,10 +125,10 @@ module _ (way : Way) (c : Campaign) (a b : Columns) (r : Results) (s t : ℕ) wh
         (pairs-far firstStrip secondStrip)
         ∙ own-best
 
-    -- A sweep leaves the best of the entries and all pairs.
-    swept-entries : sweep way (c .k) firstStrip secondStrip entries .entries ≡ left
+    -- A join leaves the best of the entries and all pairs.
+    swept-entries : join way (c .k) firstStrip secondStrip entries .entries ≡ left
     unfolding jobEntries jobPairs
-    swept-entries = sweep-sorted way (c .k) firstStrip secondStrip entries entries first-sorted second-sorted (sym own-best)
+    swept-entries = join-best way (c .k) firstStrip secondStrip entries entries first-sorted second-sorted (sym own-best)
 
     pub job-skipped : skips c (sites a) (sites b) entries (jobOf s t) ≡ true → {c' : Campaign}
         → c' ≡ afterJob c (c .entries) (jobOf s t) → Done-as (record { campaign = c'; outcome = outcome.Skipped }) r
@@ -139,19 +140,19 @@ module _ (way : Way) (c : Campaign) (a b : Columns) (r : Results) (s t : ℕ) wh
         let after : c' ≡ afterJob c (length left) (jobOf s t) = e ∙ ap (λ (n : ℕ). afterJob c n (jobOf s t)) (sym count) in
         let columns : r ≡ holding left r =
         sym (holding-self (c .k) (c .entries) r (w .room) (w .most)) ∙ ap (λ (l : List Entry). holding l r) (sym same) in (
-          ap₂ (λ (d : Campaign) (l : Results). answered (jobValues d l 0 0 0)) after columns ∙ rw h (answer-values ok),
+          ap₂ (λ (d : Campaign) (l : Results). answered (jobValues d l 0 noCounts)) after columns ∙ rw h (answer-values ok),
           (after ∙ after-answered _ _ c ok, columns ∙ after-answered _ _ r ok),
         )
 
-    pub job-swept : skips c (sites a) (sites b) entries (jobOf s t) ≡ false → {r' : Results} {d : Swept}
-        → SweptTo (sweep way (c .k) firstStrip secondStrip entries) r r' d
+    pub job-swept : skips c (sites a) (sites b) entries (jobOf s t) ≡ false → {r' : Results} {d : Joined}
+        → JoinedTo (join way (c .k) firstStrip secondStrip entries) r r' d
         → {c' : Campaign} → c' ≡ afterJob c (d .entries) (jobOf s t)
-        → Done-as (record { campaign = c'; outcome = outcome.Swept (d .looks) (d .distances) }) r'
+        → Done-as (record { campaign = c'; outcome = outcome.Swept (d .counters) }) r'
     unfolding jobDoneAnswer jobAnswer
     job-swept h {r'} {d} w {c'} e =
         let count : d .entries ≡ length left = w .entries ∙ ap (λ (l : List Entry). length l) swept-entries in
         let after : c' ≡ afterJob c (length left) (jobOf s t) = e ∙ ap (λ (n : ℕ). afterJob c n (jobOf s t)) count in
         let columns : r' ≡ holding left r = w .columns ∙ ap (λ (l : List Entry). holding l r) swept-entries in (
-          rw (h, after, columns, w .looks, w .distances) (answer-values ok),
+          rw (h, after, columns, w .counts) (answer-values ok),
           (after ∙ after-answered _ _ c ok, columns ∙ after-answered _ _ r ok),
         )

@@ -15,7 +15,6 @@ pub mod Sound
 pub mod SoundCampaign
 pub mod OpenAnswer
 pub mod StatusAnswer
-pub mod SquaredStripGap
 pub mod JobRefusal
 pub mod JobAnswer
 pub mod Examples

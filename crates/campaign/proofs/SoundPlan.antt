@@ -15,11 +15,12 @@ use Rattle.site.proofs.Tests.{and-first, and-second}
 use Rattle.entry.specs.Entry.{lawfulK}
 use Rattle.entry.proofs.Rank.{k-limits}
 use Rattle.sweep.specs.Strip.{strip, pairs}
+use Rattle.halves.specs.Terms.{SomeStrip}
 use Rattle.campaign.specs.declared.Campaign.{Campaign}
 use Rattle.campaign.specs.declared.Strip.{Strip}
 use Rattle.campaign.specs.Grid.{lawfulEnds, stripAt, jobOf, jobs, lawfulMarks, settled, settledJobs, jobPairs}
 use Rattle.campaign.specs.Soundness.{firstEnds, secondEnds}
-use Rattle.campaign.specs.Internal.{LawfulColumns, stripFrom, stripTo, StripOf, SomeStrip, lawfulSlots, JobAsked, soundPlan}
+use Rattle.campaign.specs.Internal.{LawfulColumns, stripFrom, stripTo, StripOf, lawfulSlots, JobAsked, soundPlan}
 use Rattle.campaign.proofs.LawfulEnds.{lawful-cut, strip-inside}
 
 -- ---- the tests in their order
@@ -123,7 +124,7 @@ module _ {c : Campaign} {n m s t : ℕ} (w : JobAsked c n m (jobOf s t)) where
       strip-inside (lawful-cut m (secondEnds c) (asked-parts .second)) t
       (in-use-below' c long (asked-parts .cols) (w .column))
 
-some-strip : {xs ys hs : List ℤ} {s : Strip} → LawfulColumns xs ys hs → s .from < s .to → s .to ≤ length xs → SomeStrip xs ys hs s
+some-strip : {xs ys hs : List ℤ} {from to : ℕ} → LawfulColumns xs ys hs → from < to → to ≤ length xs → SomeStrip xs ys hs from to
 some-strip h some inside =
     record { strip = record { lawful = h .plane; heights = h .heights; range = omega arith; inside = inside }; some = some }
 
@@ -145,7 +146,7 @@ module _ (c : Campaign) {s t : ℕ} {p q : Strip} (is : StripOf (take (c .«firs
 
   pub strips-in : {ax ay ah bx by bh : List ℤ} → LawfulColumns ax ay ah → LawfulColumns bx by bh
       → JobAsked c (length ax) (length bx) (jobOf s t) → length (c .«first_ends») ≡ 32 → length (c .«second_ends») ≡ 32
-      → SomeStrip ax ay ah p × SomeStrip bx by bh q
+      → SomeStrip ax ay ah (p .from) (p .to) × SomeStrip bx by bh (q .from) (q .to)
   strips-in h g w long long' =
       let l = places w long long' in (some-strip h (l .0) (l .1), some-strip g (l .2) (l .3))
 

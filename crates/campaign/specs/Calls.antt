@@ -11,9 +11,10 @@ use Rattle.site.specs.Refusal.{listsRefusal}
 use Rattle.entry.specs.declared.Entry.{Entry}
 use Rattle.entry.specs.Entry.{bestK, lawfulK}
 use Rattle.entry.specs.Results.{Results, entriesOf, holding, roomFor}
-use Rattle.sweep.specs.declared.Way.{Way}
 use Rattle.sweep.specs.Scan.{beyond}
-use Rattle.sweep.specs.Sweep.{sweep}
+use Rattle.halves.specs.Gap.{squaredStripGap}
+use Rattle.join.specs.declared.Join.{Join}
+use Rattle.join.specs.Join.{Counts, noCounts, countsOf, join}
 use Rattle.campaign.specs.declared.Campaign.{Campaign}
 use Rattle.campaign.specs.declared.Opened.{Opened}
 use Rattle.campaign.specs.declared.Outcome.{Outcome}
@@ -21,7 +22,7 @@ use Rattle.campaign.specs.declared.Outcome.the-variants as outcome
 use Rattle.campaign.specs.declared.JobDone.{JobDone}
 use Rattle.campaign.specs.declared.Status.{Status}
 use Rattle.campaign.specs.declared.Status.the-variants as status
-use Rattle.campaign.specs.Grid.{lawfulEnds, stripAt, Job, settled, settle, settledJobs, jobPairs, squaredStripGap}
+use Rattle.campaign.specs.Grid.{lawfulEnds, stripAt, Job, settled, settle, settledJobs, jobPairs}
 use Rattle.campaign.specs.Soundness.{firstEnds, secondEnds, campaignRefusal}
 
 -- "Opening tests for 1 to 6."
@@ -83,30 +84,29 @@ afterJob c count j =
     campaignOf (c .k) count (c .«first_strips») (c .«second_strips») (c .«first_ends») (c .«second_ends»)
     (settle (c .marks) j)
 
--- "the campaign, whether it was swept or skipped, looks and distances" and the result columns; swept is 1, skipped 0.
+-- "the campaign, whether it was swept or skipped, looks and distances", with range pairs for these by halves, and the
+-- result columns; swept, by any of the three ways, is 1, skipped 0. (01, 02 k.)
 pub record JobValues : Type 0 where
   pub campaign : Campaign
   pub results : Results
   pub swept : ℕ
-  pub looks : ℕ
-  pub distances : ℕ
+  pub counts : Counts
 
-abbrev pub jobValues : Campaign → Results → ℕ → ℕ → ℕ → JobValues
-jobValues c r swept looks distances =
-    record { campaign = c; results = r; swept = swept; looks = looks; distances = distances }
+abbrev pub jobValues : Campaign → Results → ℕ → Counts → JobValues
+jobValues c r swept counts = record { campaign = c; results = r; swept = swept; counts = counts }
 
--- What a job answers: looks and distances are "both 0 when skipped".
-unfoldable pub jobAnswer : Way → Campaign → Columns → Columns → Results → Job → Answer JobValues
+-- What a job answers: looks and distances, and so range pairs, are "both 0 when skipped".
+unfoldable pub jobAnswer : Join → Campaign → Columns → Columns → Results → Job → Answer JobValues
 jobAnswer way c a b r j =
     let old = entriesOf (c .entries) r in
     let new = jobEntries c (sites a) (sites b) old j in
     let skip = skips c (sites a) (sites b) old j in
     let first = stripAt (firstEnds c) (sites a) (j .first) in
     let second = stripAt (secondEnds c) (sites b) (j .second) in
-    let s = sweep way (c .k) first second old in
+    let joined = join way (c .k) first second old in
     answerUnless (jobRefusal c a b r j)
     (jobValues (afterJob c (length new) j) (holding new r)
-    (cond skip 0 1) (cond skip 0 (s .looks)) (cond skip 0 (s .distances)))
+    (cond skip 0 1) (cond skip noCounts (joined .counts)))
 
 -- "Status gives jobs settled, jobs in all, entries, and K."
 pub record StatusValues : Type 0 where
@@ -131,8 +131,8 @@ unfoldable pub jobDoneAnswer : JobDone → Results → Answer JobValues
 jobDoneAnswer d r = case (d .outcome)
   where
     case : Outcome → Answer JobValues
-    case (outcome.Swept looks distances) = answered (jobValues (d .campaign) r 1 (looks .0) (distances .0))
-    case outcome.Skipped = answered (jobValues (d .campaign) r 0 0 0)
+    case (outcome.Swept counters) = answered (jobValues (d .campaign) r 1 (countsOf counters))
+    case outcome.Skipped = answered (jobValues (d .campaign) r 0 noCounts)
     case (outcome.Refused number) = refused number
 
 unfoldable pub statusOf : Status → Answer StatusValues

@@ -8,8 +8,7 @@ use Rattle.order.specs.Order.{ascending}
 use Rattle.order.specs.Lists.{keep, last}
 use Rattle.site.specs.Site.{Site}
 use Rattle.entry.specs.declared.Entry.{Entry}
-use Rattle.boxes.specs.Box.{boxOf, squaredBoxGap}
-use Rattle.sweep.specs.Strip.{Placed, strip, sitesOf, product, pairs}
+use Rattle.sweep.specs.Strip.{Placed, strip, product, pairs}
 use Rattle.campaign.specs.declared.Campaign.{Campaign}
 
 -- "at most 32 per list, strictly ascending, each above 0, the last equal to the list's length; an empty list has none."
@@ -69,8 +68,3 @@ jobPairs ends ends' a b j = pairs (stripAt ends a (j .first)) (stripAt ends' b (
 -- The pairs of some jobs, one job after the other.
 unfoldable pub jobsPairs : List ℕ → List ℕ → List Site → List Site → List Job → List Entry
 jobsPairs ends ends' a b l = flatMap (jobPairs ends ends' a b) l
-
--- "The gap of two strips should come from the strips' boxes", each around the strip's own sites, with the edges of their
--- heights too; squared. (02 a, 02 l.)
-unfoldable pub squaredStripGap : List Placed → List Placed → ℕ
-squaredStripGap p q = squaredBoxGap (boxOf (sitesOf p)) (boxOf (sitesOf q))

@@ -2,9 +2,9 @@
 use mathlib.Core.Path.{_≡_}
 use mathlib.Core.Bool.{true, Bool, _&&_, _||_}
 use mathlib.Core.List.{List, _∷_}
-use Prim.Native.Nat.{ℕ, _-_, _/_, _%_, _≤_, _<_}
+use Prim.Native.Nat.{ℕ, _/_, _%_, _≤_, _<_}
 use lib.Dec.{leb, ltb, eqb}
-use lib.ListN.{length, getD, take, drop}
+use lib.ListN.{length, getD, take}
 use lib.IntN.{ℤ}
 use denote.Ref.{RefT}
 use Rattle.order.specs.Order.{ascending}
@@ -13,7 +13,6 @@ use Rattle.site.specs.Site.{Site}
 use Rattle.site.specs.Terms.{Coordinates, Heights}
 use Rattle.entry.specs.Entry.{rankBefore, lawfulK}
 use Rattle.entry.specs.Results.{Results, entriesOf, roomFor}
-use Rattle.sweep.specs.Terms.{StripIn}
 use Rattle.campaign.specs.declared.Strip.{Strip}
 use Rattle.campaign.specs.declared.Campaign.{Campaign}
 use Rattle.campaign.specs.declared.Outcome.{Outcome}
@@ -42,15 +41,6 @@ stripTo ends s = getD ends s 0
 pub record StripOf (ends : List ℕ) (s : ℕ) (r : Strip) : Type 0 where
   pub from : r .from ≡ stripFrom ends s
   pub to : r .to ≡ stripTo ends s
-
--- A strip with a site or more, of a lawful list by its coordinate columns.
-pub record SomeStrip (xs ys hs : List ℤ) (s : Strip) : Type 0 where
-  pub strip : StripIn xs ys hs (s .from) (s .to)
-  pub some : s .from < s .to
-
--- The part of a column that a strip has.
-abbrev pub part : Strip → List ℤ → List ℤ
-part s l = take (s .to - s .from) (drop (s .from) l)
 
 -- Mark `i` is 0, or 1 at a job.
 unfoldable pub lawfulMark : ℕ → ℕ → ℕ → ℕ → Bool

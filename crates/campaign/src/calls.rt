@@ -7,7 +7,7 @@ use super::jobs;
 use super::marks;
 use super::opening;
 use super::soundness;
-use sweep::Way;
+use join::Join;
 ghost use mathlib.Core.Path.{_≡_};
 ghost use Rattle.site.specs.Answer.{afterwards};
 ghost use Rattle.site.specs.SiteList.{lentList};
@@ -125,7 +125,7 @@ pub fn job(
     second: &mut [u32],
     s: u32,
     t: u32,
-    way: Way,
+    way: Join,
 ) -> JobDone
     ensures { λ r.
         let a = lentList ax ay an ah .entry in
@@ -157,7 +157,7 @@ pub fn job(
     if jobs::skips(c, ax, ay, ah, bx, by, bh, distance, s, t) {
         return jobs::skipped(c, s, t);
     }
-    let swept = jobs::swept(
+    let joined = jobs::swept(
         c,
         ax,
         ay,
@@ -172,5 +172,5 @@ pub fn job(
         t,
         way,
     );
-    jobs::done(c, s, t, swept)
+    jobs::done(c, s, t, joined)
 }

@@ -1,13 +1,12 @@
-// One job: its refusal, whether it is skipped, its sweep, its mark.
+// One job: its refusal, whether it is skipped, its join, its mark.
 use super::Campaign;
 use super::JobDone;
 use super::Outcome;
 use super::ends;
 use super::marks;
 use super::soundness;
-use super::strips;
-use sweep::Swept;
-use sweep::Way;
+use join::Join;
+use join::Joined;
 ghost use mathlib.Core.Path.{_≡_};
 ghost use mathlib.Core.Bool.{true};
 ghost use mathlib.Core.List.{List};
@@ -17,8 +16,8 @@ ghost use Rattle.site.specs.SiteList.{lentList};
 ghost use Rattle.site.specs.Terms.{NumberedLent};
 ghost use Rattle.entry.specs.Terms.{Ready};
 ghost use Rattle.entry.specs.Results.{results, entriesOf, roomFor, lentResults};
-ghost use Rattle.sweep.specs.Sweep.{sweep};
-ghost use Rattle.sweep.specs.Terms.{SweptTo};
+ghost use Rattle.join.specs.Join.{join};
+ghost use Rattle.join.specs.Terms.{JoinedTo};
 ghost use Rattle.campaign.specs.Grid.{stripAt, jobOf};
 ghost use Rattle.campaign.specs.Soundness.{firstEnds, secondEnds};
 ghost use Rattle.campaign.specs.Internal.{BothCoordinates, JobAsked, jobDone};
@@ -94,12 +93,12 @@ pub(super) fn skips(
     let second_ends = c.second_ends;
     let p = ends::strip(first_ends, c.first_strips, s);
     let q = ends::strip(second_ends, c.second_strips, t);
-    let gap = strips::squared_gap(ax, ay, ah, bx, by, bh, p, q);
+    let gap = halves::squared_gap(ax, ay, ah, bx, by, bh, p.from, p.to, q.from, q.to);
     let last = c.entries as usize - 1;
     distance[last] < gap
 }
 
-// Sweeps the strips of a job.
+// Joins the strips of a job that is not skipped, by the way named.
 pub(super) fn swept(
     c: Campaign,
     ax: &[i32],
@@ -113,8 +112,8 @@ pub(super) fn swept(
     second: &mut [u32],
     s: u32,
     t: u32,
-    way: Way,
-) -> Swept
+    way: Join,
+) -> Joined
     requires { ⌜ BothCoordinates ax ay ah bx by bh ⌝ }
     requires { ⌜ JobAsked c (length (now ax)) (length (now bx)) (jobOf s t) ⌝ }
     requires { ⌜ Ready (c .k) (c .entries) (results (now distance) (now first) (now second)) ⌝ }
@@ -122,14 +121,14 @@ pub(super) fn swept(
         let l = lentResults distance first second in
         let old = entriesOf (c .entries) (l .entry) in
         ⌜ NumberedLent ax ay ah bx by bh (λ a b.
-        SweptTo (sweep way (c .k) (stripAt (firstEnds c) a s) (stripAt (secondEnds c) b t) old)
+        JoinedTo (join way (c .k) (stripAt (firstEnds c) a s) (stripAt (secondEnds c) b t) old)
         (l .entry) (l .exit) r) ⌝ }
 {
     let first_ends = c.first_ends;
     let second_ends = c.second_ends;
     let p = ends::strip(first_ends, c.first_strips, s);
     let q = ends::strip(second_ends, c.second_strips, t);
-    sweep::run(
+    join::run(
         way,
         ax,
         ay,
@@ -183,17 +182,16 @@ pub(super) fn skipped(c: Campaign, s: u32, t: u32) -> JobDone
     }
 }
 
-// A job that was swept: settled, with the entries, looks and distances of the sweep.
-pub(super) fn done(c: Campaign, s: u32, t: u32, swept: Swept) -> JobDone
+// A job that was swept: settled, with the entries and the counters of the join.
+pub(super) fn done(c: Campaign, s: u32, t: u32, joined: Joined) -> JobDone
     requires { ⌜ (s < 32) × (t < 32) ⌝ }
     ensures { λ r. ⌜
-        r ≡ jobDone (afterJob c (swept .entries) (jobOf s t)) (Outcome.Swept (swept .looks) (swept .distances))
+        r ≡ jobDone (afterJob c (joined .entries) (jobOf s t)) (Outcome.Swept (joined .counters))
         ⌝ }
 {
-    let looks = swept.looks;
-    let distances = swept.distances;
+    let counters = joined.counters;
     JobDone {
-        campaign: settle(c, s, t, swept.entries),
-        outcome: Outcome::Swept { looks, distances },
+        campaign: settle(c, s, t, joined.entries),
+        outcome: Outcome::Swept(counters),
     }
 }

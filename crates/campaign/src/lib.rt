@@ -5,11 +5,9 @@ mod jobs;
 mod marks;
 mod opening;
 mod soundness;
-mod strips;
 mod totals;
 
-use sweep::Distances;
-use sweep::Looks;
+use join::Counters;
 
 // K, the entry count, the cut ends of both lists and a mark for each job. (01: campaign.)
 pub struct Campaign {
@@ -36,7 +34,7 @@ pub struct Opened {
 
 // How a job ended.
 pub enum Outcome {
-    Swept { looks: Looks, distances: Distances },
+    Swept(Counters),
     Skipped,
     Refused(u32),
 }

@@ -1,28 +1,26 @@
 -- Demand 2, whole.
-use mathlib.Core.Path.{_≡_, refl, sym, ap}
+use mathlib.Core.Path.{_≡_, refl, ap}
 use mathlib.Core.Bool.{Bool}
-use mathlib.Core.List.{List, [], map}
+use mathlib.Core.List.{List, map}
 use Prim.Native.Nat.{ℕ}
 use lib.Dec.{leb}
 use lib.ListN.{length}
 use borrow.Author.Tests.{leb-true, le-leb}
 use Rattle.order.specs.Lists.{keep}
 use Rattle.order.proofs.Lists.{keep-mem, mem-keep, distinct-keep}
-use Rattle.order.proofs.Best.{best-nil}
 use Rattle.column.specs.Column.{overwritten}
 use Rattle.site.specs.Answer.{answered}
 use Rattle.site.specs.Site.{square}
 use Rattle.site.specs.SiteList.{Columns, sites}
 use Rattle.site.proofs.Answer.{answered-values}
-use Rattle.site.proofs.Accepted.{both-accepted, accepted-order}
+use Rattle.site.proofs.Accepted.{both-accepted}
 use Rattle.entry.specs.declared.Entry.{Entry}
-use Rattle.entry.specs.Entry.{rankBefore, bestK}
 use Rattle.entry.specs.Results.{entriesOf, holding}
 use Rattle.entry.proofs.Results.{entries-holding}
 use Rattle.sweep.specs.Strip.{whole, allPairs}
-use Rattle.sweep.proofs.SweepLaws.{sweep-whole-best}
 use Rattle.sweep.proofs.Strip.{byPlaces, whole-ascends, pairs-ascend, whole-pairs-distinct}
 use Rattle.pairs.specs.KList.{kList}
+use Rattle.pairs.proofs.KList.{join-k-list}
 use Rattle.pairs.specs.DistanceList.{distanceList, distanceRefusal, DistanceValues, distanceValues, distanceAnswer}
 use Rattle.order.proofs.Sorted.{ascends-keep, ascends-ascending}
 use Rattle.site_file.proofs.RoundTrip.{every-output-accepted, every-accepted-is-output}
@@ -62,7 +60,6 @@ distances-within a b e first second =
     }
 
 pub demand2 : Demand2
-unfolding kList bestK
 demand2 = record {
   kLists = λ way a b k r v accepted.
       let l = kList k (sites a) (sites b) in
@@ -70,10 +67,7 @@ demand2 = record {
       let closest : KClosest (sites a) (sites b) k (entriesOf (length l) (holding l r)) =
       rw here (k-list-closest (sites a) (sites b) k) in
       rw (← k-list-values way a b k r v accepted) (ap (λ (x : List Entry). length x) here, closest);
-  sweeps = λ way a b k ok.
-      let w = both-accepted a b ok in
-      let none = sym (best-nil rankBefore k) in
-      sweep-whole-best way k (sites a) (sites b) [] [] (accepted-order a (w .0)) (accepted-order b (w .1)) none;
+  joins = λ way a b k ok. let w = both-accepted a b ok in join-k-list way k a b (w .0) (w .1);
   distanceLists = λ a b e first second v accepted. (
     distanceList e (sites a) (sites b),
     rw (← distance-values a b e first second v accepted) (distances-within a b e first second),

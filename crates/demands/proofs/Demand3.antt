@@ -11,6 +11,7 @@ use Rattle.entry.specs.declared.Entry.{Entry}
 use Rattle.entry.specs.Results.{Results, entriesOf, holding}
 use Rattle.entry.proofs.Results.{entries-columns}
 use Rattle.sweep.specs.declared.Way.the-variants.{Classic}
+use Rattle.join.specs.declared.Join.the-variants.{Sweep}
 use Rattle.pairs.specs.KList.{kList}
 use Rattle.campaign.specs.Calls.{newCampaign, openRefusal, openAnswer, jobRefusal, jobAnswer}
 use Rattle.demands.specs.Book.{Book, openBook, bookEntries, noneOpen}
@@ -49,7 +50,7 @@ module _ (a b : Columns) (bench : Bench) (book : Book) (i : Invariant a b bench 
   like-bench-a h r v accepted =
       let l = kList (book .k) (sites a) (sites b) in
       let count : bench .campaign .entries ≡ length l = i .count ∙ ap (λ (x : List Entry). length x) (finished h) in
-      rw (← k-list-values Classic a b (book .k) r v accepted) (count, same-below l r (i .entries ∙ finished h))
+      rw (← k-list-values (Sweep Classic) a b (book .k) r v accepted) (count, same-below l r (i .entries ∙ finished h))
 
   agrees : Agrees a b bench book
   agrees = record {

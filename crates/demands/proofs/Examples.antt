@@ -15,10 +15,12 @@ use Rattle.boxes.specs.Box.{boxAround, boxOf, coordinateColumns, edges, gaps, r
 use Rattle.sweep.specs.Scan.{beyond, scan, taken}
 use Rattle.sweep.specs.Strip.{pair, pairs, placedFrom, product, strip, whole}
 use Rattle.sweep.specs.Sweep.{classicOver, leads, look, reverseOver, sweep}
+use Rattle.halves.specs.Gap.{squaredStripGap}
+use Rattle.join.specs.Join.{join}
 use Rattle.pairs.specs.DistanceList.{distanceList}
 use Rattle.pairs.specs.KList.{kList}
 use Rattle.campaign.specs.Calls.{afterJob, jobAnswer, jobEntries, jobRefusal, newCampaign, openAnswer, openRefusal, skips, slots, statusAnswer}
-use Rattle.campaign.specs.Grid.{countFrom, jobPairs, jobs, jobsPairs, lawfulEnds, lawfulMarks, markOf, settled, settledJobs, squaredStripGap, stripAt, stripHolding}
+use Rattle.campaign.specs.Grid.{countFrom, jobPairs, jobs, jobsPairs, lawfulEnds, lawfulMarks, markOf, settled, settledJobs, stripAt, stripHolding}
 use Rattle.campaign.specs.Soundness.{campaignRefusal, firstEnds, secondEnds, sound, soundEntry}
 use Rattle.demands.specs.Examples.{examples, ExamplesHold, figures, places, run, steps}
 
@@ -26,7 +28,7 @@ pub examples-hold : ExamplesHold
 unfolding
     afterJob afterwards all allWithin answerUnless apart ascending bestK between beyond boxAround boxOf campaignRefusal classicOver columnsOf
     contentRefusal coordinateColumns countFrom distanceList edges entriesOf equalLengths examples ExamplesHold figures firstEnds firstOf
-    flatMap foremost gap gaps heightWithin holding insert jobAnswer jobEntries jobPairs jobRefusal jobs jobsPairs keep kList last lastDistance lawfulEnds lawfulK
+    flatMap foremost gap gaps heightWithin holding insert jobAnswer jobEntries jobPairs jobRefusal jobs jobsPairs join keep kList last lastDistance lawfulEnds lawfulK
     lawfulMarks lawfulSite leads lex listRefusal listsRefusal look markOf newCampaign offer openAnswer openRefusal
     orElse overwritten pair pairs placedFrom places product rangeGap rankBefore reverseOver roomFor run scan
     secondEnds settled settledJobs siteAt siteBefore sites sizeFault skips slots sort sound soundEntry square

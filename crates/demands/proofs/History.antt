@@ -23,7 +23,8 @@ use Rattle.entry.specs.Entry.{rankBefore, bestK, lawfulK}
 use Rattle.entry.specs.Results.{Results, entriesOf, holding, roomFor}
 use Rattle.entry.proofs.Rank.{rank-order}
 use Rattle.entry.proofs.Results.{entries-holding, room-holding}
-use Rattle.sweep.specs.declared.Way.{Way}
+use Rattle.join.specs.declared.Join.{Join}
+use Rattle.join.specs.Join.{Counts}
 use Rattle.campaign.specs.Grid.{lawfulEnds, Job, markOf, settled, settle, jobPairs, jobsPairs}
 use Rattle.campaign.specs.Soundness.{firstEnds, secondEnds}
 use Rattle.campaign.specs.Calls.{slots, newCampaign, openRefusal, jobEntries, afterJob, JobValues, jobValues, jobAnswer}
@@ -118,24 +119,24 @@ accepted-job book j h =
 
 module _ (a b : Columns) (bench : Bench) (book : Book) (i : Invariant a b bench book) where
   -- A job lent B's own lists and columns, by the book's refusal number.
-  after-number : (j : Job) (n swept looks distances : ℕ) → bookRefusal book j ≡ n
+  after-number : (j : Job) (n swept : ℕ) (counts : Counts) → bookRefusal book j ≡ n
       → (let c = bench .campaign in
       let r = bench .results in
       let l = jobEntries c (sites a) (sites b) (entriesOf (c .entries) r) j in
       Invariant a b
       (afterwards (λ v. benchOf (v .campaign) (v .results))
-      (answerUnless n (jobValues (afterJob c (length l) j) (holding l r) swept looks distances)) bench)
+      (answerUnless n (jobValues (afterJob c (length l) j) (holding l r) swept counts)) bench)
       (cond (eqb n 0) (withJob book j) book))
   unfolding afterwards answerUnless
-  after-number j zero swept looks distances e =
+  after-number j zero swept counts e =
       let w = accepted-job book j e in
       rw (job-entries a b bench book i j) (after-accepted a b bench book i j (w .0) (w .1))
-  after-number j (suc n) swept looks distances e = rw (ne-eqb (suc n) 0 (λ z. omega arith)) i
+  after-number j (suc n) swept counts e = rw (ne-eqb (suc n) 0 (λ z. omega arith)) i
 
-  pub after-job : (j : Job) (way : Way)
+  pub after-job : (j : Job) (way : Join)
       → Invariant a b (benchAfter a b bench (job own j way)) (bookAfter book (job own j way))
   unfolding benchAfter bookAfter jobAnswer
-  after-job j way = rw (job-refusal a b bench book i j) (after-number j (bookRefusal book j) _ _ _ refl)
+  after-job j way = rw (job-refusal a b bench book i j) (after-number j (bookRefusal book j) _ _ refl)
 
   -- A refused job: nothing of B's changes.
   pub after-refusal : (value : JobValues → Bench) {n : ℕ} (values : JobValues) → (n ≡ 0 → ⊥)

@@ -22,10 +22,10 @@ use Rattle.entry.specs.declared.Entry.{Entry}
 use Rattle.entry.specs.Entry.{rankBefore, bestK}
 use Rattle.entry.specs.Results.{Results, holding}
 use Rattle.entry.proofs.Rank.{rank-order, rank-farther}
-use Rattle.sweep.specs.declared.Way.{Way}
 use Rattle.sweep.specs.Strip.{whole, allPairs}
-use Rattle.sweep.specs.Sweep.{sweep}
 use Rattle.sweep.proofs.Strip.{whole-pairs-distinct}
+use Rattle.join.specs.declared.Join.{Join}
+use Rattle.join.specs.Join.{join}
 use Rattle.pairs.specs.KList.{kList, kListRefusal, KListValues, kListValues, kListAnswer}
 use Rattle.demands.specs.Demand3.{NoChoiceBetter}
 use Rattle.demands.specs.Demand2.{KClosest}
@@ -78,10 +78,10 @@ pub written : (l : List Entry) (f : Entry → ℕ) (column : List ℕ)
 written l f column = rw (← length-map l f) (take-overwritten (map f l) column)
 
 -- The values of an accepted K list.
-pub k-list-values : (way : Way) (a b : Columns) (k : ℕ) (r : Results) (v : KListValues)
+pub k-list-values : (way : Join) (a b : Columns) (k : ℕ) (r : Results) (v : KListValues)
     → kListAnswer way a b k r ≡ answered v
     → (let l = kList k (sites a) (sites b) in
-    let swept = sweep way k (whole (sites a)) (whole (sites b)) [] in
-    kListValues (holding l r) (length l) (swept .looks) (swept .distances) ≡ v)
+    let joined = join way k (whole (sites a)) (whole (sites b)) [] in
+    kListValues (holding l r) (length l) (joined .counts) ≡ v)
 unfolding kListAnswer
 k-list-values way a b k r v accepted = answered-values (kListRefusal a b k r) _ v accepted .1

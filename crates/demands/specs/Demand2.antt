@@ -15,9 +15,9 @@ use Rattle.site.specs.Refusal.{listsRefusal}
 use Rattle.entry.specs.declared.Entry.{Entry}
 use Rattle.entry.specs.Entry.{rankBefore}
 use Rattle.entry.specs.Results.{Results, entriesOf}
-use Rattle.sweep.specs.declared.Way.{Way}
 use Rattle.sweep.specs.Strip.{whole, allPairs}
-use Rattle.sweep.specs.Sweep.{sweep}
+use Rattle.join.specs.declared.Join.{Join}
+use Rattle.join.specs.Join.{join}
 use Rattle.pairs.specs.KList.{kList, KListValues, kListAnswer}
 use Rattle.pairs.specs.DistanceList.{DistanceValues, distanceAnswer}
 use Rattle.site_file.specs.RoundTrip.{EveryOutputAccepted, EveryAcceptedIsOutput}
@@ -45,15 +45,15 @@ pub record WithinLimit (a b : List Site) (e : ℕ) (l : List Entry) (v : Distanc
 
 -- Demand 2, whole.
 pub record Demand2 : Type 0 where
-  -- An accepted K list, by either sweep: its entries, as many as it answers, are the K closest pairs.
+  -- An accepted K list, by any of the three ways: its entries, as many as it answers, are the K closest pairs.
   pub kLists :
-      (way : Way) (a b : Columns) (k : ℕ) (r : Results) (v : KListValues) → kListAnswer way a b k r ≡ answered v
+      (way : Join) (a b : Columns) (k : ℕ) (r : Results) (v : KListValues) → kListAnswer way a b k r ≡ answered v
       → (length (entriesOf (v .count) (v .results)) ≡ v .count)
       × KClosest (sites a) (sites b) k (entriesOf (v .count) (v .results))
-  -- Both sweeps find the K list.
-  pub sweeps :
-      (way : Way) (a b : Columns) (k : ℕ) → listsRefusal a b ≡ 0
-      → sweep way k (whole (sites a)) (whole (sites b)) [] .entries ≡ kList k (sites a) (sites b)
+  -- Each of the three ways finds the K list.
+  pub joins :
+      (way : Join) (a b : Columns) (k : ℕ) → listsRefusal a b ≡ 0
+      → join way k (whole (sites a)) (whole (sites b)) [] .entries ≡ kList k (sites a) (sites b)
   -- An accepted distance list: the pairs in its columns are those within the limit.
   pub distanceLists :
       (a b : Columns) (e : ℕ) (first second : List ℕ) (v : DistanceValues)

@@ -14,6 +14,7 @@ use Rattle.entry.specs.declared.Entry.{Entry}
 use Rattle.entry.specs.Results.{Results, results, entriesOf}
 use Rattle.sweep.specs.declared.Way.the-variants.{Classic}
 use Rattle.sweep.specs.Strip.{allPairs}
+use Rattle.join.specs.declared.Join.the-variants.{Sweep}
 use Rattle.pairs.specs.KList.{KListValues, kListAnswer}
 use Rattle.campaign.specs.declared.Campaign.{Campaign}
 use Rattle.campaign.specs.Soundness.{campaignRefusal}
@@ -36,7 +37,7 @@ below count r = results (take count (r .distance)) (take count (r .first)) (take
 -- Beside bench A, "an accepted K list by the classic sweep": both counts are the same, and all columns below them.
 unfoldable pub LikeBenchA : Columns → Columns → ℕ → Bench → Type 0
 LikeBenchA a b k bench =
-    (r : Results) (v : KListValues) → kListAnswer Classic a b k r ≡ answered v
+    (r : Results) (v : KListValues) → kListAnswer (Sweep Classic) a b k r ≡ answered v
     → (bench .campaign .entries ≡ v .count)
     × (below (bench .campaign .entries) (bench .results) ≡ below (v .count) (v .results))
 

@@ -14,6 +14,7 @@ use Rattle.sweep.specs.declared.Way.the-variants.{Classic, ReverseRun}
 use Rattle.sweep.specs.Scan.{State}
 use Rattle.sweep.specs.Strip.{whole}
 use Rattle.sweep.specs.Sweep.{sweep}
+use Rattle.join.specs.declared.Join.the-variants.{Sweep}
 use Rattle.pairs.specs.KList.{kList}
 use Rattle.pairs.specs.DistanceList.{distanceList}
 use Rattle.campaign.specs.declared.Campaign.{Campaign}
@@ -33,7 +34,7 @@ unfoldable pub steps : Columns → Columns → List Job → Campaign → Results
 steps a b [] c r =
     afterwards (λ v. v .jobs ∷ v .entries ∷ places (entriesOf (c .entries) r)) (statusAnswer c a b r) []
 steps a b (j ∷ l) c r =
-    afterwards (λ v. v .swept ∷ steps a b l (v .campaign) (v .results)) (jobAnswer Classic c a b r j) []
+    afterwards (λ v. v .swept ∷ steps a b l (v .campaign) (v .results)) (jobAnswer (Sweep Classic) c a b r j) []
 
 -- The same of a campaign from its opening on.
 unfoldable pub run : List Site → List Site → ℕ → List ℕ → List ℕ → List Job → List ℕ

@@ -6,7 +6,7 @@ use lib.Dec.{eqb}
 use Rattle.site.specs.Answer.{afterwards}
 use Rattle.site.specs.SiteList.{Columns}
 use Rattle.entry.specs.Results.{Results}
-use Rattle.sweep.specs.declared.Way.{Way}
+use Rattle.join.specs.declared.Join.{Join}
 use Rattle.campaign.specs.declared.Campaign.{Campaign}
 use Rattle.campaign.specs.Grid.{Job}
 use Rattle.campaign.specs.Calls.{jobAnswer}
@@ -18,9 +18,9 @@ pub data Lending : Type 0 where
   otherLists : Columns → Columns → Lending
   otherColumns : Columns → Columns → Results → Lending
 
--- A call. A job and a status get B's campaign as the last call left it.
+-- A call. A job, by any of the three ways, and a status get B's campaign as the last call left it.
 pub data Call : Type 0 where
-  job : Lending → Job → Way → Call
+  job : Lending → Job → Join → Call
   status : Lending → Call
   opening : Columns → Columns → ℕ → List ℕ → List ℕ → Results → Call
 

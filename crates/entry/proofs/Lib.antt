@@ -6,6 +6,7 @@ pub mod Results
 pub mod PutAt
 pub mod Within
 pub mod Queueing
+pub mod Updated
 pub mod LaterChild
 pub mod Sifted
 pub mod HeapedFrom

@@ -66,3 +66,9 @@ pub record Offered (k : ℕ) (e : Entry) (old : Queue) (before after : Results) 
   pub list : queued new after ≡ offer k e (queued old before)
   pub least : old .count ≤ new .count
   pub within : Within (new .count) before after
+
+-- The columns went from `before` with `old` entries to `r` with the queue `q`, and hold nothing else that is new.
+pub record Updated (k : ℕ) (before : Results) (old : ℕ) (r : Results) (q : Queue) : Type 0 where
+  pub queue : Queueing k q r
+  pub least : old ≤ q .count
+  pub rest : Within (q .count) before r

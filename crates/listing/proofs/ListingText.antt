@@ -23,11 +23,10 @@ use Rattle.entry.specs.Entry.{rankBefore, bestK}
 use Rattle.entry.specs.Results.{Results, results, entriesOf, holding, roomFor}
 use Rattle.entry.proofs.Rank.{k-limits}
 use Rattle.entry.proofs.Results.{room-fewer, entries-holding, room-holding}
-use Rattle.sweep.specs.declared.Way.{Way}
-use Rattle.sweep.specs.declared.Looks.{Looks}
-use Rattle.sweep.specs.declared.Distances.{Distances}
 use Rattle.sweep.specs.Strip.{strip, pairs, allPairs}
 use Rattle.sweep.specs.Terms.{StripIn}
+use Rattle.join.specs.declared.Counters.{Counters}
+use Rattle.join.specs.declared.Join.{Join}
 use Rattle.pairs.specs.declared.Listed.{Listed}
 use Rattle.pairs.specs.declared.Listed.the-variants.{Entries, Refused}
 use Rattle.pairs.specs.KList.{kList, kListRefusal, kListAnswer, listedAnswer}
@@ -106,7 +105,7 @@ module _ (a b : Columns) (lists : listsRefusal a b ≡ 0) where
         rw (whole-strip (onGround a) (up .0), whole-strip (onGround b) (up .1)) at counted ∙ ap length (pairs-same a b pa pb)
 
 -- The K list of two lists of the plane that are lent with every height 0.
-pub on-plane : (way : Way) (a b : Columns) (k : ℕ) (r : Results) {ah bh : List ℤ} → Plane a → Plane b → Grounded (a .x) ah → Grounded (b .x) bh
+pub on-plane : (way : Join) (a b : Columns) (k : ℕ) (r : Results) {ah bh : List ℤ} → Plane a → Plane b → Grounded (a .x) ah → Grounded (b .x) bh
     → kListAnswer way (raised (a .x) (a .y) (a .number) ah) (raised (b .x) (b .y) (b .number) bh) k r ≡ kListAnswer way a b k r
 unfolding HeightsOfZero
 on-plane way a b k r pa pb e f = rw (e, f) (heights-of-zero a b pa pb .kLists way k r)
@@ -114,7 +113,7 @@ on-plane way a b k r pa pb e f = rw (e, f) (heights-of-zero a b pa pb .kLists wa
 -- ---- the K list in the result columns
 
 -- A K list of two lawful lists, into columns with room for it.
-module _ (way : Way) (a b : Columns) (k : ℕ) (r : Results) {buffer : List ℕ} (lawful : Lawful a b k buffer)
+module _ (way : Join) (a b : Columns) (k : ℕ) (r : Results) {buffer : List ℕ} (lawful : Lawful a b k buffer)
     (long : roomFor 4_096 r ≡ true) where
   k-most : k ≤ 4_096
   k-most = k-limits k (lawful .some) .1
@@ -138,7 +137,7 @@ module _ (way : Way) (a b : Columns) (k : ℕ) (r : Results) {buffer : List ℕ}
     unfolding listedAnswer kListAnswer
     never-refused {n} e = refused-number (kListRefusal a b k r) n _ (sym (ap (λ x. listedAnswer x s) e) ∙ answer) .1 none
 
-    module _ {count : ℕ} {looks : Looks} {distances : Distances} (e : l ≡ Entries count looks distances) where
+    module _ {count : ℕ} {counters : Counters} (e : l ≡ Entries count counters) where
       values : (s ≡ holding found r) × (count ≡ length found)
       unfolding listedAnswer kListAnswer found
       values =

@@ -3,6 +3,7 @@ use super::ROOM;
 use super::body;
 use super::input;
 use super::line;
+use join::Join;
 use pairs::Listed;
 use site_file::Which;
 use sweep::Way;
@@ -42,7 +43,7 @@ fn list_with(
         let b = lentPlane bx by bn .entry in
         ⌜ Puts 0 (listingText k (sites a) (sites b)) out r ⌝ }
 {
-    let way = Way::ReverseRun;
+    let way = Join::Sweep(Way::ReverseRun);
     match pairs::k_list(
         way,
         ax,
@@ -58,11 +59,7 @@ fn list_with(
         first,
         second,
     ) {
-        Listed::Entries {
-            count,
-            looks: _,
-            distances: _,
-        } => {
+        Listed::Entries { count, counters: _ } => {
             let n = ax.len();
             let m = bx.len();
             let total = sweep::count_pairs(ax, ay, ah, bx, by, bh, 0, n, 0, m);

@@ -35,14 +35,14 @@ use Rattle.entry.specs.declared.Entry.{Entry}
 use Rattle.entry.specs.Entry.{rankBefore, bestK, lawfulK}
 use Rattle.entry.proofs.Rank.{k-limits}
 use Rattle.entry.specs.Results.{Results, holding, roomFor, entriesOf}
-use Rattle.sweep.specs.declared.Swept.{Swept}
-use Rattle.sweep.specs.declared.Way.{Way}
 use Rattle.sweep.specs.Strip.{Placed, whole, strip}
-use Rattle.sweep.specs.Scan.{State}
-use Rattle.sweep.specs.Sweep.{sweep}
-use Rattle.sweep.specs.Terms.{SweepAsked, SweptTo, SweptStrips}
+use Rattle.sweep.specs.Terms.{SweepAsked}
 use Rattle.sweep.proofs.Strip.{strip-whole}
-use Rattle.sweep.proofs.SweepLaws.{sweep-whole-best}
+use Rattle.join.specs.declared.Join.{Join}
+use Rattle.join.specs.declared.Joined.{Joined}
+use Rattle.join.specs.Join.{countsOf, Found, join}
+use Rattle.join.specs.Terms.{JoinedTo, JoinedStrips}
+use Rattle.join.proofs.JoinLaws.{join-whole-best}
 use Rattle.pairs.specs.KList.{kList, kListRefusal, KListValues, kListValues, kListAnswer}
 
 sorted-none : (r : Results) → Sorted rankBefore (entriesOf 0 r)
@@ -53,22 +53,22 @@ sorted-none r = tt
 pub whole-strip : (c : Columns) → listRefusal c ≡ 0 → strip 0 (length (c .x)) (sites c) ≡ whole (sites c)
 whole-strip c ok = strip-whole (length (c .x)) (sites c) (omega (arith, accepted-length c ok))
 
--- What a sweep over two whole lists finds.
-sweep-k-list : (way : Way) (k : ℕ) (a b : Columns) → listRefusal a ≡ 0 → listRefusal b ≡ 0
-    → sweep way k (whole (sites a)) (whole (sites b)) [] .entries ≡ kList k (sites a) (sites b)
+-- What a join of two whole lists finds.
+pub join-k-list : (way : Join) (k : ℕ) (a b : Columns) → listRefusal a ≡ 0 → listRefusal b ≡ 0
+    → join way k (whole (sites a)) (whole (sites b)) [] .entries ≡ kList k (sites a) (sites b)
 unfolding kList bestK
-sweep-k-list way k a b oka okb =
-    sweep-whole-best way k (sites a) (sites b) [] [] (accepted-order a oka) (accepted-order b okb)
+join-k-list way k a b oka okb =
+    join-whole-best way k (sites a) (sites b) [] [] (accepted-order a oka) (accepted-order b okb)
     (sym (best-nil rankBefore k))
 
-values-are : (s : State) (l : List Entry) {before after : Results} {answer : Swept} → s .entries ≡ l
-    → SweptTo s before after answer
-    → kListValues after (answer .entries) (answer .looks .0) (answer .distances .0)
-    ≡ kListValues (holding l before) (length l) (s .looks) (s .distances)
+values-are : (s : Found) (l : List Entry) {before after : Results} {answer : Joined} → s .entries ≡ l
+    → JoinedTo s before after answer
+    → kListValues after (answer .entries) (countsOf (answer .counters))
+    ≡ kListValues (holding l before) (length l) (s .counts)
 values-are s l {before} e v =
     let held = v .columns ∙ ap (λ (t : List Entry). holding t before) e in
     let count = v .entries ∙ ap length e in
-    λ i. kListValues (held i) (count i) (v .looks i) (v .distances i)
+    λ i. kListValues (held i) (count i) (v .counts i)
 
 module _ (a b : Columns) (k : ℕ) (r : Results) where
   -- The refusal, by its tests.
@@ -90,7 +90,7 @@ module _ (a b : Columns) (k : ℕ) (r : Results) where
       unfolding kListRefusal
       k-accepted g = next-decides p none (next-decides {q = 0} (rw (← l, h)) refl (rw (← m, g)))
 
-  pub k-refused : (way : Way) {n : ℕ} → n ≡ kListRefusal a b k r → (n ≡ 0 → ⊥)
+  pub k-refused : (way : Join) {n : ℕ} → n ≡ kListRefusal a b k r → (n ≡ 0 → ⊥)
       → (refused n ≡ kListAnswer way a b k r) × (r ≡ afterwards (λ v. v .results) (kListAnswer way a b k r) r)
   unfolding kListAnswer
   k-refused way p h = (answer-refused _ p h, after-refused (λ v. v .results) _ r p h)
@@ -105,13 +105,13 @@ module _ (a b : Columns) (k : ℕ) (r : Results) where
     unfolding kListRefusal
     rest-accepted = orElse-second (listsRefusal a b) _ ok
 
-    over-whole : (way : Way)
-        → sweep way k (strip 0 (length (a .x)) (sites a)) (strip 0 (length (b .x)) (sites b)) (entriesOf 0 r)
-        ≡ sweep way k (whole (sites a)) (whole (sites b)) []
+    over-whole : (way : Join)
+        → join way k (strip 0 (length (a .x)) (sites a)) (strip 0 (length (b .x)) (sites b)) (entriesOf 0 r)
+        ≡ join way k (whole (sites a)) (whole (sites b)) []
     unfolding entriesOf
     over-whole way =
         let l = lists-accepted in
-        ap₂ (λ (p q : List Placed). sweep way k p q []) (whole-strip a (l .0)) (whole-strip b (l .1))
+        ap₂ (λ (p q : List Placed). join way k p q []) (whole-strip a (l .0)) (whole-strip b (l .1))
 
 module _ (ax ay : List ℤ) (an : List ℕ) (ah bx by : List ℤ) (bn : List ℕ) (bh : List ℤ) (k : ℕ) (r : Results)
     (ok : kListRefusal (raised ax ay an ah) (raised bx by bn bh) k r ≡ 0) where
@@ -121,9 +121,9 @@ module _ (ax ay : List ℤ) (an : List ℕ) (ah bx by : List ℤ) (bn : List ℕ
   abbrev b : Columns
   b = raised bx by bn bh
 
-  -- What the sweep asks.
-  pub sweep-asks : SweepAsked ax ay ah bx by bh 0 (length ax) 0 (length bx) k 0 r
-  sweep-asks =
+  -- What the join asks.
+  pub join-asks : SweepAsked ax ay ah bx by bh 0 (length ax) 0 (length bx) k 0 r
+  join-asks =
       let l = lists-accepted a b k r ok in
       let rest = rest-accepted a b k r ok in
       let m = k-limits k (fault-none (lawfulK k) 3 (orElse-first _ _ rest)) in
@@ -147,18 +147,18 @@ module _ (ax ay : List ℤ) (an : List ℕ) (ah bx by : List ℤ) (bn : List ℕ
       }
 
   -- What it then answers and leaves.
-  pub swept-is : (way : Way) {after : Results} {answer : Swept}
-      → Numbered ax ay ah bx by bh (SweptStrips way 0 (length ax) 0 (length bx) k 0 r after answer)
-      → let values = kListValues after (answer .entries) (answer .looks .0) (answer .distances .0) in
+  pub joined-is : (way : Join) {after : Results} {answer : Joined}
+      → Numbered ax ay ah bx by bh (JoinedStrips way 0 (length ax) 0 (length bx) k 0 r after answer)
+      → let values = kListValues after (answer .entries) (countsOf (answer .counters)) in
       (answered values ≡ kListAnswer way a b k r)
       × (after ≡ afterwards (λ v. v .results) (kListAnswer way a b k r) r)
   unfolding kListAnswer
-  swept-is way {after} {answer} w =
-      let s = sweep way k (whole (sites a)) (whole (sites b)) [] in
+  joined-is way {after} {answer} w =
+      let s = join way k (whole (sites a)) (whole (sites b)) [] in
       let l = lists-accepted a b k r ok in
       let u = w .numbered an bn (accepted-level a (l .0)) (accepted-level b (l .1)) in
-      let v : SweptTo s r after answer = subst (λ (t : State). SweptTo t r after answer) (over-whole a b k r ok way) u in
-      let e = values-are s (kList k (sites a) (sites b)) (sweep-k-list way k a b (l .0) (l .1)) v in (
+      let v : JoinedTo s r after answer = subst (λ (t : Found). JoinedTo t r after answer) (over-whole a b k r ok way) u in
+      let e = values-are s (kList k (sites a) (sites b)) (join-k-list way k a b (l .0) (l .1)) v in (
         ap {B = Answer KListValues} answered e ∙ answer-values ok,
         ap (λ v. v .results) e ∙ after-answered (λ v. v .results) _ r ok,
       )

@@ -10,9 +10,9 @@ use Rattle.site.specs.Refusal.{listsRefusal}
 use Rattle.entry.specs.declared.Entry.{Entry}
 use Rattle.entry.specs.Entry.{lawfulK, bestK}
 use Rattle.entry.specs.Results.{Results, holding, roomFor}
-use Rattle.sweep.specs.declared.Way.{Way}
 use Rattle.sweep.specs.Strip.{whole, allPairs}
-use Rattle.sweep.specs.Sweep.{sweep}
+use Rattle.join.specs.declared.Join.{Join}
+use Rattle.join.specs.Join.{Counts, countsOf, join}
 use Rattle.pairs.specs.declared.Listed.{Listed}
 use Rattle.pairs.specs.declared.Listed.the-variants.{Entries, Refused}
 
@@ -25,23 +25,23 @@ unfoldable pub kListRefusal : Columns → Columns → ℕ → Results → ℕ
 kListRefusal a b k r =
     orElse (listsRefusal a b) (orElse (refuseIf (not (lawfulK k)) 4) (refuseIf (not (roomFor k r)) 6))
 
--- "a K list, the entry count, looks and distances", the sweep's own; and what the result columns then hold.
+-- "a K list, the entry count, looks and distances", the join's own, with range pairs for these by halves; and what the
+-- result columns then hold. (01, 02 k.)
 pub record KListValues : Type 0 where
   pub results : Results
   pub count : ℕ
-  pub looks : ℕ
-  pub distances : ℕ
+  pub counts : Counts
 
-abbrev pub kListValues : Results → ℕ → ℕ → ℕ → KListValues
-kListValues r count looks distances = record { results = r; count = count; looks = looks; distances = distances }
+abbrev pub kListValues : Results → ℕ → Counts → KListValues
+kListValues r count counts = record { results = r; count = count; counts = counts }
 
-unfoldable pub kListAnswer : Way → Columns → Columns → ℕ → Results → Answer KListValues
+unfoldable pub kListAnswer : Join → Columns → Columns → ℕ → Results → Answer KListValues
 kListAnswer way a b k r =
     let l = kList k (sites a) (sites b) in
-    let swept = sweep way k (whole (sites a)) (whole (sites b)) [] in
-    answerUnless (kListRefusal a b k r) (kListValues (holding l r) (length l) (swept .looks) (swept .distances))
+    let joined = join way k (whole (sites a)) (whole (sites b)) [] in
+    answerUnless (kListRefusal a b k r) (kListValues (holding l r) (length l) (joined .counts))
 
 -- The paper's number and values for each case of the answer, with what the result columns hold at exit.
 unfoldable pub listedAnswer : Listed → Results → Answer KListValues
-listedAnswer (Entries count looks distances) r = answered (kListValues r count (looks .0) (distances .0))
+listedAnswer (Entries count counters) r = answered (kListValues r count (countsOf counters))
 listedAnswer (Refused number) r = refused number

@@ -1,6 +1,6 @@
 // The K list: the closest pairs of two lists.
 use super::Listed;
-use sweep::Way;
+use join::Join;
 ghost use mathlib.Core.Path.{_≡_};
 ghost use Rattle.site.specs.Answer.{afterwards};
 ghost use Rattle.site.specs.SiteList.{lentList};
@@ -40,9 +40,9 @@ fn k_list_refusal(
     0
 }
 
-// The first K pairs of two lists by rank, or all where there are fewer, by the sweep named. (01: K list.)
+// The first K pairs of two lists by rank, or all where there are fewer, by the way named. (01: K list.)
 pub fn k_list(
-    way: Way,
+    way: Join,
     ax: &[i32],
     ay: &[i32],
     an: &[u32],
@@ -69,7 +69,7 @@ pub fn k_list(
     }
     let n = ax.len();
     let m = bx.len();
-    let swept = sweep::run(
+    let joined = join::run(
         way,
         ax,
         ay,
@@ -87,11 +87,9 @@ pub fn k_list(
         first,
         second,
     );
-    let looks = swept.looks;
-    let distances = swept.distances;
+    let counters = joined.counters;
     Listed::Entries {
-        count: swept.entries,
-        looks,
-        distances,
+        count: joined.entries,
+        counters,
     }
 }

@@ -1,22 +1,17 @@
-// The calls on two whole lists: the K list by either sweep, the distance list, and the forecast of its size.
+// The calls on two whole lists: the K list by any of the three ways, the distance list, and the forecast of its size.
 mod closest;
 mod nearby;
 mod partners;
 mod window;
 
 pub use closest::k_list;
+use join::Counters;
 pub use nearby::distance_list;
 pub use partners::forecast;
-use sweep::Distances;
-use sweep::Looks;
 
-// What a K list answers: the entry count, looks and distances, or the refusal's number.
+// What a K list answers: the entry count and the counters, or the refusal's number.
 pub enum Listed {
-    Entries {
-        count: u32,
-        looks: Looks,
-        distances: Distances,
-    },
+    Entries { count: u32, counters: Counters },
     Refused(u32),
 }
 

@@ -1,27 +1,28 @@
 -- Every height 0: opening, jobs and status.
 use mathlib.Core.Path.{_≡_, sym, ap, ap₂, _∙_}
 use mathlib.Core.Bool.{_&&_}
-use mathlib.Core.List.{List, map, map-map, flatMap}
+use mathlib.Core.List.{List, map, flatMap}
 use Prim.Native.Nat.{ℕ}
 use lib.Dec.{ltb, eqb}
 use lib.ListN.{length-map}
 use Rattle.site.specs.Site.{Site}
 use Rattle.site.specs.SiteList.{Columns, Plane, onGround, sites}
-use Rattle.site.proofs.Ground.{ground, ground-sites, ground-at, ground-lists}
+use Rattle.site.proofs.Ground.{ground, ground-sites, ground-at, ground-distance, ground-lists}
 use Rattle.entry.specs.declared.Entry.{Entry}
 use Rattle.entry.specs.Entry.{apart}
 use Rattle.entry.specs.Results.{Results, entriesOf}
-use Rattle.boxes.specs.Box.{boxOf, squaredBoxGap}
 use Rattle.boxes.proofs.Ground.{ground-gap}
-use Rattle.sweep.specs.declared.Way.{Way}
-use Rattle.sweep.specs.Strip.{Placed, sitesOf, pairs}
-use Rattle.sweep.specs.Sweep.{sweep}
+use Rattle.sweep.specs.Strip.{Placed, pairs}
 use Rattle.sweep.proofs.Alike.{each, strip-each}
+use Rattle.halves.specs.Gap.{squaredStripGap}
+use Rattle.halves.proofs.Alike.{gap-alike}
+use Rattle.join.specs.declared.Join.{Join}
+use Rattle.join.specs.Join.{join}
 use Rattle.campaign.specs.declared.Campaign.{Campaign}
-use Rattle.campaign.specs.Grid.{Job, jobOf, stripAt, stripHolding, settled, settledJobs, jobPairs, jobsPairs, squaredStripGap}
+use Rattle.campaign.specs.Grid.{Job, jobOf, stripAt, stripHolding, settled, settledJobs, jobPairs, jobsPairs}
 use Rattle.campaign.specs.Soundness.{firstEnds, secondEnds, soundEntry, sound, campaignRefusal}
 use Rattle.campaign.specs.Calls.{openRefusal, openAnswer, jobRefusal, skips, jobEntries, jobAnswer, statusAnswer}
-use Rattle.plane.proofs.PairLists.{ground-sweep, ground-pairs}
+use Rattle.plane.proofs.PairLists.{ground-join, ground-pairs}
 
 -- ---- strips of any sites
 
@@ -43,26 +44,19 @@ module _ (a b : List Site) where
   jobs-pairs-same ends ends' l = ap (λ (f : Job → List Entry). flatMap f l) (job-pairs-same ends ends')
 
   -- The gap of two strips.
-  sites-each : (p : List Placed) → sitesOf (map (each ground) p) ≡ map ground (sitesOf p)
-  sites-each p = map-map (λ s. s .site) (each ground) p ∙ sym (map-map ground (λ s. s .site) p)
-
   strip-gap-same : (ends ends' : List ℕ) (j : Job)
       → squaredStripGap (stripAt ends (map ground a) (j .first)) (stripAt ends' (map ground b) (j .second))
       ≡ squaredStripGap (stripAt ends a (j .first)) (stripAt ends' b (j .second))
-  unfolding squaredStripGap
   strip-gap-same ends ends' j =
-      let p = stripAt ends a (j .first) in
-      let q = stripAt ends' b (j .second) in
-      ap₂ (λ (u v : List Placed). squaredBoxGap (boxOf (sitesOf u)) (boxOf (sitesOf v))) (ground-strip ends a (j .first)) (ground-strip ends' b (j .second))
-      ∙ ap₂ (λ (l m : List Site). squaredBoxGap (boxOf l) (boxOf m)) (sites-each p) (sites-each q)
-      ∙ ground-gap (sitesOf p) (sitesOf q)
+      ap₂ squaredStripGap (ground-strip ends a (j .first)) (ground-strip ends' b (j .second))
+      ∙ gap-alike ground ground-gap ground-distance (stripAt ends a (j .first)) (stripAt ends' b (j .second))
 
-  job-sweep-same : (way : Way) (k : ℕ) (ends ends' : List ℕ) (j : Job) (l : List Entry)
-      → sweep way k (stripAt ends (map ground a) (j .first)) (stripAt ends' (map ground b) (j .second)) l
-      ≡ sweep way k (stripAt ends a (j .first)) (stripAt ends' b (j .second)) l
-  job-sweep-same way k ends ends' j l =
-      ap₂ (λ (u v : List Placed). sweep way k u v l) (ground-strip ends a (j .first)) (ground-strip ends' b (j .second))
-      ∙ ground-sweep way k (stripAt ends a (j .first)) (stripAt ends' b (j .second)) l
+  job-join-same : (way : Join) (k : ℕ) (ends ends' : List ℕ) (j : Job) (l : List Entry)
+      → join way k (stripAt ends (map ground a) (j .first)) (stripAt ends' (map ground b) (j .second)) l
+      ≡ join way k (stripAt ends a (j .first)) (stripAt ends' b (j .second)) l
+  job-join-same way k ends ends' j l =
+      ap₂ (λ (u v : List Placed). join way k u v l) (ground-strip ends a (j .first)) (ground-strip ends' b (j .second))
+      ∙ ground-join way k (stripAt ends a (j .first)) (stripAt ends' b (j .second)) l
 
   -- The faults of a campaign.
   entry-same : (marks ends ends' : List ℕ) → soundEntry marks ends ends' (map ground a) (map ground b) ≡ soundEntry marks ends ends' a b
@@ -104,7 +98,7 @@ module _ (a b : Columns) (pa : Plane a) (pb : Plane b) where
   unfolding statusAnswer
   status-same c r = rw (refusal-same c r)
 
-  pub job-same : (way : Way) (c : Campaign) (r : Results) (j : Job) → jobAnswer way c (onGround a) (onGround b) r j ≡ jobAnswer way c a b r j
+  pub job-same : (way : Join) (c : Campaign) (r : Results) (j : Job) → jobAnswer way c (onGround a) (onGround b) r j ≡ jobAnswer way c a b r j
   unfolding jobAnswer jobRefusal
   job-same way c r j =
       let old = entriesOf (c .entries) r in
@@ -116,5 +110,5 @@ module _ (a b : Columns) (pa : Plane a) (pb : Plane b) where
         ground-sites b pb,
         job-entries-same l m c old j,
         skips-same l m c old j,
-        job-sweep-same l m way (c .k) (firstEnds c) (secondEnds c) j old,
+        job-join-same l m way (c .k) (firstEnds c) (secondEnds c) j old,
       )

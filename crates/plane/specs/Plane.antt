@@ -4,7 +4,7 @@ use mathlib.Core.List.{List}
 use Prim.Native.Nat.{ℕ}
 use Rattle.site.specs.SiteList.{Columns, Plane, onGround}
 use Rattle.entry.specs.Results.{Results}
-use Rattle.sweep.specs.declared.Way.{Way}
+use Rattle.join.specs.declared.Join.{Join}
 use Rattle.pairs.specs.KList.{kListAnswer}
 use Rattle.pairs.specs.DistanceList.{distanceAnswer}
 use Rattle.pairs.specs.Forecast.{forecastAnswer}
@@ -15,7 +15,7 @@ use Rattle.campaign.specs.Calls.{openAnswer, jobAnswer, statusAnswer}
 -- What two lists of the plane are answered, they are answered with every height 0: refusals, counts and columns too.
 pub record PlaneAnswers (a b : Columns) : Type 0 where
   pub kLists :
-      (way : Way) (k : ℕ) (r : Results) → kListAnswer way (onGround a) (onGround b) k r ≡ kListAnswer way a b k r
+      (way : Join) (k : ℕ) (r : Results) → kListAnswer way (onGround a) (onGround b) k r ≡ kListAnswer way a b k r
   pub distanceLists :
       (e : ℕ) (first second : List ℕ)
       → distanceAnswer (onGround a) (onGround b) e first second ≡ distanceAnswer a b e first second
@@ -25,7 +25,7 @@ pub record PlaneAnswers (a b : Columns) : Type 0 where
       (k : ℕ) (ends ends' : List ℕ) (r : Results)
       → openAnswer (onGround a) (onGround b) k ends ends' r ≡ openAnswer a b k ends ends' r
   pub jobs :
-      (way : Way) (c : Campaign) (r : Results) (j : Job)
+      (way : Join) (c : Campaign) (r : Results) (j : Job)
       → jobAnswer way c (onGround a) (onGround b) r j ≡ jobAnswer way c a b r j
   pub statuses :
       (c : Campaign) (r : Results) → statusAnswer c (onGround a) (onGround b) r ≡ statusAnswer c a b r

@@ -44,7 +44,7 @@ gap-shrinks a b c h k =
     omega (arith, gap-up a b h, gap-up b c k, gap-up a c (leZ-trans a b c h k), le-sides a b h)
 
 -- A gap is 0 exactly between a coordinate and itself.
-gap-some : (a b : ℤ) → ltZ a b ≡ true → 1 ≤ gap a b
+pub gap-some : (a b : ℤ) → ltZ a b ≡ true → 1 ≤ gap a b
 gap-some a b h = omega (arith, lt-sides a b h, gap-up a b (lt-le a b h))
 
 pub gap-same : (a : ℤ) → gap a a ≡ 0

@@ -1,5 +1,5 @@
 -- Integers by their two sides: z is `up z` less `down z`. What is said of sides is arithmetic of natural numbers.
-use mathlib.Core.Path.{_≡_, refl, ap, _∙_}
+use mathlib.Core.Path.{_≡_, refl, sym, ap, _∙_}
 use mathlib.Core.Bool.{true, false, not}
 use Prim.Native.Nat.{ℕ, zero, suc, _+_, _-_, _≤_, _<_}
 use native.Mathlib.Omega.{arith}
@@ -116,3 +116,20 @@ size-down (pos a) (pos (suc b)) h = omega (arith, sub-size′ a (suc b) (leb-tru
 size-down (pos a) (negsuc b) h = omega arith
 size-down (negsuc a) (pos b) h = never-both h refl
 size-down (negsuc a) (negsuc b) h = omega (arith, sub-size′ (suc b) (suc a) (omega (arith, leb-true a b h)))
+
+-- ---- the sign of a difference
+
+natural-sign : (m n : ℕ) → ltZ (subℕ m n) (pos 0) ≡ ltb m n
+natural-sign m n = byTest (ltb m n) (λ t. rw t) (λ f. rw f (le-ltb (m - n) 0 (omega arith)))
+
+pub sub-sign : (a b : ℤ) → ltZ (a -ℤ b) (pos 0) ≡ ltZ a b
+sub-sign (pos m) (pos zero) = le-ltb (m + 0) 0 (omega arith) ∙ sym (le-ltb m 0 (omega arith))
+sub-sign (pos m) (pos (suc n)) = natural-sign m (suc n)
+sub-sign (pos m) (negsuc n) = le-ltb (m + suc n) 0 (omega arith)
+sub-sign (negsuc m) (pos zero) = natural-sign 0 (suc m) ∙ lt-ltb 0 (suc m) (omega arith)
+sub-sign (negsuc m) (pos (suc n)) = refl
+sub-sign (negsuc m) (negsuc n) =
+    natural-sign (suc n) (suc m)
+    ∙ byTest (ltb n m)
+    (λ t. rw (t, lt-ltb (suc n) (suc m) (omega (arith, ltb-true n m t))))
+    (λ f. rw (f, le-ltb (suc n) (suc m) (omega (arith, ltb-false n m f))))

@@ -1,6 +1,6 @@
 -- What the machine's signed numbers hold: an `i32` in an `i64`, and the size of a difference.
 use mathlib.Core.Path.{_≡_, refl, sym, ap, ap₂, _∙_, subst}
-use mathlib.Core.Bool.{Bool, true, false}
+use mathlib.Core.Bool.{Bool, true, false, cond}
 use Prim.Native.Nat.{ℕ, suc, _*_, _≤_, _<_, _^_}
 use native.Mathlib.Nat.{zero-add, mul-le-mul}
 use native.Mathlib.Omega.{arith}
@@ -13,7 +13,8 @@ use mir.Val.{Fits, SFits, toZ, ofZ}
 use mir.Facts.{toZ-ofZ, sfits-widen}
 use Rattle.site.specs.Site.{gap}
 use Rattle.order.proofs.Order.{byTest, never-both}
-use Rattle.site.proofs.Integers.{up, down, size-up, size-down, le-total}
+use Rattle.site.proofs.Distance.{gap-sym, gap-same}
+use Rattle.site.proofs.Integers.{up, down, size-up, size-down, le-total, lt-asym, lt-total, sub-sign}
 
 -- What a callee ensures of the arguments as it was handed them, at the arguments.
 pub at₁ : {A B : Type 0} (f : A → B) {x a : A} {r : B} → x ≡ a → r ≡ f x → r ≡ f a
@@ -103,6 +104,21 @@ module _ {a b r : ℤ} (ha : SFits w32 a) (hb : SFits w32 b) (e : r ≡ a -ℤ b
   pub above-gap : natAbs (toZ w64 (ofZ w64 r)) ≡ gap a b
   unfolding gap
   above-gap = ap natAbs read-back
+
+-- The sign of a difference r, as the machine tests it, tells which of two `i32` is above the other.
+module _ {a b r : ℤ} (ha : SFits w32 a) (hb : SFits w32 b) (e : r ≡ a -ℤ b) where
+  sign-is : {t : Bool} → ltZ (toZ w64 (ofZ w64 r)) (pos 0) ≡ t → ltZ a b ≡ t
+  sign-is h = sym (ap (λ (z : ℤ). ltZ z (pos 0)) (read-back ha hb e) ∙ sub-sign a b) ∙ h
+
+  pub falls-none : ltZ (toZ w64 (ofZ w64 r)) (pos 0) ≡ true → 0 ≡ cond (ltZ b a) (gap b a) 0
+  falls-none h = rw (lt-asym a b (sign-is h))
+
+  pub rises-gap : ltZ (toZ w64 (ofZ w64 r)) (pos 0) ≡ false → natAbs (toZ w64 (ofZ w64 r)) ≡ cond (ltZ b a) (gap b a) 0
+  rises-gap h =
+      above-gap ha hb e
+      ∙ byTest (ltZ b a)
+      (λ t. rw t (gap-sym a b))
+      (λ f. rw f (let same : a ≡ b = lt-total a b (sign-is h) f in rw same (gap-same b)))
 
 -- The square of a gap of two `i32` fits 64 bits.
 pub gap-squared-fits : {a b : ℤ} {r : ℕ} → SFits w32 a → SFits w32 b → r ≡ gap a b → Fits w64 (r * r)

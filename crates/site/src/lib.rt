@@ -15,6 +15,7 @@ pub use lists::plane_refusal;
 pub use positions::at_most;
 pub use positions::gap;
 pub use positions::plane_distance;
+pub use positions::rise;
 pub use positions::squared_distance;
 pub use positions::squared_gap;
 pub use removing::remove;

@@ -1,8 +1,8 @@
 // Coordinates: their order and their difference, and the squared distance of two positions.
 ghost use mathlib.Core.Path.{_≡_};
-ghost use mathlib.Core.Bool.{true};
+ghost use mathlib.Core.Bool.{true, cond};
 ghost use lib.IntN.{_-ℤ_};
-ghost use lib.Signed.{leZ};
+ghost use lib.Signed.{leZ, ltZ};
 ghost use Rattle.site.specs.Site.{within, heightWithin, gap, square, squaredDistance};
 ghost use Rattle.site.specs.SiteList.{site, raisedSite};
 
@@ -26,6 +26,14 @@ pub fn gap(a: i32, b: i32) -> u64
 {
     let d = difference(a, b);
     if d < 0 { (0 - d) as u64 } else { d as u64 }
+}
+
+// How far a coordinate is above another, 0 where it is not.
+pub fn rise(a: i32, b: i32) -> u64
+    ensures { λ r. ⌜ r ≡ cond (ltZ a b) (gap a b) 0 ⌝ }
+{
+    let d = difference(b, a);
+    if d < 0 { 0 } else { d as u64 }
 }
 
 // The square of the difference of two coordinates.

@@ -96,14 +96,14 @@ module _ (f : Site → Site) where
       ∙ ap (take (to - from)) (sym (map-drop (each f) from (whole l)))
       ∙ sym (map-take (each f) (to - from) (drop from (whole l)))
 
-  module _ (same-x : (s : Site) → s .x ≡ f s .x) (same-distance : (s t : Site) → squaredDistance s t ≡ squaredDistance (f s) (f t)) where
-    pair-alike : pair ≡ (λ p q. pair (each f p) (each f q))
-    unfolding pair
-    pair-alike = λ i p q. entry (same-distance (p .site) (q .site) i) (p .place) (q .place)
+  pub pair-alike : ((s t : Site) → squaredDistance s t ≡ squaredDistance (f s) (f t)) → pair ≡ (λ p q. pair (each f p) (each f q))
+  unfolding pair
+  pair-alike same-distance = λ i p q. entry (same-distance (p .site) (q .site) i) (p .place) (q .place)
 
+  module _ (same-x : (s : Site) → s .x ≡ f s .x) (same-distance : (s t : Site) → squaredDistance s t ≡ squaredDistance (f s) (f t)) where
     look-alike : look ≡ (λ p q. look (each f p) (each f q))
     unfolding look
-    look-alike = λ i p q. record { gap = square (gap (same-x (p .site) i) (same-x (q .site) i)); entry = pair-alike i p q }
+    look-alike = λ i p q. record { gap = square (gap (same-x (p .site) i) (same-x (q .site) i)); entry = pair-alike same-distance i p q }
 
     leads-alike : leads ≡ (λ p q. leads (each f p) (each f q))
     unfolding leads
@@ -121,4 +121,4 @@ module _ (f : Site → Site) where
     pub pairs-alike : (p q : List Placed) → pairs p q ≡ pairs (map (each f) p) (map (each f) q)
     unfolding pairs
     pairs-alike p q =
-        ap (keep apart) (ap (λ (g : Placed → Placed → Entry). product g p q) pair-alike ∙ sym (product-map pair (each f) (each f) p q))
+        ap (keep apart) (ap (λ (g : Placed → Placed → Entry). product g p q) (pair-alike same-distance) ∙ sym (product-map pair (each f) (each f) p q))

@@ -9,18 +9,18 @@ use lib.IntN.{ℤ}
 use Rattle.entry.specs.Entry.{apart}
 use Rattle.entry.specs.declared.Queue.{Queue}
 use Rattle.entry.specs.Results.{Results, entriesOf}
-use Rattle.entry.specs.Terms.{started}
+use Rattle.entry.specs.Terms.{started, Updated}
 use Rattle.sweep.specs.declared.Reference.{Reference}
 use Rattle.sweep.specs.declared.Tally.{Tally}
 use Rattle.sweep.specs.declared.Way.the-variants.{Classic}
 use Rattle.sweep.specs.Scan.{scan}
 use Rattle.sweep.specs.Sweep.{classicOver, leads, look, sweep}
 use Rattle.sweep.specs.Terms.{spot, rightward, SweepAsked}
-use Rattle.sweep.specs.Internal.{referenceAt, lookFrom, firstNext, stateOf, ScanAsked, Updated, Tallied}
+use Rattle.sweep.specs.Internal.{referenceAt, lookFrom, firstNext, stateOf, ScanAsked, Tallied}
 use Rattle.sweep.proofs.ClassicLaws.{classic-nil, classic-nil-right, classic-first, classic-second}
 use Rattle.sweep.proofs.Counted.{classic-counted}
 use Rattle.sweep.proofs.SiteRuns.{rightward-nil, rightward-cons}
-use Rattle.sweep.proofs.Updated.{updated-start, updated-twice}
+use Rattle.entry.proofs.Updated.{updated-start, updated-twice}
 use Rattle.sweep.proofs.FirstNext.{next-leads}
 use Rattle.sweep.proofs.ReferenceLaws.{looks-first, looks-second, reference-asks}
 use Rattle.sweep.proofs.SweptStrips.{swept-fits}

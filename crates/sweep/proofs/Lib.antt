@@ -10,7 +10,6 @@ pub mod SweepLaws
 pub mod Counted
 pub mod Strip
 pub mod SiteRuns
-pub mod Updated
 pub mod Reach
 pub mod LookLaws
 pub mod ScanInvariant

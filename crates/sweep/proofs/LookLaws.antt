@@ -19,7 +19,7 @@ use Rattle.entry.specs.declared.Entry.{Entry}
 use Rattle.entry.specs.Entry.{entry, apart, offer}
 use Rattle.entry.specs.declared.Queue.{Queue}
 use Rattle.entry.specs.Results.{Results}
-use Rattle.entry.specs.Terms.{queued, Queueing, Offered}
+use Rattle.entry.specs.Terms.{queued, Queueing, Offered, Updated}
 use Rattle.entry.proofs.Queueing.{sorted-queued}
 use Rattle.sweep.specs.declared.Reference.{Reference}
 use Rattle.sweep.specs.declared.Tally.{Tally}
@@ -28,20 +28,20 @@ use Rattle.sweep.specs.Strip.{pair}
 use Rattle.sweep.specs.Scan.{Candidate, beyond, taken}
 use Rattle.sweep.specs.Sweep.{look}
 use Rattle.sweep.specs.Terms.{spotOf, spot}
-use Rattle.sweep.specs.Internal.{lookFrom, stateOf, LookAsked, Updated, LookDone}
-use Rattle.sweep.proofs.Updated.{updated-none}
+use Rattle.sweep.specs.Internal.{lookFrom, stateOf, LookAsked, LookDone}
+use Rattle.entry.proofs.Updated.{updated-none, updated-offered}
 use Rattle.sweep.proofs.Reach.{beyond-reach, reach-past}
 
 -- ---- what the list takes
 
 module _ (k : ℕ) (e : Entry) (l : List Entry) where
   -- A pair takes its place,
-  taken-offers : (e .distance ≡ 0 → ⊥) → taken apart k e l ≡ offer k e l
+  pub taken-offers : (e .distance ≡ 0 → ⊥) → taken apart k e l ≡ offer k e l
   unfolding taken apart
   taken-offers h = rw (le-leb 1 (e .distance) (omega arith))
 
   -- co-sited cells do not,
-  taken-none : e .distance ≡ 0 → taken apart k e l ≡ l
+  pub taken-none : e .distance ≡ 0 → taken apart k e l ≡ l
   unfolding taken apart
   taken-none h = rw h
 
@@ -183,5 +183,5 @@ module _ {o : Reference} {xs ys hs : List ℤ} {i k : ℕ} {old : Tally} {r : Re
         let same : e ≡ c .entry = made ∙ sym (look-entry o xs ys hs i d is) in
         let counts = taken-offers k (c .entry) (queued (old .queue) r) (λ none. some (sym (look-distance o xs ys hs i d is) ∙ none)) in
         gone-on c old (asked .queue) gap-fits (omega (arith, same-gap))
-        (record { queue = offered .queue; least = offered .least; rest = offered .within })
+        (updated-offered offered)
         (offered .list ∙ ap (λ (f : Entry). offer k f (queued (old .queue) r)) same ∙ sym counts)

@@ -12,7 +12,7 @@ use Rattle.order.proofs.Order.{byTest, never-both}
 use Rattle.entry.specs.Entry.{apart}
 use Rattle.entry.specs.declared.Queue.{Queue}
 use Rattle.entry.specs.Results.{Results, entriesOf}
-use Rattle.entry.specs.Terms.{started}
+use Rattle.entry.specs.Terms.{started, Updated}
 use Rattle.sweep.specs.declared.Reference.{Reference}
 use Rattle.sweep.specs.declared.Tally.{Tally}
 use Rattle.sweep.specs.declared.Way.the-variants.{ReverseRun}
@@ -20,11 +20,11 @@ use Rattle.sweep.specs.Strip.{Placed}
 use Rattle.sweep.specs.Scan.{Candidate, State, scan}
 use Rattle.sweep.specs.Sweep.{reverseOver, leads, look, sweep}
 use Rattle.sweep.specs.Terms.{spot, rightward, SweepAsked}
-use Rattle.sweep.specs.Internal.{leftward, referenceAt, lookFrom, firstNext, stateOf, ScanAsked, Updated, Tallied}
+use Rattle.sweep.specs.Internal.{leftward, referenceAt, lookFrom, firstNext, stateOf, ScanAsked, Tallied}
 use Rattle.sweep.proofs.ReverseLaws.{reverse-nil, reverse-first, reverse-first-last, reverse-second, reverse-second-last}
 use Rattle.sweep.proofs.Counted.{scan-passed, reverse-counted}
 use Rattle.sweep.proofs.SiteRuns.{rightward-nil, rightward-cons, leftward-nil, leftward-more, take-leftward, length-leftward}
-use Rattle.sweep.proofs.Updated.{updated-start, updated-twice}
+use Rattle.entry.proofs.Updated.{updated-start, updated-twice}
 use Rattle.sweep.proofs.FirstNext.{next-none, next-alone, next-leads}
 use Rattle.sweep.proofs.ReferenceLaws.{looks-first, looks-second, reference-asks}
 use Rattle.sweep.proofs.SweptStrips.{swept-fits}

@@ -8,16 +8,16 @@ use lib.IntN.{ℤ}
 use lib.ListN.{length}
 use Rattle.entry.specs.Entry.{apart}
 use Rattle.entry.specs.Results.{Results}
-use Rattle.entry.specs.Terms.{queued}
+use Rattle.entry.specs.Terms.{queued, Updated}
 use Rattle.sweep.specs.declared.Looked.{Looked}
 use Rattle.sweep.specs.declared.Reference.{Reference}
 use Rattle.sweep.specs.declared.Tally.{Tally}
 use Rattle.sweep.specs.Strip.{Placed}
 use Rattle.sweep.specs.Scan.{State, state, Scanned, beyond, taken, lookAt, scan}
 use Rattle.sweep.specs.Terms.{spot}
-use Rattle.sweep.specs.Internal.{lookFrom, stateOf, LookAsked, ScanAsked, Updated, Tallied, LookDone}
+use Rattle.sweep.specs.Internal.{lookFrom, stateOf, LookAsked, ScanAsked, Tallied, LookDone}
 use Rattle.sweep.proofs.ScanLaws.{scan-nil, scan-stop, scan-on}
-use Rattle.sweep.proofs.Updated.{updated-none, updated-twice}
+use Rattle.entry.proofs.Updated.{updated-none, updated-twice}
 
 -- A reference's scan over a run of sites, from the state that a tally and the columns hold.
 abbrev scanned : ℕ → Reference → List Placed → Results → Tally → Scanned

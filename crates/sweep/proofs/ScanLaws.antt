@@ -48,6 +48,12 @@ pub bestK-left : (k : ℕ) (l m r : List Entry) → bestK k l ≡ bestK k m → 
 unfolding bestK
 bestK-left k l m r e = rw (best-append rankBefore k l r, best-append rankBefore k m r, e)
 
+-- What the list takes of one pair gives the best K with it, if it counts.
+pub taken-best : (counts : Entry → Bool) (k : ℕ) (m : List Entry) (e : Entry)
+    → taken counts k e (bestK k m) ≡ bestK k (m ++ keep counts (e ∷ []))
+unfolding taken offer bestK keep
+taken-best counts k m e = byTest (counts e) (λ t. rw t (sym (best-snoc rankBefore k m e))) (λ n. rw (n, append-nil))
+
 -- ---- a list in order and its last distance
 
 -- What is further away than the last entry comes before none.
@@ -144,15 +150,10 @@ module _ {X : Type 0} (f : X → Candidate) where
         (λ x. beyond k (bestK k m) (f x .entry .distance) ≡ true)
         (λ x. beyond-more k (bestK k m) (f x .gap) (f x .entry .distance)) l b h)))
 
-    -- What the list takes of one pair gives the best K with it, if it counts.
-    taken-best : (m : List Entry) (e : Entry) → taken counts k e (bestK k m) ≡ bestK k (m ++ keep counts (e ∷ []))
-    unfolding taken offer bestK keep
-    taken-best m e = byTest (counts e) (λ t. rw t (sym (best-snoc rankBefore k m e))) (λ n. rw (n, append-nil))
-
     -- A look that goes on gives the best K with the pair, if it counts.
     offered-best : (x : X) (s : State) (m : List Entry) → s .entries ≡ bestK k m → beyond k (s .entries) (f x .gap) ≡ false
         → lookAt counts k (f x) s .entries ≡ bestK k (m ++ counted (x ∷ []))
-    offered-best x s m e n = rw n (rw e (taken-best m (f x .entry)))
+    offered-best x s m e n = rw n (rw e (taken-best counts k m (f x .entry)))
 
     -- A look that stops leaves the list.
     stopped-list : (x : X) (s : State) → beyond k (s .entries) (f x .gap) ≡ true → lookAt counts k (f x) s .entries ≡ s .entries

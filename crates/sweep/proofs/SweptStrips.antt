@@ -6,9 +6,8 @@ use native.Mathlib.Omega.{arith}
 use lib.IntN.{ℤ}
 use Rattle.site.specs.Terms.{Numbered}
 use Rattle.entry.specs.Results.{Results, entriesOf}
-use Rattle.entry.specs.Terms.{queued, FinishAsked}
-use Rattle.entry.proofs.Within.{within-written}
-use Rattle.entry.proofs.Queueing.{length-queued, queue-finishes}
+use Rattle.entry.specs.Terms.{FinishAsked}
+use Rattle.entry.proofs.Updated.{updated-asks, updated-finished}
 use Rattle.sweep.specs.declared.Swept.{Swept}
 use Rattle.sweep.specs.declared.Tally.{Tally}
 use Rattle.sweep.specs.declared.Way.{Way}
@@ -39,9 +38,7 @@ module _ (way : Way) (ax ay ah bx by bh : List ℤ) (aFrom aTo bFrom bTo k old :
 
   -- What the answer asks.
   pub swept-asks : {r : Results} {t : Tally} → Tallied k before old swept r t → (t .queue .count ≤ 4_096) × FinishAsked (t .queue) r
-  swept-asks h =
-      let q = h .updated .queue in
-      (omega (arith, asked .few), queue-finishes q)
+  swept-asks h = updated-asks (h .updated) (asked .few)
 
   -- The answer from the state that the tally and the columns hold.
   pub swept-strips : {r after : Results} {t : Tally} {answer : Swept} → Tallied k before old swept r t → SweptTo (stateOf t r) r after answer
@@ -50,13 +47,11 @@ module _ (way : Way) (ax ay ah bx by bh : List ℤ) (aFrom aTo bFrom bTo k old :
   swept-strips {r} {after} {t} {answer} h a = record {
     numbered = λ an bn la lb.
         let same = sweep-strips way k ax ay an ah bx by bn bh aFrom aTo bFrom bTo (entriesOf old before) la lb (asked .a .inside) (asked .b .inside) in
-        let u = h .updated in
-        let n = length-queued (queue-finishes (u .queue)) in
         let whole : SweptTo (stateOf t r) before after answer = record {
           entries = a .entries;
           looks = a .looks;
           distances = a .distances;
-          columns = a .columns ∙ within-written (queued (t .queue) r) (omega arith) (u .rest);
+          columns = updated-finished (h .updated) (a .columns);
         } in
         rw (h .state ∙ sym same) at whole;
   }

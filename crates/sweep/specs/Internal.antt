@@ -14,7 +14,7 @@ use Rattle.site.specs.Terms.{positionAt, Coordinates, Heights}
 use Rattle.entry.specs.declared.Queue.{Queue}
 use Rattle.entry.specs.Entry.{apart}
 use Rattle.entry.specs.Results.{Results}
-use Rattle.entry.specs.Terms.{Within, queued, Queueing}
+use Rattle.entry.specs.Terms.{queued, Queueing, Updated}
 use Rattle.sweep.specs.declared.Reference.{Reference}
 use Rattle.sweep.specs.declared.Tally.{Tally}
 use Rattle.sweep.specs.declared.Looked.{Looked}
@@ -76,12 +76,6 @@ pub record ScanAsked (o : Reference) (xs ys hs : List ℤ) (from to k : ℕ) (ol
   pub queue : Queueing k (old .queue) r
   pub looks-fit : old .looks ≤ 2 ^ 62
   pub distances-fit : old .distances ≤ 2 ^ 62
-
--- The columns went from `before` with `old` entries to `r` with the queue `q`, and hold nothing else that is new.
-pub record Updated (k : ℕ) (before : Results) (old : ℕ) (r : Results) (q : Queue) : Type 0 where
-  pub queue : Queueing k q r
-  pub least : old ≤ q .count
-  pub rest : Within (q .count) before r
 
 -- The columns went from `before` with `old` entries to `r`, and with the tally they hold the state `s`.
 pub record Tallied (k : ℕ) (before : Results) (old : ℕ) (s : State) (r : Results) (t : Tally) : Type 0 where

@@ -4,6 +4,8 @@ ghost use Rattle.column.specs.Lent.{the, _of_, _with_};
 ghost use Rattle.site.specs.SiteList.{lentList};
 ghost use Rattle.entry.specs.Results.{Results, lentResults};
 ghost use Rattle.sweep.specs.declared.Way.the-variants.{Classic, ReverseRun};
+ghost use Rattle.join.specs.declared.Join.the-variants.{Sweep, Halves};
+ghost use Rattle.join.specs.Join.{counts, bySweep, byHalves};
 ghost use Rattle.campaign.specs.Grid.{jobOf};
 ghost use Rattle.campaign.specs.Calls.{openAnswer, jobValues, jobAnswer, jobDoneAnswer, statusValues, statusAnswer};
 ghost use Rattle.vumlintel.specs.Crosses.{Crosses};
@@ -12,6 +14,7 @@ use campaign::Campaign;
 use campaign::JobDone;
 use campaign::Outcome;
 use campaign::Status;
+use join::Join;
 use sweep::Way;
 
 // A campaign into its parts.
@@ -43,26 +46,32 @@ fn put(
 }
 
 // What a job answers beside the campaign, across the boundary: 1 for swept and 0 for skipped.
-fn cross_done(done: JobDone, swept: &mut u32, looks: &mut u64, distances: &mut u64) -> u32
+fn cross_done(
+    done: JobDone,
+    swept: &mut u32,
+    looks: &mut u64,
+    distances: &mut u64,
+    range_pairs: &mut u64,
+) -> u32
     ensures { λ r.
+        let counters = the counts of looks of distances of «range_pairs» in
         ⌜ ((l : Results) →
-        Crosses (jobDoneAnswer done l) r (the (jobValues (done .campaign) l) of swept of looks of distances)) ⌝ }
+        Crosses (jobDoneAnswer done l) r (the (jobValues (done .campaign) l) of swept with counters)) ⌝ }
 {
     let outcome = done.outcome;
     match outcome {
-        Outcome::Swept {
-            looks: l,
-            distances: d,
-        } => {
+        Outcome::Swept(c) => {
             *swept = 1;
-            *looks = l.0;
-            *distances = d.0;
+            *looks = c.looks.0;
+            *distances = c.distances.0;
+            *range_pairs = c.range_pairs.0;
             0
         }
         Outcome::Skipped => {
             *swept = 0;
             *looks = 0;
             *distances = 0;
+            *range_pairs = 0;
             0
         }
         Outcome::Refused(n) => n,
@@ -136,7 +145,7 @@ pub extern "C" fn vumlintel_open(
     0
 }
 
-// A job by a sweep: the campaign, whether it was swept, the looks and the distances. A refused one stores nothing.
+// A job by any of the three ways: the campaign, whether it was swept, and the counters. A refused one stores nothing.
 fn job(
     campaign_k: &mut u32,
     campaign_entries: &mut u32,
@@ -158,10 +167,11 @@ fn job(
     second: &mut [u32],
     first_strip: u32,
     second_strip: u32,
-    way: Way,
+    way: Join,
     swept: &mut u32,
     looks: &mut u64,
     distances: &mut u64,
+    range_pairs: &mut u64,
 ) -> u32
     ensures { λ r.
         let c =
@@ -170,7 +180,8 @@ fn job(
         let b = lentList bx by bn bh .entry in
         let l = lentResults distance first second in
         let answer = jobAnswer way (c .entry) a b (l .entry) (jobOf «first_strip» «second_strip») in
-        ⌜ Crosses answer r (the jobValues with c with l of swept of looks of distances) ⌝ }
+        let counters = the counts of looks of distances of «range_pairs» in
+        ⌜ Crosses answer r (the jobValues with c with l of swept with counters) ⌝ }
 {
     let first_cut = *first_ends;
     let second_cut = *second_ends;
@@ -202,7 +213,7 @@ fn job(
         way,
     );
     let after = done.campaign;
-    let number = cross_done(done, swept, looks, distances);
+    let number = cross_done(done, swept, looks, distances, range_pairs);
     if number != 0 {
         return number;
     }
@@ -252,9 +263,11 @@ pub extern "C" fn vumlintel_job_classic(
         let a = lentList ax ay an ah .entry in
         let b = lentList bx by bn bh .entry in
         let l = lentResults distance first second in
-        let answer = jobAnswer Classic (c .entry) a b (l .entry) (jobOf «first_strip» «second_strip») in
-        ⌜ Crosses answer r (the jobValues with c with l of swept of looks of distances) ⌝ }
+        let answer = jobAnswer (Sweep Classic) (c .entry) a b (l .entry) (jobOf «first_strip» «second_strip») in
+        let counters = the bySweep of looks of distances in
+        ⌜ Crosses answer r (the jobValues with c with l of swept with counters) ⌝ }
 {
+    let mut range_pairs: u64 = 0;
     job(
         campaign_k,
         campaign_entries,
@@ -276,10 +289,11 @@ pub extern "C" fn vumlintel_job_classic(
         second,
         first_strip,
         second_strip,
-        Way::Classic,
+        Join::Sweep(Way::Classic),
         swept,
         looks,
         distances,
+        &mut range_pairs,
     )
 }
 
@@ -316,9 +330,11 @@ pub extern "C" fn vumlintel_job_reverse_run(
         let a = lentList ax ay an ah .entry in
         let b = lentList bx by bn bh .entry in
         let l = lentResults distance first second in
-        let answer = jobAnswer ReverseRun (c .entry) a b (l .entry) (jobOf «first_strip» «second_strip») in
-        ⌜ Crosses answer r (the jobValues with c with l of swept of looks of distances) ⌝ }
+        let answer = jobAnswer (Sweep ReverseRun) (c .entry) a b (l .entry) (jobOf «first_strip» «second_strip») in
+        let counters = the bySweep of looks of distances in
+        ⌜ Crosses answer r (the jobValues with c with l of swept with counters) ⌝ }
 {
+    let mut range_pairs: u64 = 0;
     job(
         campaign_k,
         campaign_entries,
@@ -340,10 +356,78 @@ pub extern "C" fn vumlintel_job_reverse_run(
         second,
         first_strip,
         second_strip,
-        Way::ReverseRun,
+        Join::Sweep(Way::ReverseRun),
         swept,
         looks,
         distances,
+        &mut range_pairs,
+    )
+}
+
+// A job by halves: the campaign, whether it was swept, and the range pairs.
+#[no_mangle]
+pub extern "C" fn vumlintel_job_halves(
+    campaign_k: &mut u32,
+    campaign_entries: &mut u32,
+    first_strips: &mut u32,
+    second_strips: &mut u32,
+    first_ends: &mut [u32; 32],
+    second_ends: &mut [u32; 32],
+    marks: &mut [u8; 1024],
+    ax: &[i32],
+    ay: &[i32],
+    an: &[u32],
+    ah: &[i32],
+    bx: &[i32],
+    by: &[i32],
+    bn: &[u32],
+    bh: &[i32],
+    distance: &mut [u64],
+    first: &mut [u32],
+    second: &mut [u32],
+    first_strip: u32,
+    second_strip: u32,
+    swept: &mut u32,
+    range_pairs: &mut u64,
+) -> u32
+    ensures { λ r.
+        let c =
+        lentCampaign «campaign_k» «campaign_entries» «first_strips» «second_strips» «first_ends» «second_ends» marks in
+        let a = lentList ax ay an ah .entry in
+        let b = lentList bx by bn bh .entry in
+        let l = lentResults distance first second in
+        let answer = jobAnswer Halves (c .entry) a b (l .entry) (jobOf «first_strip» «second_strip») in
+        let counters = the byHalves of «range_pairs» in
+        ⌜ Crosses answer r (the jobValues with c with l of swept with counters) ⌝ }
+{
+    let mut looks: u64 = 0;
+    let mut distances: u64 = 0;
+    job(
+        campaign_k,
+        campaign_entries,
+        first_strips,
+        second_strips,
+        first_ends,
+        second_ends,
+        marks,
+        ax,
+        ay,
+        an,
+        ah,
+        bx,
+        by,
+        bn,
+        bh,
+        distance,
+        first,
+        second,
+        first_strip,
+        second_strip,
+        Join::Halves,
+        swept,
+        &mut looks,
+        &mut distances,
+        range_pairs,
     )
 }
 

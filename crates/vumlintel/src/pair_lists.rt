@@ -3,18 +3,21 @@ ghost use Rattle.column.specs.Lent.{the, _of_, _with_};
 ghost use Rattle.site.specs.SiteList.{lentList};
 ghost use Rattle.entry.specs.Results.{lentResults};
 ghost use Rattle.sweep.specs.declared.Way.the-variants.{Classic, ReverseRun};
+ghost use Rattle.join.specs.declared.Join.the-variants.{Sweep, Halves};
+ghost use Rattle.join.specs.Join.{counts, bySweep, byHalves};
 ghost use Rattle.pairs.specs.KList.{kListValues, kListAnswer};
 ghost use Rattle.pairs.specs.Within.{withinAnswer};
 ghost use Rattle.pairs.specs.DistanceList.{distanceValues, distanceAnswer};
 ghost use Rattle.pairs.specs.Forecast.{forecastValues, forecastAnswer};
 ghost use Rattle.vumlintel.specs.Crosses.{Crosses};
+use join::Join;
 use pairs::Listed;
 use pairs::Within;
 use sweep::Way;
 
-// The K list by a sweep: the entry count, the looks and the distances.
+// The K list by any of the three ways: the entry count and the counters.
 fn k_list(
-    way: Way,
+    way: Join,
     ax: &[i32],
     ay: &[i32],
     an: &[u32],
@@ -30,12 +33,14 @@ fn k_list(
     entries: &mut u32,
     looks: &mut u64,
     distances: &mut u64,
+    range_pairs: &mut u64,
 ) -> u32
     ensures { λ r.
         let a = lentList ax ay an ah .entry in
         let b = lentList bx by bn bh .entry in
         let l = lentResults distance first second in
-        let places = the kListValues with l of entries of looks of distances in
+        let counters = the counts of looks of distances of «range_pairs» in
+        let places = the kListValues with l of entries with counters in
         ⌜ Crosses (kListAnswer way a b k (l .entry)) r places ⌝ }
 {
     let answer = pairs::k_list(
@@ -56,12 +61,12 @@ fn k_list(
     match answer {
         Listed::Entries {
             count: n,
-            looks: l,
-            distances: d,
+            counters: c,
         } => {
             *entries = n;
-            *looks = l.0;
-            *distances = d.0;
+            *looks = c.looks.0;
+            *distances = c.distances.0;
+            *range_pairs = c.range_pairs.0;
             0
         }
         Listed::Refused(n) => n,
@@ -91,11 +96,13 @@ pub extern "C" fn vumlintel_k_list_classic(
         let a = lentList ax ay an ah .entry in
         let b = lentList bx by bn bh .entry in
         let l = lentResults distance first second in
-        let places = the kListValues with l of entries of looks of distances in
-        ⌜ Crosses (kListAnswer Classic a b k (l .entry)) r places ⌝ }
+        let counters = the bySweep of looks of distances in
+        let places = the kListValues with l of entries with counters in
+        ⌜ Crosses (kListAnswer (Sweep Classic) a b k (l .entry)) r places ⌝ }
 {
+    let mut range_pairs: u64 = 0;
     k_list(
-        Way::Classic,
+        Join::Sweep(Way::Classic),
         ax,
         ay,
         an,
@@ -111,6 +118,7 @@ pub extern "C" fn vumlintel_k_list_classic(
         entries,
         looks,
         distances,
+        &mut range_pairs,
     )
 }
 
@@ -137,11 +145,13 @@ pub extern "C" fn vumlintel_k_list_reverse_run(
         let a = lentList ax ay an ah .entry in
         let b = lentList bx by bn bh .entry in
         let l = lentResults distance first second in
-        let places = the kListValues with l of entries of looks of distances in
-        ⌜ Crosses (kListAnswer ReverseRun a b k (l .entry)) r places ⌝ }
+        let counters = the bySweep of looks of distances in
+        let places = the kListValues with l of entries with counters in
+        ⌜ Crosses (kListAnswer (Sweep ReverseRun) a b k (l .entry)) r places ⌝ }
 {
+    let mut range_pairs: u64 = 0;
     k_list(
-        Way::ReverseRun,
+        Join::Sweep(Way::ReverseRun),
         ax,
         ay,
         an,
@@ -157,6 +167,56 @@ pub extern "C" fn vumlintel_k_list_reverse_run(
         entries,
         looks,
         distances,
+        &mut range_pairs,
+    )
+}
+
+// The K list by halves: the entry count and the range pairs.
+#[no_mangle]
+pub extern "C" fn vumlintel_k_list_halves(
+    ax: &[i32],
+    ay: &[i32],
+    an: &[u32],
+    ah: &[i32],
+    bx: &[i32],
+    by: &[i32],
+    bn: &[u32],
+    bh: &[i32],
+    k: u32,
+    distance: &mut [u64],
+    first: &mut [u32],
+    second: &mut [u32],
+    entries: &mut u32,
+    range_pairs: &mut u64,
+) -> u32
+    ensures { λ r.
+        let a = lentList ax ay an ah .entry in
+        let b = lentList bx by bn bh .entry in
+        let l = lentResults distance first second in
+        let counters = the byHalves of «range_pairs» in
+        let places = the kListValues with l of entries with counters in
+        ⌜ Crosses (kListAnswer Halves a b k (l .entry)) r places ⌝ }
+{
+    let mut looks: u64 = 0;
+    let mut distances: u64 = 0;
+    k_list(
+        Join::Halves,
+        ax,
+        ay,
+        an,
+        ah,
+        bx,
+        by,
+        bn,
+        bh,
+        k,
+        distance,
+        first,
+        second,
+        entries,
+        &mut looks,
+        &mut distances,
+        range_pairs,
     )
 }
 

@@ -1,6 +1,7 @@
 -- The text from the K list that the columns take.
 use mathlib.Core.Path.{refl, _∙_}
 use Rattle.sweep.specs.declared.Way.the-variants.{ReverseRun}
+use Rattle.join.specs.declared.Join.the-variants.{Sweep}
 use Rattle.listing.proofs.ListingText.{count-asks, on-plane, never-refused, text-ready, text-written}
 use borrow.Author.Needs.{needs}
 use Rattle.listing.proofs.cases.list_with.Statement.{statement}
@@ -20,7 +21,7 @@ put-text-requires c κs =
     let matched = c .before .before .before .before .before .before in
     let listed = matched .before .before .before .before .before .before .before .before in
     let p = pre listed .pre in
-    text-ready ReverseRun _ _ _ _ (p .0) (p .1 .1) _ (listed .k-list .ensures .0 ∙ on-plane ReverseRun _ _ _ _ refl refl (p .1 .0 .0) (p .1 .0 .1)) (matched .count .given .1)
+    text-ready (Sweep ReverseRun) _ _ _ _ (p .0) (p .1 .1) _ (listed .k-list .ensures .0 ∙ on-plane (Sweep ReverseRun) _ _ _ _ refl refl (p .1 .0 .0) (p .1 .0 .1)) (matched .count .given .1)
 
 returns : tie.Need-returns
 returns c =
@@ -28,7 +29,7 @@ returns c =
     let matched = counted .before .before in
     let listed = matched .before .before .before .before .before .before .before .before in
     let p = pre listed .pre in
-    text-written ReverseRun _ _ _ _ (p .0) (p .1 .1) _ (listed .k-list .ensures .0 ∙ on-plane ReverseRun _ _ _ _ refl refl (p .1 .0 .0) (p .1 .0 .1)) (matched .count .given .1)
+    text-written (Sweep ReverseRun) _ _ _ _ (p .0) (p .1 .1) _ (listed .k-list .ensures .0 ∙ on-plane (Sweep ReverseRun) _ _ _ _ refl refl (p .1 .0 .0) (p .1 .0 .1)) (matched .count .given .1)
     refl refl (p .1 .0 .0) (p .1 .0 .1) (counted .count-pairs .ensures) (c .before .before .put-text .ensures)
 
 returns-2 : tie.Need-returns-2
@@ -37,7 +38,7 @@ returns-2 c =
     let listed = matched .before .before .before .before .before .before .before .before in
     let p = pre listed .pre in
     absurd
-    (never-refused ReverseRun _ _ _ _ (p .0) (p .1 .1) _ (listed .k-list .ensures .0 ∙ on-plane ReverseRun _ _ _ _ refl refl (p .1 .0 .0) (p .1 .0 .1)) (matched .number .given .1))
+    (never-refused (Sweep ReverseRun) _ _ _ _ (p .0) (p .1 .1) _ (listed .k-list .ensures .0 ∙ on-plane (Sweep ReverseRun) _ _ _ _ refl refl (p .1 .0 .0) (p .1 .0 .1)) (matched .number .given .1))
 
 pub list-with-spec : {M : Type 1} → statement M
 list-with-spec =

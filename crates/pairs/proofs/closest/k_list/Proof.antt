@@ -2,7 +2,7 @@
 use mathlib.Core.Path.{sym, _∙_}
 use borrow.Author.Needs.{needs}
 use Rattle.pairs.specs.KList.{listedAnswer}
-use Rattle.pairs.proofs.KList.{k-refused, sweep-asks, swept-is}
+use Rattle.pairs.proofs.KList.{k-refused, join-asks, joined-is}
 use Rattle.pairs.proofs.closest.k_list.Statement.{statement}
 use Rattle.pairs.proofs.closest.k_list.Tie as tie
 
@@ -13,14 +13,14 @@ returns c = k-refused _ _ _ _ _ (c .before .k-list-refusal .ensures) (c .if1 .ta
 run-requires : tie.Need-run-requires
 run-requires c κs =
     let e = c .before .before .before in
-    sweep-asks _ _ _ _ _ _ _ _ _ _ (sym (e .before .k-list-refusal .ensures) ∙ e .if1 .left)
+    join-asks _ _ _ _ _ _ _ _ _ _ (sym (e .before .k-list-refusal .ensures) ∙ e .if1 .left)
 
 returns-2 : tie.Need-returns-2
 unfolding listedAnswer
 returns-2 c =
-    let w = c .before .before .before .before .before .before .before .before in
+    let w = c .before .before .before .before .before .before .before in
     let e = w .before .before .before .before in
-    swept-is _ _ _ _ _ _ _ _ _ _ (sym (e .before .k-list-refusal .ensures) ∙ e .if1 .left) _ (w .run .ensures)
+    joined-is _ _ _ _ _ _ _ _ _ _ (sym (e .before .k-list-refusal .ensures) ∙ e .if1 .left) _ (w .run .ensures)
 
 pub k-list-spec : {M : Type 1} → statement M
 k-list-spec =

@@ -4,6 +4,7 @@ use mathlib.Core.Path.{_≡_, refl, sym, ap, _∙_}
 use Prim.Native.Nat.{ℕ}
 use Rattle.site.specs.Answer.{Answer, refused, answered, numberOf, afterwards}
 use Rattle.entry.specs.Results.{Results}
+use Rattle.join.specs.Join.{Counts}
 use Rattle.campaign.specs.declared.Campaign.{Campaign}
 use Rattle.campaign.specs.declared.JobDone.{JobDone}
 use Rattle.campaign.specs.Calls.{JobValues, jobValues, jobDoneAnswer}
@@ -13,13 +14,13 @@ use Rattle.vumlintel.proofs.campaigns.job.Tie as tie
 
 -- What the call told, crossed beside the campaign and the columns that it gave, and that campaign stored.
 job-crossed : {answer : Answer JobValues} {n r : ℕ} (done : JobDone) {c stored : Campaign} {l l' : Results}
-    {s k d s' k' d' : ℕ}
+    {s s' : ℕ} {k k' : Counts}
     → (jobDoneAnswer done l' ≡ answer) × ((done .campaign ≡ afterwards (λ v. v .campaign) answer c)
     × (l' ≡ afterwards (λ v. v .results) answer l))
     → ((l : Results) → Crosses (jobDoneAnswer done l) n
-    (record { entry = jobValues (done .campaign) l s k d; exit = jobValues (done .campaign) l s' k' d' }))
+    (record { entry = jobValues (done .campaign) l s k; exit = jobValues (done .campaign) l s' k' }))
     → n ≡ r → stored ≡ done .campaign
-    → Crosses answer r (record { entry = jobValues c l s k d; exit = jobValues stored l' s' k' d' })
+    → Crosses answer r (record { entry = jobValues c l s k; exit = jobValues stored l' s' k' })
 unfolding afterwards
 job-crossed {answer = refused number} done {l' = m} call crossed e put =
     rw (← e, put, ← call .1 .0, ← call .1 .1) (rw (call .0) at (crossed m))
@@ -35,7 +36,7 @@ job-refused (refused number) e some campaign = sym campaign
 job-refused (answered values) e some campaign = absurd (some e)
 
 abbrev called : tie.After-cross-done → tie.After-job
-called c = c .before .before .before .before .before .before .before .before .before .before .before
+called c = c .before .before .before .before .before .before .before .before .before .before .before .before
 
 returns : tie.Need-returns
 returns c =

@@ -1,0 +1,4 @@
+-- The laws of the three ways to join two strips.
+pub mod JoinLaws
+pub mod Alike
+pub mod JoinedStrips
