@@ -61,8 +61,8 @@ fn even(r: &mut Random, sites: usize) -> Columns {
 }
 
 /// Sites spread evenly over a band of x one thousandth as wide as it is long in y.
-fn band(r: &mut Random) -> Columns {
-    let sites = (0..SITES).map(|i| {
+fn band(r: &mut Random, sites: usize) -> Columns {
+    let sites = (0..sites).map(|i| {
         (r.from_to(-1_000_000, 1_000_000) as i32, r.from_to(-1_000_000_000, 1_000_000_000) as i32, i as u32)
     });
     Columns::of(sites.collect())
@@ -257,38 +257,95 @@ fn plain_k_list(classic: bool, a: List, b: List, mut list: impl KList) -> (Vec<E
     (list.entries(), counters)
 }
 
+/// A K list of K entries by a sweep.
+fn swept(call: Call, a: &Columns, b: &Columns, k: usize, r: &mut Results) -> Counters {
+    let (mut entries, mut counters) = (0, Counters::default());
+    let number = unsafe {
+        call(
+            a.x.as_ptr(), a.x.len(), a.y.as_ptr(), a.y.len(), a.number.as_ptr(), a.number.len(),
+            a.height.as_ptr(), a.height.len(),
+            b.x.as_ptr(), b.x.len(), b.y.as_ptr(), b.y.len(), b.number.as_ptr(), b.number.len(),
+            b.height.as_ptr(), b.height.len(),
+            k as u32,
+            r.distance.as_mut_ptr(), k, r.first.as_mut_ptr(), k, r.second.as_mut_ptr(), k,
+            &mut entries, &mut counters.looks, &mut counters.distances,
+        )
+    };
+    assert_eq!((number, entries as usize), (0, k));
+    counters
+}
+
 fn k_list(name: &str, way: &str, call: Call, a: &Columns, b: &Columns, k: usize) {
     let mut r = Results::new(k);
-    let mut told = (0, Counters::default());
+    let mut told = Counters::default();
     let (mut sorted, mut heaped, mut buffered) = (None, None, None);
     let classic = way == "classic";
     let [proved, by_sorting, by_heap, by_buffer] = least([
-        &mut || {
-            let number = unsafe {
-                call(
-                    a.x.as_ptr(), a.x.len(), a.y.as_ptr(), a.y.len(), a.number.as_ptr(), a.number.len(),
-                    a.height.as_ptr(), a.height.len(),
-                    b.x.as_ptr(), b.x.len(), b.y.as_ptr(), b.y.len(), b.number.as_ptr(), b.number.len(),
-                    b.height.as_ptr(), b.height.len(),
-                    k as u32,
-                    r.distance.as_mut_ptr(), k, r.first.as_mut_ptr(), k, r.second.as_mut_ptr(), k,
-                    &mut told.0, &mut told.1.looks, &mut told.1.distances,
-                )
-            };
-            assert_eq!(number, 0);
-        },
+        &mut || told = swept(call, a, b, k, &mut r),
         &mut || sorted = Some(plain_k_list(classic, a.lent(), b.lent(), Sorted::new(k, Vec::new()))),
         &mut || heaped = Some(plain_k_list(classic, a.lent(), b.lent(), Heap::new(k, Vec::new()))),
         &mut || buffered = Some(plain_k_list(classic, a.lent(), b.lent(), Buffered::new(k, Vec::new()))),
     ]);
-    let answer = Some((r.entries(), told.1));
-    assert!(told.0 as usize == k && [sorted, heaped, buffered].iter().all(|l| *l == answer), "the answers differ");
+    let answer = Some((r.entries(), told));
+    assert!([sorted, heaped, buffered].iter().all(|l| *l == answer), "the answers differ");
     println!(
         "K list, {way}, {name}, K {k}: {proved:.2} ms, Rust {by_sorting:.2} ms by insertion, {by_heap:.2} ms by heap, \
          {by_buffer:.2} ms by buffer, ratio {:.2}; {} looks, {:.0} million a second",
         proved / by_sorting.min(by_heap).min(by_buffer),
-        told.1.looks,
-        told.1.looks as f64 / proved / 1_000.0,
+        told.looks,
+        told.looks as f64 / proved / 1_000.0,
+    );
+}
+
+/// A K list of K entries by halves: its range pairs.
+fn halved(a: &Columns, b: &Columns, k: usize, r: &mut Results) -> u64 {
+    let (mut entries, mut range_pairs) = (0, 0);
+    let number = unsafe {
+        raw::vumlintel_k_list_halves(
+            a.x.as_ptr(), a.x.len(), a.y.as_ptr(), a.y.len(), a.number.as_ptr(), a.number.len(),
+            a.height.as_ptr(), a.height.len(),
+            b.x.as_ptr(), b.x.len(), b.y.as_ptr(), b.y.len(), b.number.as_ptr(), b.number.len(),
+            b.height.as_ptr(), b.height.len(),
+            k as u32,
+            r.distance.as_mut_ptr(), k, r.first.as_mut_ptr(), k, r.second.as_mut_ptr(), k,
+            &mut entries, &mut range_pairs,
+        )
+    };
+    assert_eq!((number, entries as usize), (0, k));
+    range_pairs
+}
+
+/// Both lists tested and joined by halves, in ordinary Rust.
+fn plain_halves(a: List, b: List, mut list: impl KList) -> (Vec<Entry>, u64) {
+    assert!(ordinary::check(a) == 0 && ordinary::check(b) == 0);
+    let range_pairs = ordinary::halves(a, b, (0, a.x.len()), (0, b.x.len()), &mut list);
+    (list.entries(), range_pairs)
+}
+
+/// A K list by halves beside the same in ordinary Rust, and beside both sweeps.
+fn k_list_by_halves(name: &str, a: &Columns, b: &Columns, k: usize) {
+    let [mut r, mut by_classic, mut by_reverse_run] = [0; 3].map(|_| Results::new(k));
+    let (mut range_pairs, mut classic_looks, mut reverse_run_looks) = (0, 0, 0);
+    let (mut sorted, mut heaped, mut buffered) = (None, None, None);
+    let [proved, by_sorting, by_heap, by_buffer, classic, reverse_run] = least([
+        &mut || range_pairs = halved(a, b, k, &mut r),
+        &mut || sorted = Some(plain_halves(a.lent(), b.lent(), Sorted::new(k, Vec::new()))),
+        &mut || heaped = Some(plain_halves(a.lent(), b.lent(), Heap::new(k, Vec::new()))),
+        &mut || buffered = Some(plain_halves(a.lent(), b.lent(), Buffered::new(k, Vec::new()))),
+        &mut || classic_looks = swept(raw::vumlintel_k_list_classic, a, b, k, &mut by_classic).looks,
+        &mut || reverse_run_looks = swept(raw::vumlintel_k_list_reverse_run, a, b, k, &mut by_reverse_run).looks,
+    ]);
+    let entries = r.entries();
+    assert!(entries == by_classic.entries() && entries == by_reverse_run.entries(), "the ways differ");
+    let answer = Some((entries, range_pairs));
+    assert!([sorted, heaped, buffered].iter().all(|l| *l == answer), "the answers differ");
+    println!(
+        "K list, halves, {} sites, {name}, K {k}: {proved:.2} ms, Rust {by_sorting:.2} ms by insertion, {by_heap:.2} ms by \
+         heap, {by_buffer:.2} ms by buffer, ratio {:.2}; {range_pairs} range pairs, {:.0} million a second; classic \
+         {classic:.2} ms, {classic_looks} looks, Reverse Run {reverse_run:.2} ms, {reverse_run_looks} looks",
+        a.x.len(),
+        proved / by_sorting.min(by_heap).min(by_buffer),
+        range_pairs as f64 / proved / 1_000.0,
     );
 }
 
@@ -403,30 +460,78 @@ fn opened(a: &Columns, b: &Columns, k: usize, strips: usize, c: &mut Campaign, r
     assert_eq!(number, 0);
 }
 
-/// An opening and all jobs by mark, one call a job: looks, and jobs skipped.
-fn all_jobs(a: &Columns, b: &Columns, k: usize, strips: usize, c: &mut Campaign, r: &mut Results) -> (u64, u32) {
-    opened(a, b, k, strips, c, r);
+/// A job: whether it was swept, and its looks or its range pairs.
+type Job = fn(&Columns, &Columns, usize, &mut Campaign, &mut Results, (u32, u32)) -> (u32, u64);
+
+fn classic_job(
+    a: &Columns,
+    b: &Columns,
+    k: usize,
+    c: &mut Campaign,
+    r: &mut Results,
+    (s, t): (u32, u32),
+) -> (u32, u64) {
     let [ck, ce, fs, ss] = &mut c.numbers;
-    let (mut looks, mut skips) = (0, 0);
-    for job in 0..(strips * strips) as u32 {
-        let (mut swept, mut seen, mut distances) = (0, 0, 0);
-        let number = unsafe {
-            raw::vumlintel_job_classic(
-                ck, ce, fs, ss, &mut c.first_ends, &mut c.second_ends, &mut c.marks,
-                a.x.as_ptr(), a.x.len(), a.y.as_ptr(), a.y.len(), a.number.as_ptr(), a.number.len(),
-                a.height.as_ptr(), a.height.len(),
-                b.x.as_ptr(), b.x.len(), b.y.as_ptr(), b.y.len(), b.number.as_ptr(), b.number.len(),
-                b.height.as_ptr(), b.height.len(),
-                r.distance.as_mut_ptr(), k, r.first.as_mut_ptr(), k, r.second.as_mut_ptr(), k,
-                job / strips as u32, job % strips as u32,
-                &mut swept, &mut seen, &mut distances,
-            )
-        };
-        assert_eq!(number, 0);
-        looks += seen;
+    let (mut swept, mut looks, mut distances) = (0, 0, 0);
+    let number = unsafe {
+        raw::vumlintel_job_classic(
+            ck, ce, fs, ss, &mut c.first_ends, &mut c.second_ends, &mut c.marks,
+            a.x.as_ptr(), a.x.len(), a.y.as_ptr(), a.y.len(), a.number.as_ptr(), a.number.len(),
+            a.height.as_ptr(), a.height.len(),
+            b.x.as_ptr(), b.x.len(), b.y.as_ptr(), b.y.len(), b.number.as_ptr(), b.number.len(),
+            b.height.as_ptr(), b.height.len(),
+            r.distance.as_mut_ptr(), k, r.first.as_mut_ptr(), k, r.second.as_mut_ptr(), k,
+            s, t, &mut swept, &mut looks, &mut distances,
+        )
+    };
+    assert_eq!(number, 0);
+    (swept, looks)
+}
+
+fn halves_job(
+    a: &Columns,
+    b: &Columns,
+    k: usize,
+    c: &mut Campaign,
+    r: &mut Results,
+    (s, t): (u32, u32),
+) -> (u32, u64) {
+    let [ck, ce, fs, ss] = &mut c.numbers;
+    let (mut swept, mut range_pairs) = (0, 0);
+    let number = unsafe {
+        raw::vumlintel_job_halves(
+            ck, ce, fs, ss, &mut c.first_ends, &mut c.second_ends, &mut c.marks,
+            a.x.as_ptr(), a.x.len(), a.y.as_ptr(), a.y.len(), a.number.as_ptr(), a.number.len(),
+            a.height.as_ptr(), a.height.len(),
+            b.x.as_ptr(), b.x.len(), b.y.as_ptr(), b.y.len(), b.number.as_ptr(), b.number.len(),
+            b.height.as_ptr(), b.height.len(),
+            r.distance.as_mut_ptr(), k, r.first.as_mut_ptr(), k, r.second.as_mut_ptr(), k,
+            s, t, &mut swept, &mut range_pairs,
+        )
+    };
+    assert_eq!(number, 0);
+    (swept, range_pairs)
+}
+
+/// An opening and all jobs by mark, one call a job: looks or range pairs, and jobs skipped.
+fn all_jobs(
+    job: Job,
+    a: &Columns,
+    b: &Columns,
+    k: usize,
+    strips: usize,
+    c: &mut Campaign,
+    r: &mut Results,
+) -> (u64, u32) {
+    opened(a, b, k, strips, c, r);
+    let strips = strips as u32;
+    let (mut count, mut skips) = (0, 0);
+    for mark in 0..strips * strips {
+        let (swept, counted) = job(a, b, k, c, r, (mark / strips, mark % strips));
+        count += counted;
         skips += 1 - swept;
     }
-    (looks, skips)
+    (count, skips)
 }
 
 /// A status of a campaign with all jobs settled: the tests of both lists and refusal 7.
@@ -448,18 +553,29 @@ fn status(a: &Columns, b: &Columns, k: usize, strips: usize, c: &Campaign, r: &R
     assert_eq!((number, settled, jobs, got), (0, all, all, k as u32));
 }
 
-/// All 256 jobs in ordinary Rust, on lists that `keep` makes: looks, jobs skipped, and the entries.
-fn plain_jobs<L: KList>(a: List, b: List, k: usize, keep: impl Fn(usize, Vec<Entry>) -> L) -> (u64, u32, Vec<Entry>) {
+/// All 256 jobs in ordinary Rust, on lists that `keep` makes: what `join` counts, jobs skipped, and the entries.
+fn plain_jobs<L: KList>(
+    a: List,
+    b: List,
+    k: usize,
+    keep: impl Fn(usize, Vec<Entry>) -> L,
+    join: impl Fn(List, List, (usize, usize), (usize, usize), &mut L) -> u64,
+) -> (u64, u32, Vec<Entry>) {
     let ends = |l: List| (1..=16).map(|s| l.x.len() * s / 16).collect();
     let mut c = ordinary::Campaign::new(k, [ends(a), ends(b)]);
-    let (mut looks, mut skips) = (0, 0);
+    let (mut count, mut skips) = (0, 0);
     for job in 0..256 {
-        match c.classic_job(&keep, a, b, job / 16, job % 16) {
-            Some(seen) => looks += seen,
+        match c.job(&keep, &join, a, b, job / 16, job % 16) {
+            Some(counted) => count += counted,
             None => skips += 1,
         }
     }
-    (looks, skips, c.entries)
+    (count, skips, c.entries)
+}
+
+/// The classic sweep of two strips in ordinary Rust: its looks.
+fn looks(a: List, b: List, p: (usize, usize), q: (usize, usize), list: &mut impl KList) -> u64 {
+    ordinary::classic(a, b, p, q, list).looks
 }
 
 /// A campaign beside the same in ordinary Rust and beside one classic sweep, and where its time goes.
@@ -470,10 +586,10 @@ fn campaign(name: &str, a: &Columns, b: &Columns, k: usize) {
     let (mut sorted, mut heaped, mut buffered) = (None, None, None);
     let (la, lb) = (a.lent(), b.lent());
     let [jobs, by_sorting, by_heap, by_buffer, sweep] = least([
-        &mut || told = all_jobs(a, b, k, 16, &mut c, &mut r),
-        &mut || sorted = Some(plain_jobs(la, lb, k, Sorted::new)),
-        &mut || heaped = Some(plain_jobs(la, lb, k, Heap::new)),
-        &mut || buffered = Some(plain_jobs(la, lb, k, Buffered::new)),
+        &mut || told = all_jobs(classic_job, a, b, k, 16, &mut c, &mut r),
+        &mut || sorted = Some(plain_jobs(la, lb, k, Sorted::new, looks)),
+        &mut || heaped = Some(plain_jobs(la, lb, k, Heap::new, looks)),
+        &mut || buffered = Some(plain_jobs(la, lb, k, Buffered::new, looks)),
         &mut || whole = Some(plain_k_list(true, la, lb, Heap::new(k, Vec::new()))),
     ]);
     let answer = Some((told.0, told.1, r.entries()));
@@ -496,6 +612,34 @@ fn campaign(name: &str, a: &Columns, b: &Columns, k: usize) {
     );
 }
 
+/// A campaign by halves beside the same in ordinary Rust, and beside the same jobs by the classic sweep.
+fn campaign_by_halves(name: &str, a: &Columns, b: &Columns, k: usize) {
+    let [mut r, mut by_classic] = [0; 2].map(|_| Results::new(k));
+    let [mut c, mut d] = [0; 2].map(|_| Campaign::new());
+    let (mut told, mut classic_told) = ((0, 0), (0, 0));
+    let (mut sorted, mut heaped, mut buffered) = (None, None, None);
+    let (la, lb) = (a.lent(), b.lent());
+    let [jobs, by_sorting, by_heap, by_buffer, classic] = least([
+        &mut || told = all_jobs(halves_job, a, b, k, 16, &mut c, &mut r),
+        &mut || sorted = Some(plain_jobs(la, lb, k, Sorted::new, ordinary::halves)),
+        &mut || heaped = Some(plain_jobs(la, lb, k, Heap::new, ordinary::halves)),
+        &mut || buffered = Some(plain_jobs(la, lb, k, Buffered::new, ordinary::halves)),
+        &mut || classic_told = all_jobs(classic_job, a, b, k, 16, &mut d, &mut by_classic),
+    ]);
+    let answer = Some((told.0, told.1, r.entries()));
+    assert!([sorted, heaped, buffered].iter().all(|l| *l == answer), "the answers differ");
+    assert!(r.entries() == by_classic.entries() && told.1 == classic_told.1, "the ways differ");
+    println!(
+        "campaign by halves, {name}, 256 jobs, K {k}: {jobs:.1} ms, Rust {by_sorting:.1} ms by insertion, {by_heap:.1} ms by \
+         heap, {by_buffer:.1} ms by buffer, ratio {:.2}; {} skipped, {} range pairs; by the classic sweep {classic:.1} ms, \
+         {} looks",
+        jobs / by_sorting.min(by_heap).min(by_buffer),
+        told.1,
+        told.0,
+        classic_told.0,
+    );
+}
+
 /// Statuses of a campaign on even lists of 65,535 sites, and of one on lists of that length at one position, each with all
 /// jobs settled. There the jobs are settled by hand: doing them takes 65,535 times 65,535 looks.
 fn one_position(r: &mut Random, k: usize, strips: usize) {
@@ -504,7 +648,7 @@ fn one_position(r: &mut Random, k: usize, strips: usize) {
     let (p, q) = (stacked(most), stacked(most));
     let (mut held, mut none) = (Results::new(k), Results::new(k));
     let (mut c, mut d) = (Campaign::new(), Campaign::new());
-    all_jobs(&a, &b, k, strips, &mut c, &mut held);
+    all_jobs(classic_job, &a, &b, k, strips, &mut c, &mut held);
     opened(&p, &q, k, strips, &mut d, &mut none);
     d.marks = c.marks;
     let [spread, stacked] = least([
@@ -539,8 +683,9 @@ fn main() {
     distance_lists(&kinds);
     forecasts(&kinds);
     campaigns(&kinds, &[1_000, 4_096]);
-    let long_in_y = [("band long in y", band(r), band(r)), ("road along y", road(r), road(r))];
+    let long_in_y = [("band long in y", band(r, SITES), band(r, SITES)), ("road along y", road(r), road(r))];
     campaigns(&long_in_y, &[1_000]);
+    by_halves(&kinds, &long_in_y[1]);
     for strips in [1, 32] {
         for k in [1, 4_096] {
             one_position(r, k, strips);
@@ -554,6 +699,20 @@ fn k_lists(kinds: &[(&str, Columns, Columns)]) {
             k_list(name, "classic", raw::vumlintel_k_list_classic, a, b, k);
             k_list(name, "Reverse Run", raw::vumlintel_k_list_reverse_run, a, b, k);
         }
+    }
+}
+
+/// K lists and campaigns by halves. The band is a shorter one, since there the halves take many times as long as a sweep.
+fn by_halves(kinds: &[(&str, Columns, Columns); 2], road: &(&str, Columns, Columns)) {
+    let r = &mut Random::new(4);
+    let band = ("band long in y", band(r, 10_000), band(r, 10_000));
+    for (name, a, b) in [&kinds[0], &kinds[1], &band, road] {
+        for k in [1, 100, 1_000, 4_096] {
+            k_list_by_halves(name, a, b, k);
+        }
+    }
+    for (name, a, b) in [&kinds[0], road] {
+        campaign_by_halves(name, a, b, 1_000);
     }
 }
 

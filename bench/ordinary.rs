@@ -185,6 +185,86 @@ pub fn reverse_run(a: List, b: List, p: (usize, usize), q: (usize, usize), list:
     counters
 }
 
+/// A range of places of a list, not empty, with the box of its sites.
+#[derive(Clone, Copy)]
+struct Range {
+    from: usize,
+    to: usize,
+    edges: [i32; 6],
+}
+
+impl Range {
+    fn new(l: List, from: usize, to: usize) -> Range {
+        Range { from, to, edges: box_of(l, (from, to)) }
+    }
+
+    #[inline]
+    fn len(&self) -> usize {
+        self.to - self.from
+    }
+
+    /// The lower half and the upper half.
+    #[inline]
+    fn halves(&self, l: List) -> (Range, Range) {
+        let middle = self.from + self.len() / 2;
+        (Range::new(l, self.from, middle), Range::new(l, middle, self.to))
+    }
+}
+
+/// A join by halves under way.
+struct Halves<'a, L> {
+    a: List<'a>,
+    b: List<'a>,
+    list: &'a mut L,
+    range_pairs: u64,
+}
+
+impl<L: KList> Halves<'_, L> {
+    /// A visit of two ranges with this gap squared, which is the squared distance of two single sites.
+    fn visit(&mut self, p: Range, q: Range, gap: u64) {
+        self.range_pairs += 1;
+        if gap > self.list.bound() {
+            return;
+        }
+        if p.len() == 1 && q.len() == 1 {
+            if gap != 0 {
+                self.list.offer(Entry { distance: gap, first: p.from as u32, second: q.from as u32 });
+            }
+        } else if p.len() >= q.len() {
+            let (lower, upper) = p.halves(self.a);
+            let gaps = (squared_gap(lower.edges, q.edges), squared_gap(upper.edges, q.edges));
+            if gaps.0 <= gaps.1 {
+                self.visit(lower, q, gaps.0);
+                self.visit(upper, q, gaps.1);
+            } else {
+                self.visit(upper, q, gaps.1);
+                self.visit(lower, q, gaps.0);
+            }
+        } else {
+            let (lower, upper) = q.halves(self.b);
+            let gaps = (squared_gap(p.edges, lower.edges), squared_gap(p.edges, upper.edges));
+            if gaps.0 <= gaps.1 {
+                self.visit(p, lower, gaps.0);
+                self.visit(p, upper, gaps.1);
+            } else {
+                self.visit(p, upper, gaps.1);
+                self.visit(p, lower, gaps.0);
+            }
+        }
+    }
+}
+
+/// The join by halves over two strips: its range pairs.
+pub fn halves(a: List, b: List, p: (usize, usize), q: (usize, usize), list: &mut impl KList) -> u64 {
+    if p.0 == p.1 || q.0 == q.1 {
+        return 0;
+    }
+    let (p, q) = (Range::new(a, p.0, p.1), Range::new(b, q.0, q.1));
+    let mut join = Halves { a, b, list, range_pairs: 0 };
+    join.visit(p, q, squared_gap(p.edges, q.edges));
+    join.range_pairs
+}
+
 /// The pairs of a distance list, by first place and then second.
 pub fn distance_pairs(a: List, b: List, e: u32) -> Vec<(u32, u32)> {
     let (e, limit) = (e as i64, e as u64 * e as u64);
@@ -241,9 +321,9 @@ pub fn forecast(a: List, b: List, e: u32, partners: &mut [u32]) -> Option<u64> {
     Some(total)
 }
 
-/// The box of a strip, least and greatest x, y and height. The list ascends by x.
+/// The box of a range of places, least and greatest x, y and height. The list ascends by x.
 fn box_of(l: List, (from, to): (usize, usize)) -> [i32; 6] {
-    let edges = |c: &[i32]| (*c.iter().min().unwrap(), *c.iter().max().unwrap());
+    let edges = |c: &[i32]| c.iter().fold((c[0], c[0]), |(least, greatest), e| (least.min(*e), greatest.max(*e)));
     let (ys, hs) = (edges(&l.y[from..to]), edges(&l.height[from..to]));
     [l.x[from], l.x[to - 1], ys.0, ys.1, hs.0, hs.1]
 }
@@ -310,7 +390,7 @@ impl Campaign {
         Campaign { k, settled: vec![false; ends[0].len() * ends[1].len()], ends, entries: Vec::with_capacity(k) }
     }
 
-    fn job(&self, s: usize, t: usize) -> usize {
+    fn mark(&self, s: usize, t: usize) -> usize {
         s * self.ends[1].len() + t
     }
 
@@ -321,7 +401,7 @@ impl Campaign {
         let settled = strips(0).enumerate().flat_map(|(s, p)| strips(1).enumerate().map(move |(t, q)| (s, p, t, q)));
         let total = || -> usize {
             settled
-                .filter(|(s, _, t, _)| self.settled[self.job(*s, *t)])
+                .filter(|(s, _, t, _)| self.settled[self.mark(*s, *t)])
                 .map(|(_, p, _, q)| pair_count(a, b, p, q))
                 .sum()
         };
@@ -332,7 +412,7 @@ impl Campaign {
                 let (dx, dy, dh) = (x - u, y - v, h - g);
                 e.distance != 0
                     && (dx * dx + dy * dy + dh * dh) as u64 == e.distance
-                    && self.settled[self.job(strip_of(&self.ends[0], i), strip_of(&self.ends[1], j))]
+                    && self.settled[self.mark(strip_of(&self.ends[0], i), strip_of(&self.ends[1], j))]
             }
         };
         self.entries.len() <= self.k
@@ -341,26 +421,27 @@ impl Campaign {
             && (self.entries.len() == self.k || self.entries.len() == total())
     }
 
-    /// A job by the classic sweep, on a list that `keep` makes of K and the entries: both lists and the campaign are
-    /// tested first. Its looks, or none where it is skipped.
-    pub fn classic_job<L: KList>(
+    /// A job by a join of two strips, on a list that `keep` makes of K and the entries: both lists and the campaign are
+    /// tested first. What the join counts, or none where the job is skipped.
+    pub fn job<L: KList>(
         &mut self,
         keep: impl Fn(usize, Vec<Entry>) -> L,
+        join: impl Fn(List, List, (usize, usize), (usize, usize), &mut L) -> u64,
         a: List,
         b: List,
         s: usize,
         t: usize,
     ) -> Option<u64> {
-        assert!(check(a) == 0 && check(b) == 0 && self.sound(a, b) && !self.settled[self.job(s, t)]);
-        let job = self.job(s, t);
+        let job = self.mark(s, t);
+        assert!(check(a) == 0 && check(b) == 0 && self.sound(a, b) && !self.settled[job]);
         self.settled[job] = true;
         let (p, q) = (range(&self.ends[0], s), range(&self.ends[1], t));
         if self.entries.len() == self.k && squared_gap(box_of(a, p), box_of(b, q)) > self.entries[self.k - 1].distance {
             return None;
         }
         let mut list = keep(self.k, std::mem::take(&mut self.entries));
-        let counters = classic(a, b, p, q, &mut list);
+        let count = join(a, b, p, q, &mut list);
         self.entries = list.entries();
-        Some(counters.looks)
+        Some(count)
     }
 }

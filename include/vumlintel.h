@@ -99,6 +99,22 @@ uint32_t vumlintel_k_list_reverse_run(const int32_t *ax, size_t axs, const int32
                                       uint64_t *looks, uint64_t *distances);
 
 /*
+ * The same K list by halves. It goes through pairs of ranges of places, one range of each list, from the two whole lists on.
+ * Where K entries are held and the boxes around the sites of the two ranges (least and greatest x, y and height) are farther
+ * apart than the last of them, the pair of ranges is dropped. Otherwise the longer range is split at its middle, the first
+ * list's where both are equally long, the lower half having half the length rounded down, and the half nearer to the other
+ * range comes first, the lower one where both are equally near; two single sites are offered to the list as a pair. Answers
+ * the entry count and how many range pairs it came to, dropped ones and single sites included, 0 where a list is empty; or the
+ * refusals of a K list by a sweep. It is worth trying where x tells little, but sites that are near in the list are near on
+ * the ground, as along a road in y.
+ */
+uint32_t vumlintel_k_list_halves(const int32_t *ax, size_t axs, const int32_t *ay, size_t ays, const uint32_t *an, size_t ans,
+                                 const int32_t *ah, size_t ahs, const int32_t *bx, size_t bxs, const int32_t *by, size_t bys,
+                                 const uint32_t *bn, size_t bns, const int32_t *bh, size_t bhs, uint32_t k, uint64_t *distance,
+                                 size_t distance_length, uint32_t *first, size_t first_length, uint32_t *second,
+                                 size_t second_length, uint32_t *entries, uint64_t *range_pairs);
+
+/*
  * The distance list of two lists: all pairs with a squared distance of at most e * e, by first place and then second, in two
  * columns. Answers their count, or 1, 2, 3 for each list, or 6 where the shorter column has fewer elements. Elements past the
  * pairs stay.
@@ -173,6 +189,18 @@ uint32_t vumlintel_job_reverse_run(uint32_t *campaign_k, uint32_t *campaign_entr
                                    uint64_t *distance, size_t distance_length, uint32_t *first, size_t first_length,
                                    uint32_t *second, size_t second_length, uint32_t first_strip, uint32_t second_strip,
                                    uint32_t *swept, uint64_t *looks, uint64_t *distances);
+
+/*
+ * The same by halves, from the two strips on and with the entries held: in place of looks and distances it answers the range
+ * pairs, 0 when skipped. Jobs of one campaign may be done by different ways.
+ */
+uint32_t vumlintel_job_halves(uint32_t *campaign_k, uint32_t *campaign_entries, uint32_t *first_strips, uint32_t *second_strips,
+                              uint32_t first_ends[32], uint32_t second_ends[32], uint8_t marks[1024], const int32_t *ax,
+                              size_t axs, const int32_t *ay, size_t ays, const uint32_t *an, size_t ans, const int32_t *ah,
+                              size_t ahs, const int32_t *bx, size_t bxs, const int32_t *by, size_t bys, const uint32_t *bn,
+                              size_t bns, const int32_t *bh, size_t bhs, uint64_t *distance, size_t distance_length,
+                              uint32_t *first, size_t first_length, uint32_t *second, size_t second_length,
+                              uint32_t first_strip, uint32_t second_strip, uint32_t *swept, uint64_t *range_pairs);
 
 /* Answers the jobs settled, the jobs in all, the entries and K; or 1, 2, 3 for each list, 7. Writes nothing else. */
 uint32_t vumlintel_status(const uint32_t *campaign_k, const uint32_t *campaign_entries, const uint32_t *first_strips,

@@ -136,6 +136,11 @@ fn told<T: PartialEq + std::fmt::Debug>(number: u32, values: T, before: T) -> Re
     Err(number)
 }
 
+/// The counters of a way before a call: what it answers is not written yet.
+fn unwritten(way: Way) -> Counters {
+    way.counters(L, L, L)
+}
+
 pub fn check(c: &Columns) -> Result<u32, u32> {
     let l = LentList::new(c);
     let mut count = U;
@@ -185,26 +190,32 @@ pub fn remove(c: &mut Columns, in_use: u32, s: Site) -> Result<(u32, u32), u32> 
 pub fn k_list(way: Way, a: &Columns, b: &Columns, k: u32, r: &mut Results) -> Result<(u32, Counters), u32> {
     let (p, q) = (LentList::new(a), LentList::new(b));
     let mut l = LentResults::new(r);
-    let (mut entries, mut looks, mut distances) = (U, L, L);
-    let call = match way {
-        Way::Classic => raw::vumlintel_k_list_classic,
-        Way::ReverseRun => raw::vumlintel_k_list_reverse_run,
-    };
+    let (mut entries, mut counters) = (U, unwritten(way));
+    let Counters { looks, distances, range_pairs } = &mut counters;
+    macro_rules! call {
+        ($call:ident, $($counter:ident),*) => {
+            raw::$call(
+                p.x.shared(), p.x.len(), p.y.shared(), p.y.len(), p.n.shared(), p.n.len(), p.h.shared(), p.h.len(),
+                q.x.shared(), q.x.len(), q.y.shared(), q.y.len(), q.n.shared(), q.n.len(), q.h.shared(), q.h.len(),
+                k,
+                l.distance.exclusive(), l.distance.len(),
+                l.first.exclusive(), l.first.len(),
+                l.second.exclusive(), l.second.len(),
+                &mut entries, $($counter),*
+            )
+        };
+    }
     let number = unsafe {
-        call(
-            p.x.shared(), p.x.len(), p.y.shared(), p.y.len(), p.n.shared(), p.n.len(), p.h.shared(), p.h.len(),
-            q.x.shared(), q.x.len(), q.y.shared(), q.y.len(), q.n.shared(), q.n.len(), q.h.shared(), q.h.len(),
-            k,
-            l.distance.exclusive(), l.distance.len(),
-            l.first.exclusive(), l.first.len(),
-            l.second.exclusive(), l.second.len(),
-            &mut entries, &mut looks, &mut distances,
-        )
+        match way {
+            Way::Classic => call!(vumlintel_k_list_classic, looks, distances),
+            Way::ReverseRun => call!(vumlintel_k_list_reverse_run, looks, distances),
+            Way::Halves => call!(vumlintel_k_list_halves, range_pairs),
+        }
     };
     p.unchanged(a);
     q.unchanged(b);
     *r = l.back();
-    told(number, (entries, Counters { looks, distances }), (U, Counters { looks: L, distances: L }))
+    told(number, (entries, counters), (U, unwritten(way)))
 }
 
 /// The count of pairs.
@@ -292,28 +303,34 @@ pub fn job(
 ) -> Result<(u32, Counters), u32> {
     let (p, q) = (LentList::new(a), LentList::new(b));
     let mut l = LentResults::new(r);
-    let (mut swept, mut looks, mut distances) = (U, L, L);
-    let call = match way {
-        Way::Classic => raw::vumlintel_job_classic,
-        Way::ReverseRun => raw::vumlintel_job_reverse_run,
-    };
+    let (mut swept, mut counters) = (U, unwritten(way));
+    let Counters { looks, distances, range_pairs } = &mut counters;
+    macro_rules! call {
+        ($call:ident, $($counter:ident),*) => {
+            raw::$call(
+                &mut c.k, &mut c.entries, &mut c.first_strips, &mut c.second_strips,
+                &mut c.first_ends, &mut c.second_ends, &mut c.marks,
+                p.x.shared(), p.x.len(), p.y.shared(), p.y.len(), p.n.shared(), p.n.len(), p.h.shared(), p.h.len(),
+                q.x.shared(), q.x.len(), q.y.shared(), q.y.len(), q.n.shared(), q.n.len(), q.h.shared(), q.h.len(),
+                l.distance.exclusive(), l.distance.len(),
+                l.first.exclusive(), l.first.len(),
+                l.second.exclusive(), l.second.len(),
+                first_strip, second_strip,
+                &mut swept, $($counter),*
+            )
+        };
+    }
     let number = unsafe {
-        call(
-            &mut c.k, &mut c.entries, &mut c.first_strips, &mut c.second_strips,
-            &mut c.first_ends, &mut c.second_ends, &mut c.marks,
-            p.x.shared(), p.x.len(), p.y.shared(), p.y.len(), p.n.shared(), p.n.len(), p.h.shared(), p.h.len(),
-            q.x.shared(), q.x.len(), q.y.shared(), q.y.len(), q.n.shared(), q.n.len(), q.h.shared(), q.h.len(),
-            l.distance.exclusive(), l.distance.len(),
-            l.first.exclusive(), l.first.len(),
-            l.second.exclusive(), l.second.len(),
-            first_strip, second_strip,
-            &mut swept, &mut looks, &mut distances,
-        )
+        match way {
+            Way::Classic => call!(vumlintel_job_classic, looks, distances),
+            Way::ReverseRun => call!(vumlintel_job_reverse_run, looks, distances),
+            Way::Halves => call!(vumlintel_job_halves, range_pairs),
+        }
     };
     p.unchanged(a);
     q.unchanged(b);
     *r = l.back();
-    told(number, (swept, Counters { looks, distances }), (U, Counters { looks: L, distances: L }))
+    told(number, (swept, counters), (U, unwritten(way)))
 }
 
 pub fn status(c: &Campaign, a: &Columns, b: &Columns, r: &Results) -> Result<Status, u32> {

@@ -107,7 +107,12 @@ fn strip_number(r: &mut Random, strips: usize) -> u32 {
 fn fixed_example() {
     let r = &mut Random::new(50);
     let (a, b) = f();
-    for ways in [[Way::Classic; 4], [Way::ReverseRun; 4], [Way::Classic, Way::ReverseRun, Way::ReverseRun, Way::Classic]] {
+    let mixed = [
+        [Way::Classic, Way::ReverseRun, Way::ReverseRun, Way::Classic],
+        [Way::Halves, Way::Classic, Way::ReverseRun, Way::Halves],
+        [Way::ReverseRun, Way::Halves, Way::Halves, Way::Classic],
+    ];
+    for ways in WAYS.map(|way| [way; 4]).into_iter().chain(mixed) {
         let mut bench = Bench { a: Columns::of(&a), b: Columns::of(&b), r: results(r, [2, 3, 4]), c: anything(r) };
         same_open(&mut bench, 2, &[2, 3], &[1, 3]).unwrap();
         let jobs = [(0, 0, true), (1, 0, false), (0, 1, true), (1, 1, true)];
@@ -252,14 +257,15 @@ fn tamper(r: &mut Random, bench: &mut Bench) {
     }
 }
 
-/// What a history showed: refusals, faults of refusal 7, jobs swept, skipped, skipped though the x gap alone would not do, and
-/// though the x and y gaps would not, and tampered campaigns that passed.
+/// What a history showed: refusals, faults of refusal 7, by each way jobs swept, skipped and repeated, jobs skipped though the
+/// x gap alone would not do, and though the x and y gaps would not, and tampered campaigns that passed.
 #[derive(Default)]
 struct Seen {
     refusals: BTreeMap<u32, u32>,
     faults: BTreeMap<&'static str, u32>,
-    swept: u32,
-    skipped: u32,
+    swept: [u32; 3],
+    skipped: [u32; 3],
+    repeated: [u32; 3],
     by_y: u32,
     by_height: u32,
     passed: u32,
@@ -328,16 +334,17 @@ fn history(r: &mut Random, kind: usize, seen: &mut Seen) {
             _ => {
                 let (s, t) = (strip_number(r, first.len()), strip_number(r, second.len()));
                 let before = bench.clone();
-                let answer = same_job(WAYS[r.below(2)], &mut bench, s, t);
+                let way = r.below(3);
+                let answer = same_job(WAYS[way], &mut bench, s, t);
                 assert_eq!(answer.err().unwrap_or(0), book.job(s, t), "the book answers otherwise");
                 match answer {
-                    Ok(true) => seen.swept += 1,
+                    Ok(true) => seen.swept[way] += 1,
                     Ok(false) => {
-                        seen.skipped += 1;
+                        seen.skipped[way] += 1;
                         seen.by_y += swept_by(1, &before, s, t) as u32;
                         seen.by_height += swept_by(2, &before, s, t) as u32;
                     }
-                    Err(_) => {}
+                    Err(refusal) => seen.repeated[way] += (refusal == 9) as u32,
                 }
                 seen.told(answer);
             }
@@ -373,7 +380,10 @@ fn histories(r: &mut Random) {
     for fault in faults {
         assert!(seen.faults.get(fault).is_some_and(|n| *n > 5), "{fault}: {:?}", seen.faults);
     }
-    assert!(seen.swept > 1_000 && seen.skipped > 1_000 && seen.passed > 50 && seen.complete > 50);
+    for jobs in [seen.swept, seen.skipped, seen.repeated] {
+        assert!(jobs.iter().all(|n| *n > 1_000), "{:?} {:?} {:?}", seen.swept, seen.skipped, seen.repeated);
+    }
+    assert!(seen.passed > 50 && seen.complete > 50);
     assert!(seen.by_y > 100 && seen.by_height > 100, "{} {}", seen.by_y, seen.by_height);
 }
 
@@ -390,7 +400,7 @@ fn full_grid(r: &mut Random) {
             jobs.swap(i, r.below(i + 1));
         }
         for job in jobs {
-            same_job(WAYS[r.below(2)], &mut bench, job / 32, job % 32).unwrap();
+            same_job(WAYS[r.below(3)], &mut bench, job / 32, job % 32).unwrap();
         }
         assert_eq!(same_status(&bench).unwrap().settled, 1_024);
         let mut whole = results(r, lengths);
@@ -408,7 +418,7 @@ fn long_list(r: &mut Random) {
     same_open(&mut bench, 300, &ends, &[4, b.len() as u32]).unwrap();
     for s in 0..32 {
         for t in 0..2 {
-            same_job(WAYS[(s + t) as usize % 2], &mut bench, s, t).unwrap();
+            same_job(WAYS[(s + t) as usize % 3], &mut bench, s, t).unwrap();
         }
     }
     let mut whole = results(r, lengths);
@@ -460,12 +470,14 @@ fn one_position(r: &mut Random) {
 fn skips_at_the_limit() {
     let r = &mut Random::new(56);
     for (x, swept) in [(5, true), (6, false)] {
-        let a = Columns::of(&[site(0, 0, 0)]);
-        let b = Columns::of(&[site(0, 5, 0), site(x, 0, 0)]);
-        let mut bench = Bench { a, b, r: results(r, [1, 1, 1]), c: anything(r) };
-        same_open(&mut bench, 1, &[1], &[1, 2]).unwrap();
-        assert_eq!(same_job(Way::Classic, &mut bench, 0, 0), Ok(true));
-        assert_eq!(same_job(Way::Classic, &mut bench, 0, 1), Ok(swept));
+        for way in WAYS {
+            let a = Columns::of(&[site(0, 0, 0)]);
+            let b = Columns::of(&[site(0, 5, 0), site(x, 0, 0)]);
+            let mut bench = Bench { a, b, r: results(r, [1, 1, 1]), c: anything(r) };
+            same_open(&mut bench, 1, &[1], &[1, 2]).unwrap();
+            assert_eq!(same_job(way, &mut bench, 0, 0), Ok(true));
+            assert_eq!(same_job(way, &mut bench, 0, 1), Ok(swept));
+        }
     }
 }
 
@@ -490,11 +502,13 @@ fn skips_by_boxes() {
         ];
         for _ in 0..2 {
             lists.swap(0, 1);
-            let [a, b] = [0, 1].map(|l| Columns::of(&lists[l]));
-            let mut bench = Bench { a, b, r: results(r, [1, 1, 1]), c: anything(r) };
-            same_open(&mut bench, 1, &[1, 4], &[1, 4]).unwrap();
-            assert_eq!(same_job(Way::Classic, &mut bench, 0, 0), Ok(true));
-            assert_eq!(same_job(Way::Classic, &mut bench, 1, 1), Ok(swept), "{dx} {dy} {x} {y}");
+            for way in WAYS {
+                let [a, b] = [0, 1].map(|l| Columns::of(&lists[l]));
+                let mut bench = Bench { a, b, r: results(r, [1, 1, 1]), c: anything(r) };
+                same_open(&mut bench, 1, &[1, 4], &[1, 4]).unwrap();
+                assert_eq!(same_job(way, &mut bench, 0, 0), Ok(true));
+                assert_eq!(same_job(way, &mut bench, 1, 1), Ok(swept), "{way:?} {dx} {dy} {x} {y}");
+            }
         }
     }
 }

@@ -9,32 +9,33 @@ fn results(n: usize) -> Results {
     Results { distance: vec![0; n], first: vec![0; n], second: vec![0; n] }
 }
 
-/// The places of the entries, and looks and distances.
-fn listed(way: Way, a: &[Site], b: &[Site], k: u32) -> (Vec<(u32, u32)>, u64, u64) {
+/// The places of the entries, and the counters.
+fn listed(way: Way, a: &[Site], b: &[Site], k: u32) -> (Vec<(u32, u32)>, Counters) {
     let (a, b) = (Columns::of(a), Columns::of(b));
     let (entries, counters) = k_list(way, &a, &b, k, &results(k as usize)).unwrap();
-    (entries.iter().map(|e| (e.first, e.second)).collect(), counters.looks, counters.distances)
+    (entries.iter().map(|e| (e.first, e.second)).collect(), counters)
 }
 
-/// What the sweep itself leaves is what the brute force finds.
-fn sweeps_agree(a: &[Site], b: &[Site], k: u32) {
+/// What each way itself leaves is what the brute force finds.
+fn ways_agree(a: &[Site], b: &[Site], k: u32) {
     for way in WAYS {
         let (p, q) = (Strip::whole(a), Strip::whole(b));
-        assert_eq!(sweep(way, k, p, q, Vec::new()).0, best(k, pairs(p, q)));
+        assert_eq!(joined(way, k, p, q, Vec::new()).0, best(k, pairs(p, q)));
     }
 }
 
 fn m1_to_m3_and_m9() {
     let (a, b) = f();
     let places = vec![(2, 2), (1, 1), (0, 1)];
-    assert_eq!(listed(Way::Classic, &a, &b, 3), (places.clone(), 9, 6));
-    assert_eq!(listed(Way::ReverseRun, &a, &b, 3), (places, 7, 5));
+    assert_eq!(listed(Way::Classic, &a, &b, 3), (places.clone(), Counters::swept(9, 6)));
+    assert_eq!(listed(Way::ReverseRun, &a, &b, 3), (places.clone(), Counters::swept(7, 5)));
+    assert_eq!(listed(Way::Halves, &a, &b, 3), (places, Counters::halved(15)));
     for way in WAYS {
         assert_eq!(listed(way, &a, &b, 9).0.len(), 9);
         assert_eq!(listed(way, &a, &b, 4_096).0.len(), 9);
     }
     for k in 1..10 {
-        sweeps_agree(&a, &b, k);
+        ways_agree(&a, &b, k);
     }
 }
 
@@ -67,8 +68,8 @@ fn m7_m8_and_m10() {
     let (a, b) = (vec![site(0, 0, 1), site(5, 5, 2)], vec![site(5, 0, 3)]);
     for way in WAYS {
         assert_eq!(listed(way, &a, &b, 1).0, [(0, 0)]);
-        assert_eq!(listed(way, &[], &b, 1), (vec![], 0, 0));
-        assert_eq!(listed(way, &a, &[], 1), (vec![], 0, 0));
+        assert_eq!(listed(way, &[], &b, 1), (vec![], Counters::default()));
+        assert_eq!(listed(way, &a, &[], 1), (vec![], Counters::default()));
     }
     let c = open(&Columns::of(&[]), &Columns::of(&b), 1, &[], &[1], &results(1)).unwrap();
     let counts = status(&c, &Columns::of(&[]), &Columns::of(&b), &results(1)).unwrap();
@@ -86,8 +87,8 @@ fn heights() {
     assert_eq!(squared_distance(p, q), 8_000_000_000_400_000_000);
     for way in WAYS {
         // at one x and y, a pair where the heights differ
-        assert_eq!(listed(way, &[low], &[high], 1), (vec![(0, 0)], 1, 1));
-        assert_eq!(listed(way, &[high], &[high], 1), (vec![], 1, 1));
+        assert_eq!(listed(way, &[low], &[high], 1), (vec![(0, 0)], way.counters(1, 1, 1)));
+        assert_eq!(listed(way, &[high], &[high], 1), (vec![], way.counters(1, 1, 1)));
         // nearer in the plane, farther by height
         assert_eq!(listed(way, &[low], &[site(1, 0, 0).up(4), site(2, 3, 0)], 1).0, [(0, 1)]);
     }
@@ -117,10 +118,11 @@ fn removing() {
 fn of_the_plane() {
     let (a, b) = f();
     let (a, b) = (plane::flat(&a), plane::flat(&b));
-    for (way, looks, distances) in [(Way::Classic, 9, 6), (Way::ReverseRun, 7, 5)] {
+    let counts = [Counters::swept(9, 6), Counters::swept(7, 5), Counters::halved(15)];
+    for (way, expected) in WAYS.into_iter().zip(counts) {
         let (entries, counters) = plane::k_list(way, &a, &b, 3);
         assert_eq!(entries.iter().map(|e| (e.first, e.second)).collect::<Vec<_>>(), [(2, 2), (1, 1), (0, 1)]);
-        assert_eq!(counters, Counters { looks, distances });
+        assert_eq!(counters, expected);
         let (first_ends, second_ends) = (&[2, 3][..], &[1, 3][..]);
         let mut c = plane::Campaign::opened(&a, &b, 2, first_ends, second_ends);
         let swept = [(0, 0), (1, 0), (0, 1), (1, 1)].map(|(s, t)| c.job(way, s, t).is_some());
@@ -134,15 +136,16 @@ fn of_the_plane() {
 fn own_examples() {
     let sites = |l: &[(i32, i32)]| l.iter().map(|(x, y)| site(*x, *y, 0)).collect::<Vec<_>>();
     // a stop at equality makes 2 and 1
-    assert_eq!(listed(Way::Classic, &sites(&[(0, 0)]), &sites(&[(3, 4), (5, 0)]), 1), (vec![(0, 0)], 2, 2));
+    let b = sites(&[(3, 4), (5, 0)]);
+    assert_eq!(listed(Way::Classic, &sites(&[(0, 0)]), &b, 1), (vec![(0, 0)], Counters::swept(2, 2)));
     // a limit place that is looked at again makes 3 and 1
     let b = sites(&[(3, 2), (4, 1), (6, 1)]);
-    assert_eq!(listed(Way::ReverseRun, &sites(&[(1, 0)]), &b, 1), (vec![(0, 0)], 2, 1));
-    // co-sited cells: both distances are counted, one pair is there
+    assert_eq!(listed(Way::ReverseRun, &sites(&[(1, 0)]), &b, 1), (vec![(0, 0)], Counters::swept(2, 1)));
+    // co-sited cells: both distances and both single range pairs are counted, one pair is there
     let (a, b) = (sites(&[(0, 0)]), sites(&[(0, 0), (3, 4)]));
     for way in WAYS {
-        assert_eq!(listed(way, &a, &b, 1), (vec![(0, 1)], 2, 2));
-        sweeps_agree(&a, &b, 1);
+        assert_eq!(listed(way, &a, &b, 1), (vec![(0, 1)], way.counters(2, 2, 3)));
+        ways_agree(&a, &b, 1);
     }
     assert_eq!(distance_list(&Columns::of(&a), &Columns::of(&b), 5, 9), Ok(vec![(0, 1)]));
     assert_eq!((pair_count(Strip::whole(&a), Strip::whole(&b)), pair_count(Strip::whole(&a), Strip::whole(&a))), (1, 0));

@@ -43,7 +43,7 @@ fn k_lists(r: &mut Random) {
         let (n, m) = ([0, 1, 5, 12, 40][r.below(5)], [0, 1, 5, 12, 40][r.below(5)]);
         let (a, b) = (Level::random(r, round, n), Level::random(r, round, m));
         let k = [1, 2, 1 + r.below(40) as u32, 4_096][r.below(4)];
-        let way = WAYS[r.below(2)];
+        let way = WAYS[r.below(3)];
         same_k_list(r, way, &a, &b, k);
     }
     for kind in 0..KINDS {
@@ -100,7 +100,7 @@ fn same_campaign(r: &mut Random, a: &Level, b: &Level, k: u32, ends: [&[u32]; 2]
         (0..ends[0].len()).flat_map(|s| (0..ends[1].len()).map(move |t| (s, t))).collect();
     while !jobs.is_empty() {
         let (s, t) = jobs.swap_remove(r.below(jobs.len()));
-        let way = WAYS[r.below(2)];
+        let way = WAYS[r.below(3)];
         let before = columns.clone();
         let told = book.job(way, s, t);
         let expected = told.map_or((0, Counters::default()), |counters| (1, counters));

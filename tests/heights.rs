@@ -298,7 +298,7 @@ fn all_jobs(r: &mut Random, a: &[Site], b: &[Site], k: u32, ends: [&[u32]; 2]) -
     same_open(&mut bench, k, ends[0], ends[1]).unwrap();
     for s in 0..ends[0].len() {
         for t in 0..ends[1].len() {
-            same_job(WAYS[r.below(2)], &mut bench, s as u32, t as u32).unwrap();
+            same_job(WAYS[r.below(3)], &mut bench, s as u32, t as u32).unwrap();
             same_status(&bench).unwrap();
         }
     }

@@ -7,6 +7,7 @@ mod case_listing;
 mod comparison;
 mod examples;
 mod forecasts;
+mod halves;
 mod harness;
 mod height_0;
 mod heights;
@@ -31,6 +32,7 @@ fn main() {
     pair_lists::run_distance_list(&mut h);
     forecasts::run(&mut h);
     campaigns::run(&mut h);
+    halves::run(&mut h);
     heights::run(&mut h);
     height_0::run(&mut h);
     site_files::run(&mut h);

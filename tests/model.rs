@@ -1,5 +1,5 @@
-//! Documents 01 and 02 a, d, f and l in plain Rust, by brute force: what each call on lists with heights must answer and leave
-//! behind. What is of the plane, the site file and the case listing, is in `plane`.
+//! Documents 01 and 02 a, d, f, g, k and l in plain Rust, by brute force: what each call on lists with heights must answer and
+//! leave behind. What is of the plane, the site file and the case listing, is in `plane`.
 
 use std::collections::HashMap;
 
@@ -192,6 +192,16 @@ impl<'a> Strip<'a> {
     pub fn whole(sites: &'a [Site]) -> Strip<'a> {
         Strip { sites, from: 0, to: sites.len() }
     }
+
+    pub fn len(&self) -> usize {
+        self.to - self.from
+    }
+
+    /// The lower half, of half the length rounded down, and the upper half.
+    fn halves(self) -> [Strip<'a>; 2] {
+        let middle = self.from + self.len() / 2;
+        [Strip { to: middle, ..self }, Strip { from: middle, ..self }]
+    }
 }
 
 fn entry(a: &[Site], i: usize, b: &[Site], j: usize) -> Entry {
@@ -234,20 +244,42 @@ pub fn best(k: u32, mut entries: Vec<Entry>) -> Vec<Entry> {
     entries
 }
 
-// Sweeps.
+// Ways: two sweeps, and the join by halves.
 
 #[derive(Clone, Copy, Debug, PartialEq, Eq)]
 pub enum Way {
     Classic,
     ReverseRun,
+    Halves,
 }
 
-pub const WAYS: [Way; 2] = [Way::Classic, Way::ReverseRun];
+pub const WAYS: [Way; 3] = [Way::Classic, Way::ReverseRun, Way::Halves];
 
+impl Way {
+    /// This way's counters: the looks and distances of a sweep, or the range pairs.
+    pub fn counters(self, looks: u64, distances: u64, range_pairs: u64) -> Counters {
+        if self == Way::Halves { Counters::halved(range_pairs) } else { Counters::swept(looks, distances) }
+    }
+}
+
+/// What a way counts: a sweep looks and distances, the halves range pairs. What it does not count is 0.
 #[derive(Clone, Copy, Debug, PartialEq, Eq, Default)]
 pub struct Counters {
     pub looks: u64,
     pub distances: u64,
+    pub range_pairs: u64,
+}
+
+impl Counters {
+    /// Of a sweep.
+    pub fn swept(looks: u64, distances: u64) -> Counters {
+        Counters { looks, distances, range_pairs: 0 }
+    }
+
+    /// Of a join by halves.
+    pub fn halved(range_pairs: u64) -> Counters {
+        Counters { looks: 0, distances: 0, range_pairs }
+    }
 }
 
 struct Sweep<'a> {
@@ -318,12 +350,54 @@ impl Sweep<'_> {
     }
 }
 
-/// The entries and counters after a sweep of two strips from a list that may hold entries already.
-pub fn sweep(way: Way, k: u32, a: Strip, b: Strip, entries: Vec<Entry>) -> (Vec<Entry>, Counters) {
+/// A join by halves under way.
+struct Halves {
+    k: usize,
+    entries: Vec<Entry>,
+    range_pairs: u64,
+}
+
+impl Halves {
+    /// A visit of a range of either list, neither of them empty.
+    fn visit(&mut self, p: Strip, q: Strip) {
+        self.range_pairs += 1;
+        if self.entries.len() == self.k && squared_gap(p, q) > self.entries[self.k - 1].distance as i128 {
+            return;
+        }
+        if p.len() == 1 && q.len() == 1 {
+            let e = entry(p.sites, p.from, q.sites, q.from);
+            if e.distance > 0 {
+                self.entries.push(e);
+                self.entries.sort();
+                self.entries.truncate(self.k);
+            }
+            return;
+        }
+        let mut halves =
+            if p.len() >= q.len() { p.halves().map(|half| (half, q)) } else { q.halves().map(|half| (p, half)) };
+        // this sort leaves the lower places first where the gaps are equal
+        halves.sort_by_key(|(p, q)| squared_gap(*p, *q));
+        for (p, q) in halves {
+            self.visit(p, q);
+        }
+    }
+}
+
+fn by_halves(k: u32, a: Strip, b: Strip, entries: Vec<Entry>) -> (Vec<Entry>, Counters) {
+    let mut h = Halves { k: k as usize, entries, range_pairs: 0 };
+    if a.len() > 0 && b.len() > 0 {
+        h.visit(a, b);
+    }
+    (h.entries, Counters::halved(h.range_pairs))
+}
+
+/// The entries and counters after two strips are gone through by a way, from a list that may hold entries already.
+pub fn joined(way: Way, k: u32, a: Strip, b: Strip, entries: Vec<Entry>) -> (Vec<Entry>, Counters) {
     let mut s = Sweep { k: k as usize, a: a.sites, b: b.sites, entries, counters: Counters::default() };
     match way {
         Way::Classic => s.classic(a, b),
         Way::ReverseRun => s.reverse_run(a, b),
+        Way::Halves => return by_halves(k, a, b, s.entries),
     }
     (s.entries, s.counters)
 }
@@ -370,13 +444,13 @@ fn room_refusal(k: u32, r: &Results) -> Result<(), u32> {
     if r.shortest() < k as usize { Err(6) } else { Ok(()) }
 }
 
-/// The entries of a K list, by brute force, and the counters of the sweep.
+/// The entries of a K list, by brute force, and the counters of the way.
 pub fn k_list(way: Way, a: &Columns, b: &Columns, k: u32, r: &Results) -> Result<(Vec<Entry>, Counters), u32> {
     let (a, b) = lists(a, b)?;
     k_refusal(k)?;
     room_refusal(k, r)?;
     let (a, b) = (Strip::whole(&a), Strip::whole(&b));
-    let (_, counters) = sweep(way, k, a, b, Vec::new());
+    let (_, counters) = joined(way, k, a, b, Vec::new());
     Ok((best(k, pairs(a, b)), counters))
 }
 
@@ -499,6 +573,10 @@ pub fn squared_gaps(a: Strip, b: Strip) -> [i128; 3] {
     })
 }
 
+fn squared_gap(a: Strip, b: Strip) -> i128 {
+    squared_gaps(a, b).iter().sum()
+}
+
 impl Campaign {
     fn first_cut(&self) -> &[u32] {
         &self.first_ends[..self.first_strips as usize]
@@ -605,10 +683,9 @@ pub fn job(
     let p = Strip { sites: &a, from: p.0, to: p.1 };
     let q = Strip { sites: &b, from: q.0, to: q.1 };
     let old = r.entries(c.entries as usize);
-    let gap: i128 = squared_gaps(p, q).iter().sum();
     let full = old.len() == c.k as usize;
-    let skipped = full && gap > old[old.len() - 1].distance as i128;
-    let counters = if skipped { Counters::default() } else { sweep(way, c.k, p, q, old.clone()).1 };
+    let skipped = full && squared_gap(p, q) > old[old.len() - 1].distance as i128;
+    let counters = if skipped { Counters::default() } else { joined(way, c.k, p, q, old.clone()).1 };
     let mut all = old;
     all.extend(pairs(p, q));
     let entries = best(c.k, all);

@@ -1,4 +1,4 @@
-//! The K list by both sweeps and the distance list, beside the brute force and an independent sweep.
+//! The K list by every way and the distance list, beside the brute force and independent sweeps and halves.
 
 use crate::calls;
 use crate::harness::{Harness, progress};
@@ -71,8 +71,9 @@ fn fixed_examples() {
     for way in WAYS {
         let mut columns = results(r, [3, 3, 3]);
         let counters = match way {
-            Way::Classic => Counters { looks: 9, distances: 6 },
-            Way::ReverseRun => Counters { looks: 7, distances: 5 },
+            Way::Classic => Counters::swept(9, 6),
+            Way::ReverseRun => Counters::swept(7, 5),
+            Way::Halves => Counters::halved(15),
         };
         assert_eq!(calls::k_list(way, &a, &b, 3, &mut columns), Ok((3, counters)));
         let expected = Results { distance: vec![5, 9, 16], first: vec![2, 1, 0], second: vec![2, 1, 1] };
@@ -132,7 +133,7 @@ fn random_k_lists(r: &mut Random) {
             lengths[column] = (k.min(4_097) as usize).saturating_sub(1 + r.below(2));
         }
         let columns = results(r, lengths);
-        let way = WAYS[r.below(2)];
+        let way = WAYS[r.below(3)];
         seen[same_k_list(way, &a, &b, k, &columns).err().unwrap_or(0) as usize] += 1;
     }
     for number in [0, 1, 2, 3, 4, 6] {
@@ -218,7 +219,7 @@ fn k_list_refusals(r: &mut Random) {
     }
 }
 
-/// Lists of 65,535 sites: a long one beside a short one by brute force, two long ones by the independent sweep.
+/// Lists of 65,535 sites: a long one beside a short one by brute force, two long ones by the independent sweeps and halves.
 fn long_lists(r: &mut Random) {
     let (long, other) = (even(r, 65_535), even(r, 65_535));
     let short = lawful(r, 2, 12);
@@ -229,13 +230,14 @@ fn long_lists(r: &mut Random) {
             let columns = results(r, [k, k, k]);
             assert!(same_k_list(way, &a, &b, k as u32, &columns).is_ok());
             assert!(same_k_list(way, &b, &a, k as u32, &columns).is_ok());
-            let swept = model::sweep(way, k as u32, Strip::whole(&long), Strip::whole(&other), Vec::new());
-            assert!(held_to(&Ok(swept), way, &a, &c, k as u32, &columns).is_ok());
+            let expected = model::joined(way, k as u32, Strip::whole(&long), Strip::whole(&other), Vec::new());
+            assert!(held_to(&Ok(expected), way, &a, &c, k as u32, &columns).is_ok());
             assert_eq!(same_k_list(way, &over, &b, k as u32, &columns), Err(1));
             assert_eq!(same_k_list(way, &b, &over, k as u32, &columns), Err(1));
         }
     }
-    // every site at one place: no look ever stops, and there is no pair but those with a site beside it
+    // every site at one place: no look ever stops, no range pair is dropped, and there is no pair but those with a site beside
+    // it
     let many = Columns::of(&stacked(5, 5, 65_535));
     let mut few = stacked(5, 5, 20);
     for (beside, entries) in [(0, 0), (1, 4_096)] {
@@ -327,13 +329,13 @@ fn every_limit(r: &mut Random) {
     }
 }
 
-/// A site beside co-sited ones: both lists leave those out, and both sweeps count their distance.
+/// A site beside co-sited ones: both lists leave those out, both sweeps count their distance, and the halves visit them.
 fn co_sited_cells(r: &mut Random) {
     let (a, b) = (Columns::of(&[site(0, 0, 1)]), Columns::of(&[site(0, 0, 1), site(3, 4, 2)]));
     for way in WAYS {
         for k in [1, 2, 4_096] {
             let mut columns = results(r, [k, k, k]);
-            let told = Ok((1, Counters { looks: 2, distances: 2 }));
+            let told = Ok((1, way.counters(2, 2, 3)));
             assert_eq!(calls::k_list(way, &a, &b, k as u32, &mut columns), told);
             assert_eq!((columns.distance[0], columns.first[0], columns.second[0]), (25, 0, 1));
             assert_eq!(same_k_list(way, &b, &a, k as u32, &columns), Ok(1));

@@ -70,7 +70,7 @@ fn checked(c: &Columns) -> Result<Vec<Site>, u32> {
     }
 }
 
-// Pairs and sweeps.
+// Pairs, sweeps and halves.
 
 /// A range of places of each of two lists.
 #[derive(Clone)]
@@ -110,31 +110,52 @@ impl<'a> Ranges<'a> {
         let between = |low: usize| (q[low] - p[low + 1]).max(p[low] - q[low + 1]).max(0) as u64;
         between(0) * between(0) + between(2) * between(2)
     }
+
+    /// With either half of the longer range, the first list's at equal length: the lower half, the upper half.
+    fn halved(&self) -> (Ranges<'a>, Ranges<'a>) {
+        let (mut lower, mut upper) = (self.clone(), self.clone());
+        if self.q.len() > self.p.len() {
+            lower.q.end = (self.q.start + self.q.end) / 2;
+            upper.q.start = lower.q.end;
+        } else {
+            lower.p.end = (self.p.start + self.p.end) / 2;
+            upper.p.start = lower.p.end;
+        }
+        (lower, upper)
+    }
 }
 
-/// A sweep under way.
-struct Sweep<'a> {
+/// A sweep or a join by halves under way.
+struct Join<'a> {
     of: Ranges<'a>,
     k: usize,
     entries: Vec<Entry>,
     counters: Counters,
 }
 
-impl Sweep<'_> {
-    /// One look at places i and j; false where it stops the scan.
-    fn look(&mut self, i: usize, j: usize) -> bool {
-        self.counters.looks += 1;
-        let dx = self.of.a[i].x.abs_diff(self.of.b[j].x) as u64;
-        if self.entries.len() == self.k && dx * dx > self.entries[self.k - 1].distance {
-            return false;
-        }
-        self.counters.distances += 1;
-        let e = self.of.entry(i, j);
+impl Join<'_> {
+    /// Whether K entries are held and this is greater than the last squared distance.
+    fn beyond(&self, squared: u64) -> bool {
+        self.entries.len() == self.k && squared > self.entries[self.k - 1].distance
+    }
+
+    fn offer(&mut self, e: Entry) {
         if e.distance > 0 {
             self.entries.push(e);
             self.entries.sort();
             self.entries.truncate(self.k);
         }
+    }
+
+    /// One look at places i and j; false where it stops the scan.
+    fn look(&mut self, i: usize, j: usize) -> bool {
+        self.counters.looks += 1;
+        let dx = self.of.a[i].x.abs_diff(self.of.b[j].x) as u64;
+        if self.beyond(dx * dx) {
+            return false;
+        }
+        self.counters.distances += 1;
+        self.offer(self.of.entry(i, j));
         true
     }
 
@@ -174,21 +195,41 @@ impl Sweep<'_> {
             }
         }
     }
+
+    /// A visit of two ranges, neither of them empty.
+    fn visit(&mut self, at: &Ranges) {
+        self.counters.range_pairs += 1;
+        if self.beyond(at.squared_gap()) {
+            return;
+        }
+        if at.p.len() + at.q.len() == 2 {
+            return self.offer(at.entry(at.p.start, at.q.start));
+        }
+        let (lower, upper) = at.halved();
+        if lower.squared_gap() <= upper.squared_gap() {
+            self.visit(&lower);
+            self.visit(&upper);
+        } else {
+            self.visit(&upper);
+            self.visit(&lower);
+        }
+    }
 }
 
 fn counters(way: Way, k: u32, of: &Ranges, entries: &[Entry]) -> Counters {
-    let mut s =
-        Sweep { of: of.clone(), k: k as usize, entries: entries.to_vec(), counters: Counters::default() };
+    let mut join = Join { of: of.clone(), k: k as usize, entries: entries.to_vec(), counters: Counters::default() };
     match way {
-        Way::Classic => s.classic(),
-        Way::ReverseRun => s.reverse_run(),
+        Way::Classic => join.classic(),
+        Way::ReverseRun => join.reverse_run(),
+        Way::Halves if of.p.is_empty() || of.q.is_empty() => {}
+        Way::Halves => join.visit(of),
     }
-    s.counters
+    join.counters
 }
 
 // Lists of pairs.
 
-/// The entries of the K list of two lawful lists, and the counters of the sweep.
+/// The entries of the K list of two lawful lists, and the counters of the way.
 pub fn k_list(way: Way, a: &[Site], b: &[Site], k: u32) -> (Vec<Entry>, Counters) {
     let whole = Ranges::whole(a, b);
     (best(k, whole.pairs()), counters(way, k, &whole, &[]))

@@ -34,6 +34,14 @@ unsafe extern "C" {
         entries: *mut u32, looks: *mut u64, distances: *mut u64,
     ) -> u32;
 
+    pub fn vumlintel_k_list_halves(
+        ax: X, axs: usize, ay: X, ays: usize, an: N, ans: usize, ah: X, ahs: usize,
+        bx: X, bxs: usize, by: X, bys: usize, bn: N, bns: usize, bh: X, bhs: usize,
+        k: u32,
+        distance: *mut u64, distances_len: usize, first: *mut u32, firsts: usize, second: *mut u32, seconds: usize,
+        entries: *mut u32, range_pairs: *mut u64,
+    ) -> u32;
+
     pub fn vumlintel_distance_list(
         ax: X, axs: usize, ay: X, ays: usize, an: N, ans: usize, ah: X, ahs: usize,
         bx: X, bxs: usize, by: X, bys: usize, bn: N, bns: usize, bh: X, bhs: usize,
@@ -78,6 +86,16 @@ unsafe extern "C" {
         distance: *mut u64, distances_len: usize, first: *mut u32, firsts: usize, second: *mut u32, seconds: usize,
         first_strip: u32, second_strip: u32,
         swept: *mut u32, looks: *mut u64, distances: *mut u64,
+    ) -> u32;
+
+    pub fn vumlintel_job_halves(
+        campaign_k: *mut u32, campaign_entries: *mut u32, first_strips: *mut u32, second_strips: *mut u32,
+        first_ends: *mut [u32; 32], second_ends: *mut [u32; 32], marks: *mut [u8; 1024],
+        ax: X, axs: usize, ay: X, ays: usize, an: N, ans: usize, ah: X, ahs: usize,
+        bx: X, bxs: usize, by: X, bys: usize, bn: N, bns: usize, bh: X, bhs: usize,
+        distance: *mut u64, distances_len: usize, first: *mut u32, firsts: usize, second: *mut u32, seconds: usize,
+        first_strip: u32, second_strip: u32,
+        swept: *mut u32, range_pairs: *mut u64,
     ) -> u32;
 
     pub fn vumlintel_status(

@@ -80,6 +80,18 @@ static void k_lists(void)
     EXPECT(vumlintel_k_list_classic(A, B, 0, distance, 4, first, 4, second, 4, &entries, &looks, &distances) == VUMLINTEL_K);
 }
 
+static void halves(void)
+{
+    uint64_t distance[4] = {7, 7, 7, 7}, range_pairs = 99;
+    uint32_t first[4] = {7, 7, 7, 7}, second[4] = {7, 7, 7, 7}, entries = 99;
+    EXPECT(vumlintel_k_list_halves(A, B, 3, distance, 2, first, 4, second, 4, &entries, &range_pairs) == VUMLINTEL_ROOM);
+    EXPECT(entries == 99 && range_pairs == 99 && distance[0] == 7 && first[0] == 7 && second[0] == 7);
+    EXPECT(vumlintel_k_list_halves(A, B, 3, distance, 4, first, 4, second, 4, &entries, &range_pairs) == VUMLINTEL_OK);
+    EXPECT(entries == 3 && range_pairs == 15);
+    EXPECT(distance[0] == 5 && distance[1] == 9 && distance[2] == 16 && distance[3] == 7);
+    EXPECT(first[0] == 2 && first[1] == 1 && first[2] == 0 && second[0] == 2 && second[1] == 1 && second[2] == 1);
+}
+
 static void distance_lists(void)
 {
     uint32_t first[5], second[5];
@@ -123,7 +135,7 @@ static void heights(void)
 static void campaigns(void)
 {
     const uint32_t first_cuts[] = {2, 3}, second_cuts[] = {1, 3};
-    uint64_t distance[2] = {0, 0}, looks = 0, distances = 0;
+    uint64_t distance[2] = {0, 0}, looks = 0, distances = 0, range_pairs = 99;
     uint32_t first[2] = {0, 0}, second[2] = {0, 0}, swept = 99, settled, jobs, entries, k;
     vumlintel_campaign c;
     memset(&c, 0xff, sizeof c);
@@ -140,6 +152,14 @@ static void campaigns(void)
     EXPECT(vumlintel_status(VUMLINTEL_PARTS(&c), A, B, distance, 2, first, 2, second, 2, &settled, &jobs, &entries, &k) ==
            VUMLINTEL_OK);
     EXPECT(settled == 2 && jobs == 4 && entries == 2 && k == 2 && c.marks[0] == 1 && c.marks[32] == 1 && c.marks[1] == 0);
+    EXPECT(vumlintel_job_halves(VUMLINTEL_PARTS(&c), A, B, distance, 2, first, 2, second, 2, 1, 0, &swept, &range_pairs) ==
+               VUMLINTEL_SETTLED &&
+           swept == 0 && range_pairs == 99);
+    EXPECT(vumlintel_job_halves(VUMLINTEL_PARTS(&c), A, B, distance, 2, first, 2, second, 2, 0, 1, &swept, &range_pairs) ==
+               VUMLINTEL_OK &&
+           swept == 1 && range_pairs == 7);
+    EXPECT(c.marks[1] == 1 && c.entries == 2 && distance[0] == 9 && distance[1] == 16);
+    EXPECT(first[0] == 1 && second[0] == 1 && first[1] == 0 && second[1] == 1);
 }
 
 static void site_files(void)
@@ -161,6 +181,7 @@ int main(void)
     add();
     remove_site();
     k_lists();
+    halves();
     distance_lists();
     forecasts();
     heights();
