@@ -171,7 +171,7 @@ fn offer(
 
 // A pair of ranges that is not dropped: a pair of single sites is offered; any other splits the longer range, the first list's
 // at equal length, and both halves are visited. A visit counts, and the pair is dropped where its gap squared is past the reach;
-// it is made here, for most are dropped, and a call costs more than that. The tally is lent: returned, it would be copied
+// it is made here, for half of all are dropped, and a call costs more than that. The tally is lent: returned, it would be copied
 // through memory each time.
 fn expand(
     ax: &[i32],
