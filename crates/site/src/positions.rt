@@ -28,7 +28,7 @@ pub fn gap(a: i32, b: i32) -> u64
     if d < 0 { (0 - d) as u64 } else { d as u64 }
 }
 
-// How far a coordinate is above another, 0 where it is not.
+// How far `b` is above `a`, 0 where it is not.
 pub fn rise(a: i32, b: i32) -> u64
     ensures { λ r. ⌜ r ≡ cond (ltZ a b) (gap a b) 0 ⌝ }
 {
