@@ -348,6 +348,17 @@ map-take f zero l = refl
 map-take f (suc n) [] = refl
 map-take {A} {B} f (suc n) (a ∷ l) = ap (λ (r : List B). f a ∷ r) (map-take f n l)
 
+pub map-at : {A B : Type 0} (f : A → B) (l : List A) (i : ℕ) (d : A) (e : B) → i < length l → getD (map f l) i e ≡ f (getD l i d)
+map-at f [] i d e h = absurd (omega arith)
+map-at f (a ∷ l) zero d e h = refl
+map-at f (a ∷ l) (suc i) d e h = map-at f l i d e (omega arith)
+
+-- Two functions that agree on each element.
+pub map-same : {A B : Type 0} (f g : A → B) (l : List A) → All (λ a. f a ≡ g a) l → map f l ≡ map g l
+unfolding All
+map-same f g [] h = refl
+map-same f g (a ∷ l) h = rw (h .0, map-same f g l (h .1))
+
 pub map-drop : {A B : Type 0} (f : A → B) (n : ℕ) (l : List A) → map f (drop n l) ≡ drop n (map f l)
 map-drop f zero l = refl
 map-drop f (suc n) [] = refl

@@ -97,11 +97,11 @@ module _ (a b : Columns) (k : ℕ) (r : Results) where
 
   -- What no refusal tells.
   module _ (ok : kListRefusal a b k r ≡ 0) where
-    lists-accepted : (listRefusal a ≡ 0) × (listRefusal b ≡ 0)
+    pub lists-accepted : (listRefusal a ≡ 0) × (listRefusal b ≡ 0)
     unfolding kListRefusal
     lists-accepted = both-accepted a b (orElse-first _ _ ok)
 
-    rest-accepted : orElse (refuseIf (not (lawfulK k)) 4) (refuseIf (not (roomFor k r)) 6) ≡ 0
+    pub rest-accepted : orElse (refuseIf (not (lawfulK k)) 4) (refuseIf (not (roomFor k r)) 6) ≡ 0
     unfolding kListRefusal
     rest-accepted = orElse-second (listsRefusal a b) _ ok
 

@@ -4,15 +4,13 @@ use mathlib.Core.Bool.{true, false, _&&_}
 use mathlib.Core.Logic.{_⊎_, inl, inr, ⊎-elim}
 use mathlib.Core.List.{List}
 use Prim.Native.Nat.{ℕ, _+_, _*_, _-_, _%_, _^_, _≤_, _<_}
-use native.Mathlib.Nat.{mul-lt-mul-of-pos-right, mul-le-mul, mul-le-mul-left, mul-le-mul-right}
+use native.Mathlib.Nat.{mul-lt-mul-of-pos-right, mul-le-mul-left, mul-le-mul-right}
 use native.Mathlib.Omega.{arith}
 use borrow.Author.Tests.{lt-leb, ltb-true, ltb-false}
 use lib.Dec.{ltb}
 use lib.IntN.{ℤ, pos, negsuc}
 use lib.ListN.{length, getD}
 use lib.Signed.{leZ}
-use mir.Syntax.{w32, w64}
-use mir.Val.{Fits}
 use Rattle.site.specs.Site.{Site, between, within, gap, square, squaredDistance}
 use Rattle.site.specs.SiteList.{raisedSite}
 use Rattle.site.specs.Terms.{positionAt, Coordinates}
@@ -147,9 +145,3 @@ run-ends {run = run} r =
     let l = r .behind .left in
     omega (arith, r .behind .below (run .right) h, r .above (run .right) (omega arith) (omega arith)))
     (λ t. ltb-false (run .right) (run .left) t)
-
--- The square of a `u32` fits 64 bits.
-pub square-fits : {e : ℕ} → Fits w32 e → Fits w64 (e * e)
-square-fits {e} h =
-    let k : e ≤ 4_294_967_295 = omega (arith, h .fits) in
-    record { fits = omega (arith, mul-le-mul k k) }

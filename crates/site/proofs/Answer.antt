@@ -37,6 +37,12 @@ module _ {A : Type 0} where
   refused-number zero r values h = let z : _≡_ {A = ℕ} 0 1 = cc in absurd (omega arith)
   refused-number (suc n) r values h = (cc, λ e. omega arith)
 
+  -- An answer depends on its values only where nothing refuses.
+  pub answer-same : (n : ℕ) {v w : A} → (n ≡ 0 → v ≡ w) → answerUnless n v ≡ answerUnless n w
+  unfolding answerUnless
+  answer-same zero h = rw (h refl)
+  answer-same (suc n) h = refl
+
   pub answer-number : (n : ℕ) (values : A) → numberOf (answerUnless n values) ≡ n
   unfolding answerUnless numberOf
   answer-number zero values = refl
@@ -65,6 +71,17 @@ pub or-some : (m n : ℕ) → (m ≡ 0 → ⊥) → orElse m n ≡ m
 unfolding orElse
 or-some zero n h = absurd (h refl)
 or-some (suc m) n h = refl
+
+-- No second one, and the first of three.
+pub or-nothing : (n : ℕ) → orElse n 0 ≡ n
+unfolding orElse
+or-nothing zero = refl
+or-nothing (suc n) = refl
+
+pub or-groups : (m n k : ℕ) → orElse (orElse m n) k ≡ orElse m (orElse n k)
+unfolding orElse
+or-groups zero n k = refl
+or-groups (suc m) n k = refl
 
 -- The first one, as it was found, refuses.
 pub first-refused : {m r : ℕ} (n : ℕ) → r ≡ m → (r ≡ 0 → ⊥) → r ≡ orElse m n

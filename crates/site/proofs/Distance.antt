@@ -2,13 +2,15 @@
 use mathlib.Core.Path.{_≡_, refl, ap, ap₂, _∙_}
 use mathlib.Core.Bool.{true}
 use mathlib.Core.List.{List, [], _∷_, zipWith}
-use Prim.Native.Nat.{ℕ, zero, suc, _+_, _≤_}
+use Prim.Native.Nat.{ℕ, zero, suc, _+_, _*_, _≤_}
 use native.Mathlib.Nat.{mul-le-mul, suc-mul}
 use native.Mathlib.Omega.{arith}
 use borrow.Author.Tests.{leb-true}
 use lib.Dec.{leb}
 use lib.IntN.{ℤ, pos, negsuc}
 use lib.Signed.{ltZ, leZ}
+use mir.Syntax.{w32, w64}
+use mir.Val.{Fits}
 use Rattle.order.specs.Lists.{sum}
 use Rattle.site.specs.Site.{Site, coordinates, between, within, heightWithin, gap, square, squaredDistance}
 use Rattle.site.specs.SiteList.{site, raisedSite}
@@ -63,6 +65,12 @@ square-none (suc n) h = absurd (omega (arith, suc-mul n (suc n)))
 pub square-le : {m n : ℕ} → m ≤ n → square m ≤ square n
 unfolding square
 square-le h = mul-le-mul h h
+
+-- The square of a `u32` fits 64 bits.
+pub square-fits : {e : ℕ} → Fits w32 e → Fits w64 (e * e)
+square-fits {e} h =
+    let k : e ≤ 4_294_967_295 = omega (arith, h .fits) in
+    record { fits = omega (arith, mul-le-mul k k) }
 
 pub squared-gap-grows : (a b c : ℤ) → leZ a b ≡ true → leZ b c ≡ true → square (gap a b) ≤ square (gap a c)
 squared-gap-grows a b c h k = square-le (gap-grows a b c h k)

@@ -1,13 +1,13 @@
 -- Consulting a file through held starts, one test after another.
-use mathlib.Core.Path.{_≡_, refl, sym, ap, _∙_}
+use mathlib.Core.Path.{_≡_, refl, sym, _∙_}
 use mathlib.Core.List.{List}
-use Prim.Native.Nat.{ℕ, zero, suc, _+_, _*_, _≤_, _<_}
+use Prim.Native.Nat.{ℕ, _+_, _*_, _≤_, _<_}
 use native.Mathlib.Omega.{arith}
 use borrow.Author.Tests.{le-leb, lt-leb, leb-false, eq-eqb, ne-eqb}
 use lib.ListN.{length}
 use Rattle.site.specs.Site.{Site}
 use Rattle.site.specs.Answer.{refused, answered, answerUnless, orElse}
-use Rattle.site.proofs.Answer.{answer-refused, first-refused, orElse-second, no-fault}
+use Rattle.site.proofs.Answer.{answer-same, answer-refused, first-refused, orElse-second, no-fault}
 use Rattle.site_file.specs.declared.Which.{Which}
 use Rattle.site_file.specs.declared.Which.the-variants.{First, Second}
 use denote.Ref.{RefT, now}
@@ -82,12 +82,6 @@ unfolding heldStart
 own-start file First = refl
 own-start file Second = refl
 
--- An answer depends on its values only where nothing refuses.
-same-answer : {A : Type 0} (n : ℕ) {v w : A} → (n ≡ 0 → v ≡ w) → answerUnless n v ≡ answerUnless n w
-unfolding answerUnless
-same-answer zero h = ap answered (h refl)
-same-answer (suc n) h = refl
-
 place-inside : (file : List ℕ) (w : Which) (place : ℕ) → siteRefusal file w place ≡ 0 → place < countIn file w
 unfolding siteRefusal
 place-inside file w place none = leb-false _ _ (no-fault _ 7 (orElse-second (contentsRefusal file) _ none))
@@ -101,7 +95,7 @@ held-own file w place =
       eq-eqb (startIn file Second) (startIn file Second) refl,
       own-start file w,
     )
-    (same-answer (siteRefusal file w place) (λ none. sym (site-position file w place (place-inside file w place none))))
+    (answer-same (siteRefusal file w place) (λ none. sym (site-position file w place (place-inside file w place none))))
 
 -- A reader that holds a file and its own starts.
 pub held-by : (r : Reader) (s : RefT (List ℕ)) (w : Which) (place : ℕ) → r .file ≡ s → r .first ≡ startIn (now s) First

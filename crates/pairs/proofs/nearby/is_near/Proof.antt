@@ -6,10 +6,11 @@ use mir.Facts.{toZ-ofZ}
 use Rattle.site.specs.Site.{squaredDistance}
 use Rattle.site.specs.SiteList.{raisedSite}
 use Rattle.site.proofs.Signed.{at₁}
+use Rattle.site.proofs.Distance.{square-fits}
 use Rattle.site.proofs.Accepted.{coordinate-x, coordinate-y, height-at}
 use Rattle.sweep.specs.Terms.{spot}
 use Rattle.pairs.specs.Internal.{offset, near}
-use Rattle.pairs.proofs.Offset.{far-y, square-fits}
+use Rattle.pairs.proofs.Offset.{far-y}
 use Rattle.pairs.proofs.nearby.is_near.Statement.{statement}
 use Rattle.pairs.proofs.nearby.is_near.Tie as tie
 

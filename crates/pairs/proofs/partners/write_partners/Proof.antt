@@ -1,17 +1,27 @@
 -- `pairs::write_partners` meets its contract. The invariant: the numbers of the places passed are written and summed.
 use mathlib.Core.Path.{sym}
-use Prim.Native.Nat.{_-_, _≤_, _<_}
+use mathlib.Core.List.{List, map}
+use Prim.Native.Nat.{ℕ, _-_, _≤_, _<_}
 use native.Mathlib.Omega.{arith}
+use lib.IntN.{ℤ, pos}
 use lib.ListN.{length}
+use Rattle.column.proofs.Filled.{Filled, filled-none, filled-more, filled-all}
+use Rattle.site.specs.Site.{gap}
+use Rattle.pairs.specs.Forecast.{countWithin}
+use Rattle.pairs.specs.Internal.{partnersAcross}
 use Rattle.pairs.proofs.Offset.{run-ends}
 use Rattle.pairs.proofs.NearPairs.{Ready, ready-starts, ready-more}
-use Rattle.pairs.proofs.PartnersAcross.{run-partners, Filled, filled-none, filled-more, filled-all}
+use Rattle.pairs.proofs.PartnersAcross.{run-partners}
 use Rattle.pairs.proofs.partners.write_partners.Statement.{statement}
 use Rattle.pairs.proofs.partners.write_partners.Tie as tie
 
+-- How many partners a position has.
+abbrev partners-of : ℕ → List ℤ → ℤ → ℕ
+partners-of e bx x = countWithin e (map (gap x) bx)
+
 abbrev Inv-loop : tie.InvT-loop
 Inv-loop ax bx e partners₀ total₀ run₀ i₀ partners total run i =
-    (Ready ax bx e i run) × (Filled ax bx e partners₀ i partners total)
+    (Ready ax bx e i run) × (Filled (partners-of e bx) 65_535 ax partners₀ i partners total)
 
 abbrev μ-loop : tie.MeasureT-loop
 μ-loop ax bx e partners₀ total₀ run₀ i₀ partners total run i = length ax - i
@@ -69,14 +79,15 @@ loop-again c =
     let h = turned c .loop-test .taken in
     let r = c .before .next-run .ensures in (
       ready-more (s .pre .0 .rising) h r,
-      filled-more h (s .pre .2) (sym (run-partners (s .pre .0) (s .pre .1) h r)) (few c) (turned c .before .loop .inv .1),
+      filled-more (pos 0) h (s .pre .2) (sym (run-partners (s .pre .0) (s .pre .1) h r)) (few c) (turned c .before .loop .inv .1),
     )
 
 same-length : tie.Need-same-length Inv-loop μ-loop
 same-length c = c .before .loop .inv .1 .long
 
 returns : tie.Need-returns Inv-loop μ-loop
-returns c = filled-all (c .loop-test .left) (c .before .loop .inv .1)
+unfolding partnersAcross
+returns c = let w = filled-all (c .loop-test .left) (c .before .loop .inv .1) in record { column = w .0; total = w .1 }
 
 pub write-partners-spec : {M : Type 1} → statement M
 write-partners-spec =
