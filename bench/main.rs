@@ -12,6 +12,7 @@ mod raw;
 use keepers::{Buffered, Entry, Heap, KList, Sorted};
 use ordinary::{Counters, Lent, List};
 use random::Random;
+use raw::Band;
 use std::cell::RefCell;
 use std::hint::black_box;
 use std::time::Instant;
@@ -427,6 +428,62 @@ fn forecast(name: &str, a: &Columns, b: &Columns, e: u32) {
     );
 }
 
+/// Lawful bands of equal width but for the last, each with a price of its own.
+fn table(bands: u32) -> Vec<Band> {
+    let last = 2_828_427_125;
+    let to = |i: u32| if i == bands { last } else { last / bands * i };
+    (0..bands).map(|i| Band { from: to(i), to: to(i + 1), price: 1_000_000 / (i + 1) }).collect()
+}
+
+/// Entries priced by bands, a hundred times over, beside the same in ordinary Rust.
+fn pricing(name: &str, bands: &[Band], distance: &[u64]) {
+    let (n, times) = (distance.len(), 100);
+    let (mut ours, mut theirs) = (vec![0; n], vec![0; n]);
+    let (mut total, mut expected) = (0, Ok(0));
+    let [proved, plain] = least([
+        &mut || {
+            for _ in 0..times {
+                let number = unsafe {
+                    raw::vumlintel_price(
+                        bands.as_ptr(), bands.len(),
+                        distance.as_ptr(), n, n as u32,
+                        ours.as_mut_ptr(), n,
+                        &mut total,
+                    )
+                };
+                assert_eq!(number, 0);
+            }
+        },
+        &mut || {
+            for _ in 0..times {
+                expected = ordinary::price(black_box(bands), black_box(distance), n, black_box(&mut theirs));
+            }
+        },
+    ]);
+    assert!(Ok(total) == expected && ours == theirs, "the answers differ");
+    let each = |ms: f64| ms * 1_000.0 / times as f64;
+    println!(
+        "price {n} entries, {name}: {:.2} us, Rust {:.2} us, ratio {:.2}",
+        each(proved),
+        each(plain),
+        proved / plain
+    );
+}
+
+/// As many entries as there can be, about as many in each of 64 bands, ascending as in a K list and in random order.
+fn prices() {
+    let r = &mut Random::new(5);
+    let mut distance: Vec<u64> = (0..4_096).map(|_| r.from_to(0, 2_828_427_124) as u64).map(|d| d * d).collect();
+    let (many, one) = (table(64), table(1));
+    distance.sort();
+    pricing("ascending, 64 bands", &many, &distance);
+    pricing("ascending, one band", &one, &distance);
+    for i in (1..distance.len()).rev() {
+        distance.swap(i, r.below(i + 1));
+    }
+    pricing("shuffled, 64 bands", &many, &distance);
+}
+
 /// A campaign as the calls take it.
 struct Campaign {
     numbers: [u32; 4],
@@ -682,6 +739,7 @@ fn main() {
     k_lists(&kinds);
     distance_lists(&kinds);
     forecasts(&kinds);
+    prices();
     campaigns(&kinds, &[1_000, 4_096]);
     let long_in_y = [("band long in y", band(r, SITES), band(r, SITES)), ("road along y", road(r), road(r))];
     campaigns(&long_in_y, &[1_000]);

@@ -1,6 +1,7 @@
 //! The same work in ordinary optimised Rust: what the proved calls are measured against.
 
 use crate::keepers::{Entry, KList};
+use crate::raw::Band;
 use std::cmp::Ordering;
 
 /// A list as it is lent.
@@ -444,4 +445,48 @@ impl Campaign {
         self.entries = list.entries();
         Some(count)
     }
+}
+
+/// Where the last band ends.
+const LAST_TO: u32 = 2_828_427_125;
+
+/// The refusal of a table of bands, 0 for none.
+fn check_bands(bands: &[Band]) -> u32 {
+    if bands.is_empty() || bands.len() > 64 || bands.iter().any(|b| b.price > 1_000_000) {
+        return 14;
+    }
+    let mut before = 0;
+    for b in bands {
+        if b.from < before || b.to <= b.from || b.to > LAST_TO {
+            return 13;
+        }
+        if b.from > before {
+            return 12;
+        }
+        before = b.to;
+    }
+    if before < LAST_TO { 12 } else { 0 }
+}
+
+/// The price of each of the first `entries` squared distances by the bands, in a lent column: the total, or the refusal.
+pub fn price(bands: &[Band], distance: &[u64], entries: usize, prices: &mut [u32]) -> Result<u64, u32> {
+    match check_bands(bands) {
+        0 => {}
+        refusal => return Err(refusal),
+    }
+    if entries > 4_096 {
+        return Err(6);
+    }
+    let (distance, prices) = (distance.get(..entries).ok_or(6u32)?, prices.get_mut(..entries).ok_or(6u32)?);
+    let squared = |to: u32| to as u64 * to as u64;
+    if distance.iter().any(|d| *d >= squared(LAST_TO)) {
+        return Err(7);
+    }
+    let ends: Vec<u64> = bands.iter().map(|b| squared(b.to)).collect();
+    let mut total = 0;
+    for (d, price) in distance.iter().zip(prices) {
+        *price = bands[ends.partition_point(|end| end <= d)].price;
+        total += *price as u64;
+    }
+    Ok(total)
 }

@@ -1,5 +1,5 @@
 /*
- * Vumlintel: pairs of sites of two lists, by rank or by distance, whole or in strip jobs.
+ * Vumlintel: pairs of sites of two lists, by rank or by distance, whole or in strip jobs, and their prices.
  *
  * Every call answers a refusal number, 0 for success. A refused call writes nothing at all: no answer, no column, no buffer,
  * no part of a campaign. A success writes its answers through the pointers at the end of its parameters.
@@ -11,18 +11,27 @@
  *   VUMLINTEL_K               4  K is 0 or above 4,096
  *   VUMLINTEL_CUT_ENDS        5  cut ends unlawful: at most 32, strictly ascending, each above 0, the last the list's length
  *   VUMLINTEL_ROOM            6  a result column shorter than K, too few elements for the pairs found, a forecast's column
- *                                shorter than the first list, a buffer shorter than the file, or no room for one more site
+ *                                shorter than the first list, a buffer shorter than the file, or no room for one more site;
+ *                                pricing: a price column or distance column shorter than the entry count, or a count above
+ *                                4,096
  *   VUMLINTEL_CAMPAIGN        7  the campaign or its result columns do not fit each other or the lists; an entry of co-sited
- *                                cells is such a fault
- *   VUMLINTEL_RANGE           8  a strip number not below the strip count, or a place not below the list's count
+ *                                cells is such a fault; pricing: a squared distance not below 2,828,427,125 squared
+ *   VUMLINTEL_RANGE           8  a strip number not below the strip count, a place not below the list's count, or (editing a
+ *                                band) a place not below the number of bands
  *   VUMLINTEL_SETTLED         9  the job is settled already
  *   VUMLINTEL_FILE           10  the file's contents or length are wrong
  *   VUMLINTEL_PRESENT        11  the same x, y and number is in the list already
+ *   VUMLINTEL_BAND_GAP       12  a band that starts above the end of the band before, a first band that starts above 0, or a
+ *                                last band that ends below 2,828,427,125
+ *   VUMLINTEL_BAND_OVERLAP   13  a band that starts below the end of the band before, is empty (its to is not above its from)
+ *                                or ends above 2,828,427,125
+ *   VUMLINTEL_TARIFF         14  no band, more than 64 bands, or a price above 1,000,000
  *   VUMLINTEL_ABSENT         16  no site with this x, y and number is in the list
  *
  * Order: the first list's 1, 2, 3, then the second list's, then the rest by number. Adding tests the new site (2) after the
  * list; removing does not, and a site outside the limits gets 16. A file below 16 bytes gets 10; any other is tested for 1
- * (counts), then 10, then its lists for 2 and 3. The numbers 12 to 15 are not in use.
+ * (counts), then 10, then its lists for 2 and 3. Pricing tests the bands for 14, then band by band, from the first on, for 13
+ * and then 12, so that the first band at fault decides; then for 6, then for 7. The number 15 is not in use.
  *
  * A list is four columns: x, y, number and height, each a pointer and an element count. Its order does not look at the height.
  * A site's place is its index from 0. The squared distance of two sites is the sum of the squares of the differences of x, y
@@ -56,6 +65,9 @@ enum {
     VUMLINTEL_SETTLED = 9,
     VUMLINTEL_FILE = 10,
     VUMLINTEL_PRESENT = 11,
+    VUMLINTEL_BAND_GAP = 12,
+    VUMLINTEL_BAND_OVERLAP = 13,
+    VUMLINTEL_TARIFF = 14,
     VUMLINTEL_ABSENT = 16
 };
 
@@ -226,6 +238,32 @@ uint32_t vumlintel_file_site_first(const uint8_t *file, size_t file_length, uint
 
 uint32_t vumlintel_file_site_second(const uint8_t *file, size_t file_length, uint32_t place, int32_t *x, int32_t *y,
                                     uint32_t *number);
+
+/*
+ * A price band: a pair is in it where from * from is at most its squared distance and to * to is greater. A table of bands is
+ * an array of them. A lawful one has 1 to 64 bands, none empty, with prices up to 1,000,000; the first from is 0, each later
+ * from is the to of the band before, and the last to is 2,828,427,125. So each pair of any two lists is in exactly one band.
+ */
+typedef struct vumlintel_band {
+    uint32_t from;
+    uint32_t to;
+    uint32_t price;
+} vumlintel_band;
+
+/*
+ * Replaces the band at a place of a table of any length by these three numbers, whatever they are: no band is judged before
+ * pricing. Answers the place in `edited`, or 8. Every other band stays.
+ */
+uint32_t vumlintel_edit_band(vumlintel_band *bands, size_t bands_length, uint32_t place, uint32_t from, uint32_t to,
+                             uint32_t price, uint32_t *edited);
+
+/*
+ * Prices a case list: the first `entries` squared distances of a column, such as a K list's, in any order. Answers the total,
+ * and in the price column each entry's price, that of the band it is in; or 14, 12 or 13, 6, 7. Elements past the entries stay,
+ * and distances past them are not tested.
+ */
+uint32_t vumlintel_price(const vumlintel_band *bands, size_t bands_length, const uint64_t *distance, size_t distance_length,
+                         uint32_t entries, uint32_t *prices, size_t prices_length, uint64_t *total);
 
 #ifdef __cplusplus
 }

@@ -3,7 +3,7 @@
 
 use crate::model::{Campaign, Columns, Counters, Results, Site, Status, Way};
 use crate::plane;
-use crate::raw;
+use crate::raw::{self, Band};
 
 const FENCE: usize = 8;
 
@@ -50,6 +50,7 @@ const I: i32 = -0x5eed_5eed;
 const U: u32 = 0xfe9c_e0fe;
 const L: u64 = 0xfe9c_e0fe_9ce0_fe9c;
 const B: u8 = 0xa5;
+const BAND: Band = Band { from: U, to: U, price: U };
 
 /// A lent list.
 struct LentList {
@@ -390,4 +391,38 @@ pub fn file_site(file: &[u8], list: usize, place: u32) -> Result<plane::Site, u3
     let refusal = unsafe { call(l.shared(), l.len(), place, &mut x, &mut y, &mut number) };
     l.unchanged(file);
     told(refusal, plane::site(x, y, number), plane::site(I, I, U))
+}
+
+/// The place; the table is changed in place.
+pub fn edit_band(bands: &mut Vec<Band>, place: u32, band: Band) -> Result<u32, u32> {
+    let mut l = Lent::new(bands, BAND);
+    let mut edited = U;
+    let number = unsafe {
+        raw::vumlintel_edit_band(
+            l.exclusive(), l.len(),
+            place, band.from, band.to, band.price,
+            &mut edited,
+        )
+    };
+    *bands = l.back().to_vec();
+    told(number, edited, U)
+}
+
+/// The total; the price column is written in place.
+pub fn price(bands: &[Band], distance: &[u64], entries: u32, prices: &mut Vec<u32>) -> Result<u64, u32> {
+    let (b, d) = (Lent::new(bands, BAND), Lent::new(distance, L));
+    let mut column = Lent::new(prices, U);
+    let mut total = L;
+    let number = unsafe {
+        raw::vumlintel_price(
+            b.shared(), b.len(),
+            d.shared(), d.len(), entries,
+            column.exclusive(), column.len(),
+            &mut total,
+        )
+    };
+    b.unchanged(bands);
+    d.unchanged(distance);
+    *prices = column.back().to_vec();
+    told(number, total, L)
 }

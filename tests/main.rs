@@ -1,5 +1,6 @@
 //! Tests of the exported calls beside a brute force of documents 01 and 02.
 
+mod bands;
 mod c_program;
 mod calls;
 mod campaigns;
@@ -31,6 +32,7 @@ fn main() {
     pair_lists::run_k_list(&mut h);
     pair_lists::run_distance_list(&mut h);
     forecasts::run(&mut h);
+    bands::run(&mut h);
     campaigns::run(&mut h);
     halves::run(&mut h);
     heights::run(&mut h);

@@ -1,6 +1,7 @@
-//! Documents 01 and 02 a, d, f, g, k and l in plain Rust, by brute force: what each call on lists with heights must answer and
-//! leave behind. What is of the plane, the site file and the case listing, is in `plane`.
+//! Documents 01 and 02 a, b, d, f, g, k and l in plain Rust, by brute force: what each call on lists with heights, and each on
+//! price bands, must answer and leave behind. What is of the plane, the site file and the case listing, is in `plane`.
 
+use crate::raw::Band;
 use std::collections::HashMap;
 
 pub const LIMIT: i64 = 1_000_000_000;
@@ -771,4 +772,104 @@ impl Book {
     pub fn no_open_job(&self) -> bool {
         self.settled.len() == self.first_ends.len() * self.second_ends.len()
     }
+}
+
+// Price bands.
+
+pub const MOST_BANDS: usize = 64;
+pub const MOST_PRICE: u32 = 1_000_000;
+pub const LAST_TO: u32 = 2_828_427_125;
+
+pub fn band(from: u32, to: u32, price: u32) -> Band {
+    Band { from, to, price }
+}
+
+pub fn square(n: u32) -> u64 {
+    n as u64 * n as u64
+}
+
+/// "A pair is in the band where from² is at most its squared distance and to² is greater."
+fn in_band(b: &Band, distance: u64) -> bool {
+    square(b.from) <= distance && square(b.to) > distance
+}
+
+/// "There are 1 to 64 bands, prices go up to 1,000,000, the first from is 0, each later from is the band before's to, and the
+/// last to is 2,828,427,125"; and no band is empty.
+pub fn lawful_table(bands: &[Band]) -> bool {
+    let ends = |b: &[Band]| b.first().is_some_and(|b| b.from == 0) && b.last().is_some_and(|b| b.to == LAST_TO);
+    bands.len() <= MOST_BANDS
+        && ends(bands)
+        && bands.windows(2).all(|w| w[1].from == w[0].to)
+        && bands.iter().all(|b| b.from < b.to && b.price <= MOST_PRICE)
+}
+
+/// The faults of the band at a place, each with its number.
+pub fn band_faults(bands: &[Band], place: usize) -> Vec<(u32, &'static str)> {
+    let b = bands[place];
+    let mut faults = Vec::new();
+    if place == 0 {
+        if b.from > 0 {
+            faults.push((12, "a first from above 0"));
+        }
+    } else {
+        let before = bands[place - 1].to;
+        if b.from > before {
+            faults.push((12, "a gap"));
+        }
+        if b.from < before {
+            faults.push((13, "an overlap"));
+        }
+    }
+    if place + 1 == bands.len() && b.to < LAST_TO {
+        faults.push((12, "a last to that is too low"));
+    }
+    if b.to <= b.from {
+        faults.push((13, "an empty band"));
+    }
+    if b.to > LAST_TO {
+        faults.push((13, "past the end"));
+    }
+    faults
+}
+
+/// 14, then that of the first band with a fault: 13 where it has one of 13, else 12. 0 for none.
+pub fn table_refusal(bands: &[Band]) -> u32 {
+    let lawful_number = (1..=MOST_BANDS).contains(&bands.len());
+    if !lawful_number || bands.iter().any(|b| b.price > MOST_PRICE) {
+        return 14;
+    }
+    let faults = (0..bands.len()).map(|place| band_faults(bands, place)).find(|faults| !faults.is_empty());
+    faults.map_or(0, |faults| faults.iter().map(|f| f.0).max().unwrap())
+}
+
+/// The place, and the table afterwards.
+pub fn edit_band(bands: &[Band], place: u32, band: Band) -> Result<(u32, Vec<Band>), u32> {
+    if place as u64 >= bands.len() as u64 {
+        return Err(8);
+    }
+    let each = bands.iter().enumerate();
+    Ok((place, each.map(|(i, b)| if i as u64 == place as u64 { band } else { *b }).collect()))
+}
+
+/// Each entry's price, and the total; the price column has `room` elements.
+pub fn price(bands: &[Band], distance: &[u64], entries: u32, room: usize) -> Result<(Vec<u32>, u64), u32> {
+    match table_refusal(bands) {
+        0 => {}
+        refusal => return Err(refusal),
+    }
+    let n = entries as usize;
+    if room < n || distance.len() < n || entries > 4_096 {
+        return Err(6);
+    }
+    if distance[..n].iter().any(|d| *d >= square(LAST_TO)) {
+        return Err(7);
+    }
+    let price_of = |d: &u64| {
+        let held: Vec<&Band> = bands.iter().filter(|b| in_band(b, *d)).collect();
+        assert_eq!(held.len(), 1, "{d} is in {held:?}");
+        held[0].price
+    };
+    let prices: Vec<u32> = distance[..n].iter().map(price_of).collect();
+    let total = prices.iter().map(|p| *p as u64).sum();
+    Ok((prices, total))
 }

@@ -3,6 +3,15 @@
 type X = *const i32;
 type N = *const u32;
 
+/// A price band, as a lent table holds it.
+#[repr(C)]
+#[derive(Clone, Copy, Debug, PartialEq, Eq)]
+pub struct Band {
+    pub from: u32,
+    pub to: u32,
+    pub price: u32,
+}
+
 unsafe extern "C" {
     pub fn vumlintel_check(x: X, xs: usize, y: X, ys: usize, n: N, ns: usize, h: X, hs: usize, count: *mut u32) -> u32;
 
@@ -124,6 +133,19 @@ unsafe extern "C" {
     pub fn vumlintel_file_site_second(
         file: *const u8, length: usize, place: u32,
         x: *mut i32, y: *mut i32, number: *mut u32,
+    ) -> u32;
+
+    pub fn vumlintel_edit_band(
+        bands: *mut Band, bands_len: usize,
+        place: u32, from: u32, to: u32, price: u32,
+        edited: *mut u32,
+    ) -> u32;
+
+    pub fn vumlintel_price(
+        bands: *const Band, bands_len: usize,
+        distance: *const u64, distances_len: usize, entries: u32,
+        prices: *mut u32, prices_len: usize,
+        total: *mut u64,
     ) -> u32;
 
     /// Of the static library of crate `comparison`: entries by their numbers; 0 for before, 1 for same, 2 for after.

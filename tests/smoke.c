@@ -1,4 +1,4 @@
-/* The exported calls from C, over document 01's lists F, every height 0, and over two sites at one x and y. */
+/* The exported calls from C, over document 01's lists F, every height 0, over two sites at one x and y, and over bands. */
 #include <stdio.h>
 #include <string.h>
 
@@ -175,6 +175,30 @@ static void site_files(void)
     EXPECT(vumlintel_file_site_second(file, 88, 3, &x, &y, &number) == VUMLINTEL_RANGE);
 }
 
+/* A table of two bands edited into a lawful one, and four distances priced from it, at its ends. */
+static void bands(void)
+{
+    const uint64_t distance[] = {0, 99, 100, UINT64_C(2828427125) * 2828427125 - 1, UINT64_MAX};
+    vumlintel_band table[] = {{0, 10, 5}, {12, 2828427125, 1}};
+    uint32_t prices[] = {77, 77, 77, 77, 77}, edited = 99;
+    uint64_t total = 99;
+    EXPECT(sizeof(vumlintel_band) == 12);
+    EXPECT(vumlintel_price(table, 2, distance, 5, 4, prices, 5, &total) == VUMLINTEL_BAND_GAP);
+    EXPECT(vumlintel_edit_band(table, 2, 2, 10, 2828427125, 7, &edited) == VUMLINTEL_RANGE && edited == 99);
+    EXPECT(vumlintel_edit_band(table, 2, 1, 9, 2828427125, 1000001, &edited) == VUMLINTEL_OK && edited == 1);
+    EXPECT(vumlintel_price(table, 2, distance, 5, 4, prices, 5, &total) == VUMLINTEL_TARIFF);
+    EXPECT(vumlintel_edit_band(table, 2, 1, 9, 2828427125, 7, &edited) == VUMLINTEL_OK && edited == 1);
+    EXPECT(vumlintel_price(table, 2, distance, 5, 4, prices, 5, &total) == VUMLINTEL_BAND_OVERLAP);
+    EXPECT(vumlintel_edit_band(table, 2, 1, 10, 2828427125, 7, &edited) == VUMLINTEL_OK && edited == 1);
+    EXPECT(table[0].from == 0 && table[0].to == 10 && table[0].price == 5);
+    EXPECT(table[1].from == 10 && table[1].to == 2828427125 && table[1].price == 7);
+    EXPECT(vumlintel_price(table, 2, distance, 5, 4, prices, 3, &total) == VUMLINTEL_ROOM);
+    EXPECT(vumlintel_price(table, 2, distance, 5, 5, prices, 5, &total) == VUMLINTEL_CAMPAIGN);
+    EXPECT(total == 99 && prices[0] == 77);
+    EXPECT(vumlintel_price(table, 2, distance, 5, 4, prices, 5, &total) == VUMLINTEL_OK && total == 24);
+    EXPECT(prices[0] == 5 && prices[1] == 5 && prices[2] == 7 && prices[3] == 7 && prices[4] == 77);
+}
+
 int main(void)
 {
     check();
@@ -187,6 +211,7 @@ int main(void)
     heights();
     campaigns();
     site_files();
+    bands();
     printf("%d failures\n", failures);
     return failures != 0;
 }

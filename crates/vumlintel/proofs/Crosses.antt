@@ -11,8 +11,13 @@ use Rattle.site.specs.SiteList.{Columns, site, raisedSite}
 use Rattle.site.specs.Answer.{Answer, refused, answered, numberOf, afterwards}
 use Rattle.site.specs.InUse.{ChangeValues, changeValues, changedAnswer}
 use Rattle.pairs.specs.declared.Within.{Within}
-use Rattle.pairs.specs.declared.Within.the-variants.{Pairs, Refused}
+use Rattle.pairs.specs.declared.Within.the-variants as within
 use Rattle.pairs.specs.Within.{withinAnswer}
+use Rattle.bands.specs.declared.Edited.{Edited}
+use Rattle.bands.specs.declared.Edited.the-variants as edited
+use Rattle.bands.specs.declared.Priced.{Priced}
+use Rattle.bands.specs.declared.Priced.the-variants as priced
+use Rattle.bands.specs.Calls.{editedAnswer, pricedAnswer}
 use Rattle.vumlintel.specs.Crosses.{Crosses}
 
 module _ {A : Type 0} {answer : Answer A} where
@@ -51,14 +56,35 @@ crossed-change {answer = answered values} told {d = d} call crossed =
     let there = rw (call .0) at (crossed d) in
     record { number = there .number; values = there .values }
 
--- A number of pairs crosses beside its columns: those that the call left, and those that it was lent.
-pub crossed-within : {A : Type 0} {answer : Answer A} {n k k' : ℕ} (told : Within) {before after : ℕ → A}
-    → withinAnswer told after ≡ answer
+-- An answer with its values made into others.
+unfoldable pub over : {A B : Type 0} → (A → B) → Answer A → Answer B
+over f (refused number) = refused number
+over f (answered values) = answered (f values)
+
+-- A number crosses beside what is lent with it: what the call left, or, where it is refused, what was lent.
+pub crossed-number : {A : Type 0} {answer : Answer A} {n k k' : ℕ} (told : Answer ℕ) {before after : ℕ → A}
+    → over after told ≡ answer
     → ((m : ℕ) → refused m ≡ answer → after ≡ before)
-    → Crosses (withinAnswer told (λ c. c)) n (record { entry = k; exit = k' })
+    → Crosses told n (record { entry = k; exit = k' })
     → Crosses answer n (record { entry = before k; exit = after k' })
-unfolding withinAnswer numberOf afterwards
-crossed-within (Pairs count) {after = after} call leaves crossed =
+unfolding over numberOf afterwards
+crossed-number (answered number) {after = after} call leaves crossed =
     rw (crossed .number) (crossed-values call (ap after (crossed .values)))
-crossed-within (Refused number) call leaves crossed =
+crossed-number (refused number) call leaves crossed =
     rw (crossed .number) (crossed-refusal call (λ i. leaves number call i (crossed .values i)))
+
+-- So the number of pairs that a distance list and a forecast tell, the place that an edit tells and the total that pricing does.
+pub within-over : {A : Type 0} (told : Within) (after : ℕ → A) → over after (withinAnswer told (λ n. n)) ≡ withinAnswer told after
+unfolding over withinAnswer
+within-over (within.Pairs count) after = refl
+within-over (within.Refused number) after = refl
+
+pub edited-over : {A : Type 0} (told : Edited) (after : ℕ → A) → over after (editedAnswer told (λ n. n)) ≡ editedAnswer told after
+unfolding over editedAnswer
+edited-over (edited.At place) after = refl
+edited-over (edited.Refused number) after = refl
+
+pub priced-over : {A : Type 0} (told : Priced) (after : ℕ → A) → over after (pricedAnswer told (λ n. n)) ≡ pricedAnswer told after
+unfolding over pricedAnswer
+priced-over (priced.Total total) after = refl
+priced-over (priced.Refused number) after = refl

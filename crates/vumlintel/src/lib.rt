@@ -4,3 +4,4 @@ mod campaigns;
 mod files;
 mod lists;
 mod pair_lists;
+mod tariffs;

@@ -1,15 +1,15 @@
 -- `vumlintel_distance_list` meets its contract: what the call told, crossed.
-use mathlib.Core.Path.{ap₂}
+use mathlib.Core.Path.{ap₂, _∙_}
 use borrow.Author.Needs.{needs}
 use Rattle.pairs.specs.DistanceList.{distanceValues}
-use Rattle.vumlintel.proofs.Crosses.{crossed-within, refusal-leaves}
+use Rattle.vumlintel.proofs.Crosses.{crossed-number, within-over, refusal-leaves}
 use Rattle.vumlintel.proofs.pair_lists.vumlintel_distance_list.Statement.{statement}
 use Rattle.vumlintel.proofs.pair_lists.vumlintel_distance_list.Tie as tie
 
 returns : tie.Need-returns
 returns c =
     let call = c .before .before .before .before .before .before .distance-list .ensures in
-    crossed-within _ (call .0)
+    crossed-number _ (within-over _ _ ∙ call .0)
     (λ n told. ap₂ distanceValues (refusal-leaves _ told (call .1 .0)) (refusal-leaves _ told (call .1 .1)))
     (c .cross-within .ensures)
 
