@@ -2,7 +2,7 @@
 -- exactly one of them, which is also found by the ends alone.
 use mathlib.Core.Path.{_≡_, refl, ap, _∙_}
 use mathlib.Core.Bool.{Bool, true, false, not, _&&_}
-use mathlib.Core.List.{List, [], _∷_, map}
+use mathlib.Core.List.{List, [], _∷_, _++_, map}
 use Prim.Native.Nat.{ℕ, _≤_, _<_}
 use native.Mathlib.Omega.{arith}
 use borrow.Author.Tests.{ltb-true, ltb-false, leb-true, leb-false, le-leb, lt-leb, lt-ltb, le-ltb}
@@ -11,7 +11,7 @@ use lib.ListN.{length}
 use Rattle.order.specs.Lists.{all, keep, All}
 use Rattle.order.specs.Terms.{Sorted}
 use Rattle.order.proofs.Order.{byTest}
-use Rattle.order.proofs.Lists.{all-weaken, all-map, keep-yes, keep-no, keep-none}
+use Rattle.order.proofs.Lists.{all-append, all-weaken, all-map, keep-yes, keep-no, keep-none}
 use Rattle.site.specs.Answer.{refuseIf}
 use Rattle.site.specs.Site.{square}
 use Rattle.site.proofs.Answer.{orElse-first, orElse-second, no-fault, fault-none}
@@ -31,7 +31,7 @@ use Rattle.bands.specs.Bands.{
   priceOf,
 }
 use Rattle.bands.specs.Cover.{OneBand}
-use Rattle.bands.specs.Internal.{bandAt, priceAt, Covered}
+use Rattle.bands.specs.Internal.{bandAt, priceAt}
 
 -- The squares of the ends of some bands, and their prices.
 abbrev pub endsIn : List Band → List ℕ
@@ -129,15 +129,25 @@ chain-after before (band ∷ rest) c = (
       (λ b h. (omega arith, omega arith)) rest (chain-after (band .to) rest (c .2)),
 )
 
--- So their ends never fall,
-pub chain-rises : (before : ℕ) (l : List Band) → Chain before l → Sorted ltb (endsIn l)
+-- A chain begins at the end or before it.
+chain-within : (before : ℕ) (l : List Band) → Chain before l → before ≤ lastTo
+unfolding Chain
+chain-within before [] c = omega arith
+chain-within before (band ∷ rest) c = omega (arith, c .1, chain-within (band .to) rest (c .2))
+
+-- So their ends never fall, also where further ends stand behind them at the end,
+pub chain-rises : (before : ℕ) (l : List Band) (m : List ℕ) → Chain before l → All (λ e. e ≡ square lastTo) m → Sorted ltb m
+    → Sorted ltb (endsIn l ++ m)
 unfolding Chain Sorted
-chain-rises before [] c = tt
-chain-rises before (band ∷ rest) c = (
-  all-map (λ e. ltb e (square (band .to)) ≡ false) (λ b. square (b .to)) rest
+chain-rises before [] m c ends s = s
+chain-rises before (band ∷ rest) m c ends s = (
+  all-append (λ e. ltb e (square (band .to)) ≡ false) (endsIn rest) m
+      (all-map (λ e. ltb e (square (band .to)) ≡ false) (λ b. square (b .to)) rest
       (all-weaken (λ b. (band .to ≤ b .from) × (band .to ≤ b .to)) (λ b. ltb (square (b .to)) (square (band .to)) ≡ false)
-      (λ b h. le-ltb _ _ (square-le (h .1))) rest (chain-after (band .to) rest (c .2))),
-  chain-rises (band .to) rest (c .2),
+      (λ b h. le-ltb _ _ (square-le (h .1))) rest (chain-after (band .to) rest (c .2))))
+      (all-weaken (λ e. e ≡ square lastTo) (λ e. ltb e (square (band .to)) ≡ false)
+      (λ e h. le-ltb e _ (omega (arith, h, square-le (chain-within (band .to) rest (c .2))))) m ends),
+  chain-rises (band .to) rest m (c .2) ends s,
 )
 
 -- and what is below `before` is in none of them.
@@ -159,7 +169,7 @@ module _ (before : ℕ) (l : List Band) (c : Chain before l) (d : ℕ) (h : d < 
 -- A squared distance in exactly one of some bands, which is also found by the ends.
 pub record Found (bands : List Band) (d : ℕ) : Type 0 where
   pub one : OneBand bands d
-  pub covered : Covered (endsIn bands) d
+  pub below : bandAt (endsIn bands) d < length bands
   pub same : priceAt (endsIn bands) (pricesIn bands) d ≡ priceOf bands d
 
 module _ (before : ℕ) (band : Band) (rest : List Band) (c : Chain before (band ∷ rest)) (d : ℕ) where
@@ -176,7 +186,7 @@ module _ (before : ℕ) (band : Band) (rest : List Band) (c : Chain before (band
 
   -- It is in the first band,
   found-first : square before ≤ d → d < square (band .to) → Found (band ∷ rest) d
-  unfolding Chain priceOf Covered bandAt priceAt
+  unfolding Chain priceOf bandAt priceAt
   found-first h g =
       let inside = holds-first h g in
       let none : keep (λ e. leb e d) (endsIn (band ∷ rest)) ≡ [] =
@@ -187,13 +197,13 @@ module _ (before : ℕ) (band : Band) (rest : List Band) (c : Chain before (band
           alone = rw (keep-yes (λ b. holds b d) band rest inside, none-holds (band .to) rest (c .2) d g);
           price = rw inside;
         };
-        covered = rw none (omega arith);
+        below = rw none (omega arith);
         same = rw (none, inside);
       }
 
   -- or past it.
   found-later : square (band .to) ≤ d → Found rest d → Found (band ∷ rest) d
-  unfolding priceOf Covered bandAt priceAt
+  unfolding priceOf bandAt priceAt
   found-later h f =
       let outside = holds-later h in
       let more = keep-yes (λ e. leb e d) (square (band .to)) (endsIn rest) (le-leb _ _ h) in
@@ -203,7 +213,7 @@ module _ (before : ℕ) (band : Band) (rest : List Band) (c : Chain before (band
           alone = rw (keep-no (λ b. holds b d) band rest outside) (f .one .alone);
           price = rw outside (f .one .price);
         };
-        covered = rw more (omega (arith, f .covered));
+        below = rw more (omega (arith, f .below));
         same = rw (more, outside) (f .same);
       }
 

@@ -2,7 +2,7 @@
 use mathlib.Core.Path.{_≡_}
 use mathlib.Core.Bool.{Bool, true, false}
 use mathlib.Core.List.{List, [], _∷_}
-use Prim.Native.Nat.{ℕ, zero, suc, _+_, _*_, _-_, _≤_, _<_}
+use Prim.Native.Nat.{ℕ, zero, suc, _*_, _-_, _≤_, _<_}
 use native.Mathlib.Omega.{arith}
 use borrow.Author.Tests.{ltb-false, le-leb, lt-leb}
 use mir.Val.{boolByte}
@@ -45,16 +45,11 @@ end-found ends d zero s h g k = omega (arith, end-above ends d 0 s h g)
 end-found ends d (suc i) s h g k =
     omega (arith, end-above ends d (suc i) s h g, end-below ends d (suc i - 1) s (omega arith) (k (omega arith)))
 
--- ---- a step with no jump: half as far again where a test holds
+-- ---- a step with no jump: a half further where a test holds
 
 module _ (half : ℕ) (t : Bool) where
-  pub step-taken : t ≡ true → half * (1 + boolByte t) ≡ half + half
+  pub step-taken : t ≡ true → half * boolByte t ≡ half
   step-taken y = rw y (omega arith)
 
-  pub step-left : t ≡ false → half * (1 + boolByte t) ≡ half
+  pub step-left : t ≡ false → half * boolByte t ≡ 0
   step-left n = rw n (omega arith)
-
-  -- At least half and at most twice half, either way.
-  pub step-bounds : (half ≤ half * (1 + boolByte t)) × (half * (1 + boolByte t) ≤ half + half)
-  step-bounds =
-      byTest t (λ y. (omega (arith, step-taken y), omega (arith, step-taken y))) (λ n. (omega (arith, step-left n), omega (arith, step-left n)))

@@ -16,7 +16,7 @@ use Rattle.site.proofs.Tests.{or-first, or-second}
 use Rattle.bands.specs.declared.Tariff.{Tariff}
 use Rattle.bands.specs.Bands.{lastTo}
 use Rattle.bands.specs.Calls.{entriesRefusal}
-use Rattle.bands.specs.Internal.{endsOf, pricesOf, Covered, Priceable, Chargeable}
+use Rattle.bands.specs.Internal.{Covered, Priceable, Chargeable}
 
 -- Whether a squared distance is below the square of the last band's end.
 abbrev pub below : ℕ → Bool
@@ -65,13 +65,13 @@ module _ (distance : List ℕ) (count : ℕ) (prices : List ℕ) where
         }
 
     -- So a tariff that is not refused either prices them.
-    pub chargeable : {t : Tariff} → Priceable t → t .refusal ≡ 0 → Chargeable (endsOf t) (pricesOf t) (take count distance) prices
+    pub chargeable : {t : Tariff} → Priceable t → t .refusal ≡ 0 → Chargeable (t .ends) (t .prices) (take count distance) prices
     chargeable {t} p none =
         let e = entries-accepted in
         let long : length (take count distance) ≡ count = length-take-le count distance (e .room .entries) in
         record {
           tiers = p .tiers none;
-          covered = all-weaken (λ d. d < square lastTo) (Covered (endsOf t)) (p .covers none) _ (e .below);
+          covered = all-weaken (λ d. d < square lastTo) (Covered (t .ends)) (p .covers none) _ (e .below);
           few = rw long (e .room .few);
           room = rw long (e .room .column);
         }

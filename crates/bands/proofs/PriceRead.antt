@@ -7,9 +7,9 @@ use lib.ListN.{length, getD}
 use Rattle.order.proofs.Lists.{all-at}
 use Rattle.bands.specs.Internal.{bandAt, priceAt, Covered, Chargeable}
 
--- It is inside both lists, and the price is the distance's own, and lawful.
+-- It is inside, and the price is the distance's own, and lawful.
 pub record Read (ends rates : List ℕ) (d b : ℕ) : Type 0 where
-  pub inside : b < length ends
+  pub inside : b < 64
   pub within : b < length rates
   pub price : getD rates b 0 ≡ priceAt ends rates d
   pub lawful : getD rates b 0 ≤ 1_000_000
@@ -25,7 +25,7 @@ module _ {ends rates distance column : List ℕ} (c : Chargeable ends rates dist
   price-read {b} e =
       let within : b < length rates = omega (arith, covered-at, c .tiers .long) in
       record {
-        inside = omega (arith, c .tiers .long);
+        inside = omega (arith, covered-at);
         within = within;
         price = rw e;
         lawful = all-at (λ p. p ≤ 1_000_000) rates b 0 within (c .tiers .lawful);

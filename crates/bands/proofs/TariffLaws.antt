@@ -1,17 +1,20 @@
 -- The tariff of a table of bands: its refusal is the table's, and where there is none it prices as the table does.
 use mathlib.Core.Path.{_≡_, refl, sym, ap, _∙_}
 use mathlib.Core.Bool.{Bool, true, false, cond, _&&_}
-use mathlib.Core.List.{List, [], _∷_}
+use mathlib.Core.List.{List, [], _∷_, _++_, append-nil}
 use Prim.Native.Nat.{ℕ, zero, suc, _+_, _≤_, _<_}
+use native.Mathlib.Nat.{le-refl}
 use native.Mathlib.Omega.{arith}
-use borrow.Author.Tests.{leb-true, eq-eqb, ne-eqb}
-use lib.Dec.{eqb}
-use lib.ListN.{length, take, length-map}
+use borrow.Author.Tests.{leb-true, lt-leb, le-ltb, eq-eqb, ne-eqb}
+use lib.Dec.{leb, ltb, eqb}
+use lib.ListN.{length, take, drop, replicate, length-map, length-append, length-drop, length-replicate, List·getD-append}
 use lib.Seq.{sets, take-length}
-use Rattle.order.specs.Lists.{all}
+use Rattle.order.specs.Lists.{all, All}
+use Rattle.order.specs.Terms.{Sorted}
 use Rattle.order.proofs.Order.{byTest}
-use Rattle.order.proofs.Lists.{all-holds, all-weaken, all-map, map-same}
-use Rattle.column.proofs.Stored.{first-sets}
+use Rattle.order.proofs.Lists.{all-append, all-drop, all-holds, all-weaken, all-map, keep-append, keep-none, map-same}
+use Rattle.order.proofs.Sorted.{sorted-drop}
+use Rattle.column.proofs.Stored.{sets-over}
 use Rattle.site.specs.Answer.{orElse}
 use Rattle.site.specs.Site.{square}
 use Rattle.site.proofs.Answer.{answer-same, or-nothing, or-groups, orElse-first, orElse-second}
@@ -27,7 +30,7 @@ use Rattle.bands.specs.Bands.{
   priceOf,
 }
 use Rattle.bands.specs.Calls.{entriesRefusal, pricedBy, priceAnswer}
-use Rattle.bands.specs.Internal.{begun, taken, takenFrom, gathered, priceAt, endsOf, pricesOf, Tiers, Priceable}
+use Rattle.bands.specs.Internal.{begun, taken, takenFrom, gathered, bandAt, priceAt, Covered, Tiers, Priceable}
 use Rattle.bands.proofs.Bands.{endsIn, pricesIn, Accepted, accepted, accepted-found, chain-rises}
 use Rattle.bands.proofs.Entries.{entries-accepted}
 use Rattle.bands.proofs.Gathered.{begun-few}
@@ -92,15 +95,27 @@ begun-unlawful : (n : ℕ) → lawfulNumber n ≡ false → (begun n .bands ≡ 
 unfolding begun
 begun-unlawful n h = (rw h, rw h)
 
--- 64 places for ends and for prices,
-begun-long : (n : ℕ) → (length (begun n .ends) ≡ 64) × (length (begun n .prices) ≡ 64)
-unfolding begun
-begun-long n = (refl, refl)
-
 -- and its first band begins at 0.
 begun-to : (n : ℕ) → begun n .to ≡ 0
 unfolding begun
 begun-to n = refl
+
+-- Values and the places left behind them are all places.
+filled-up : (v : List ℕ) (x : ℕ) {n : ℕ} → length v ≡ n → n ≤ 64 → length (v ++ drop n (replicate 64 x)) ≡ 64
+filled-up v x {n} e h =
+    omega (arith, length-append v (drop n (replicate 64 x)), length-drop n (replicate 64 x), length-replicate 64 x)
+
+-- Places that all hold the same are in order.
+module _ (v : ℕ) where
+  same-all : (P : ℕ → Type 0) → P v → (n : ℕ) → All P (replicate n v)
+  unfolding All
+  same-all P h zero = tt
+  same-all P h (suc n) = (h, same-all P h n)
+
+  same-sorted : (n : ℕ) → Sorted ltb (replicate n v)
+  unfolding Sorted
+  same-sorted zero = tt
+  same-sorted (suc n) = (same-all (λ b. ltb b v ≡ false) (le-ltb v v (le-refl v)) n, same-sorted n)
 
 module _ (bands : List Band) where
   abbrev start : Tariff
@@ -121,20 +136,21 @@ module _ (bands : List Band) where
         rw (taken-refusal start 0 bands (omega (arith, begins .0)), begins .1, begun-to, n)
         (byTest (all lawfulPrice bands) (λ p. rw p) (λ p. rw p))
 
-    enough : (length bands ≤ length (start .ends)) × (length bands ≤ length (start .prices))
-    enough =
-        let long = begun-long (length bands) in
-        (omega (arith, begun-few (length bands) .1, begins), omega (arith, begun-few (length bands) .1, begins))
+    enough : length bands ≤ 64
+    enough = omega (arith, begun-few (length bands) .1, begins .0)
 
-    all-ends : endsOf (gathered bands) ≡ endsIn bands
+    -- The table's own ends stand first, and behind them the end's as often as there is a place left; likewise the prices.
+    all-ends : gathered bands .ends ≡ endsIn bands ++ drop (length bands) (replicate 64 (square lastTo))
+    unfolding begun
     all-ends =
-        rw (all-taken, taken-bands, taken-ends, begins .0)
-        (first-sets (endsIn bands) (start .ends) (length bands) (length-map bands _) (enough .0))
+        rw (all-taken, taken-ends)
+        (sets-over (endsIn bands) (replicate 64 (square lastTo)) (length bands) (length-map bands _) enough)
 
-    all-prices : pricesOf (gathered bands) ≡ pricesIn bands
+    all-prices : gathered bands .prices ≡ pricesIn bands ++ drop (length bands) (replicate 64 0)
+    unfolding begun
     all-prices =
-        rw (all-taken, taken-bands, taken-prices, begins .0)
-        (first-sets (pricesIn bands) (start .prices) (length bands) (length-map bands _) (enough .1))
+        rw (all-taken, taken-prices)
+        (sets-over (pricesIn bands) (replicate 64 0) (length bands) (length-map bands _) enough)
 
   -- A wrong number: none is.
   none-taken : lawfulNumber (length bands) ≡ false → gathered bands .refusal ≡ bandsRefusal bands
@@ -145,30 +161,60 @@ module _ (bands : List Band) where
   pub gathered-refusal : gathered bands .refusal ≡ bandsRefusal bands
   gathered-refusal = byTest (lawfulNumber (length bands)) (λ n. rw (all-taken n) (all-refusal n)) none-taken
 
-  -- The ends of accepted bands are in order, and no price is too high.
-  tiers-in : Accepted bands → Tiers (endsIn bands) (pricesIn bands)
-  unfolding lawfulPrice
-  tiers-in a = record {
-    rising = chain-rises 0 bands (a .chain);
-    long = length-map bands (λ b. b .price) ∙ sym (length-map bands (λ b. square (b .to)));
-    lawful = all-map (λ p. p ≤ 1_000_000) (λ b. b .price) bands
-        (all-weaken (λ b. lawfulPrice b ≡ true) (λ b. b .price ≤ 1_000_000)
-        (λ b. leb-true (b .price) 1_000_000) bands (all-holds lawfulPrice bands (a .prices)));
-  }
-
-  gathered-few : gathered bands .bands ≤ 64
-  unfolding gathered
-  gathered-few = rw taken-bands (begun-few (length bands) .1)
-
   unrefused : gathered bands .refusal ≡ 0 → Accepted bands
   unrefused h = accepted bands (sym gathered-refusal ∙ h)
+
+  module _ (a : Accepted bands) where
+    abbrev ends : List ℕ
+    ends = endsIn bands ++ drop (length bands) (replicate 64 (square lastTo))
+
+    abbrev prices : List ℕ
+    prices = pricesIn bands ++ drop (length bands) (replicate 64 0)
+
+    -- Ends in order, and no price too high.
+    tiers-in : Tiers ends prices
+    unfolding lawfulPrice
+    tiers-in =
+        let few = enough (a .number) in
+        record {
+          rising = record {
+            sorted = chain-rises 0 bands _ (a .chain) (all-drop _ (length bands) _ (same-all _ (λ e. e ≡ square lastTo) refl 64))
+                (sorted-drop ltb (length bands) _ (same-sorted _ 64));
+            long = filled-up (endsIn bands) (square lastTo) (length-map bands _) few;
+          };
+          long = filled-up (pricesIn bands) 0 (length-map bands _) few;
+          lawful = all-append (λ p. p ≤ 1_000_000) (pricesIn bands) _
+              (all-map (λ p. p ≤ 1_000_000) (λ b. b .price) bands
+              (all-weaken (λ b. lawfulPrice b ≡ true) (λ b. b .price ≤ 1_000_000)
+              (λ b. leb-true (b .price) 1_000_000) bands (all-holds lawfulPrice bands (a .prices))))
+              (all-drop (λ p. p ≤ 1_000_000) (length bands) _ (same-all 0 (λ p. p ≤ 1_000_000) (omega arith) 64));
+        }
+
+    -- The places that are left hold no squared distance.
+    same-band : (d : ℕ) → d < square lastTo → bandAt ends d ≡ bandAt (endsIn bands) d
+    unfolding bandAt
+    same-band d h =
+        rw (
+          keep-append (λ e. leb e d) (endsIn bands) (drop (length bands) (replicate 64 (square lastTo))),
+          keep-none (λ e. leb e d) _ (all-drop (λ e. leb e d ≡ false) (length bands) _ (same-all _ (λ e. leb e d ≡ false) (lt-leb _ d h) 64)),
+          append-nil,
+        )
+
+    covers-in : (d : ℕ) → d < square lastTo → Covered ends d
+    unfolding Covered
+    covers-in d h = omega (arith, same-band d h, accepted-found a d h .below, enough (a .number))
+
+    prices-in : (d : ℕ) → d < square lastTo → priceAt ends prices d ≡ priceOf bands d
+    unfolding priceAt
+    prices-in d h =
+        let f = accepted-found a d h in
+        rw (same-band d h) (List·getD-append (pricesIn bands) _ 0 _ (omega (arith, f .below, length-map bands (λ b. b .price))) ∙ f .same)
 
   -- What is asked of a tariff holds of every table's.
   pub gathered-priceable : Priceable (gathered bands)
   gathered-priceable = record {
-    few = gathered-few;
     tiers = λ h. let a = unrefused h in rw (all-ends (a .number), all-prices (a .number)) (tiers-in a);
-    covers = λ h d g. let a = unrefused h in rw (all-ends (a .number)) (accepted-found a d g .covered);
+    covers = λ h d g. let a = unrefused h in rw (all-ends (a .number)) (covers-in a d g);
   }
 
 -- ---- prices
@@ -186,11 +232,11 @@ priced-same fault p q distance count prices same =
 
 -- Pricing by the tariff answers what pricing by the table does.
 pub gathered-answer : (bands : List Band) (distance : List ℕ) (count : ℕ) (prices : List ℕ)
-    → pricedBy (gathered bands .refusal) (priceAt (endsOf (gathered bands)) (pricesOf (gathered bands))) distance count prices
+    → pricedBy (gathered bands .refusal) (priceAt (gathered bands .ends) (gathered bands .prices)) distance count prices
     ≡ priceAnswer bands distance count prices
 unfolding priceAnswer
 gathered-answer bands distance count prices =
     rw (gathered-refusal bands)
     (priced-same (bandsRefusal bands) _ (priceOf bands) distance count prices (λ h d g.
     let a = accepted bands h in
-    rw (all-ends bands (a .number), all-prices bands (a .number)) (accepted-found a d g .same)))
+    rw (all-ends bands (a .number), all-prices bands (a .number)) (prices-in bands a d g)))

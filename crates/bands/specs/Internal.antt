@@ -25,7 +25,7 @@ begun count = record {
   bands = cond (lawfulNumber count) count 0;
   refusal = refuseIf (not (lawfulNumber count)) 14;
   to = 0;
-  ends = replicate 64 0;
+  ends = replicate 64 (square lastTo);
   prices = replicate 64 0;
 }
 
@@ -58,28 +58,25 @@ bandAt ends d = length (keep (λ e. leb e d) ends)
 unfoldable pub priceAt : List ℕ → List ℕ → ℕ → ℕ
 priceAt ends prices d = getD prices (bandAt ends d) 0
 
--- The ends and the prices of the bands of a tariff.
-abbrev pub endsOf : Tariff → List ℕ
-endsOf t = take (t .bands) (t .ends)
+-- 64 ends in order.
+pub record Rising (ends : List ℕ) : Type 0 where
+  pub sorted : Sorted ltb ends
+  pub long : length ends ≡ 64
 
-abbrev pub pricesOf : Tariff → List ℕ
-pricesOf t = take (t .bands) (t .prices)
-
--- Ends in order, and as many prices, none too high.
+-- And as many prices, none too high.
 pub record Tiers (ends prices : List ℕ) : Type 0 where
-  pub rising : Sorted ltb ends
-  pub long : length prices ≡ length ends
+  pub rising : Rising ends
+  pub long : length prices ≡ 64
   pub lawful : All (λ p. p ≤ 1_000_000) prices
 
 -- A squared distance is below the last end.
 unfoldable pub Covered : List ℕ → ℕ → Type 0
-Covered ends d = bandAt ends d < length ends
+Covered ends d = bandAt ends d < 64
 
 -- What is asked of a tariff: one that is not refused has such ends and prices, and covers every squared distance.
 pub record Priceable (t : Tariff) : Type 0 where
-  pub few : t .bands ≤ 64
-  pub tiers : t .refusal ≡ 0 → Tiers (endsOf t) (pricesOf t)
-  pub covers : t .refusal ≡ 0 → (d : ℕ) → d < square lastTo → Covered (endsOf t) d
+  pub tiers : t .refusal ≡ 0 → Tiers (t .ends) (t .prices)
+  pub covers : t .refusal ≡ 0 → (d : ℕ) → d < square lastTo → Covered (t .ends) d
 
 -- What pricing asks of ends, prices, distances and a column.
 pub record Chargeable (ends prices distance column : List ℕ) : Type 0 where

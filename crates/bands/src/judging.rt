@@ -17,7 +17,7 @@ fn begin(count: usize) -> Tariff
         bands: if lawful { count } else { 0 },
         refusal: if lawful { 0 } else { 14 },
         to: 0,
-        ends: [0; 64],
+        ends: [Band::LAST_TO_SQUARED; 64],
         prices: [0; 64],
     }
 }

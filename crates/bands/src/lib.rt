@@ -24,15 +24,17 @@ pub struct Band {
 }
 
 impl Band {
-    // Where the last band ends.
+    // Where the last band ends, and its square.
     const LAST_TO: u32 = 2_828_427_125;
+
+    const LAST_TO_SQUARED: u64 = 8_000_000_001_435_765_625;
 
     // The highest price.
     const MAX_PRICE: u32 = 1_000_000;
 }
 
 // A table of bands by value: how many it has, its refusal (0 for none), where the last band taken ends, and for each
-// band taken the square of its end and its price.
+// band taken the square of its end and its price. Places past the bands end where the last band does.
 struct Tariff {
     bands: usize,
     refusal: u32,

@@ -6,9 +6,7 @@ ghost use mathlib.Core.Path.{_≡_};
 ghost use mathlib.Core.List.{map};
 ghost use Prim.Native.Nat.{_<_};
 ghost use lib.Dec.{ltb};
-ghost use lib.ListN.{length};
 ghost use Rattle.order.specs.Lists.{all, sum};
-ghost use Rattle.order.specs.Terms.{Sorted};
 ghost use Rattle.column.specs.Column.{overwritten};
 ghost use Rattle.site.specs.Answer.{afterwards};
 ghost use Rattle.site.specs.Site.{square};
@@ -17,25 +15,23 @@ ghost use Rattle.bands.specs.Calls.{entriesRefusal, pricedBy, pricedAnsw
 ghost use Rattle.bands.specs.Internal.{
   bandAt,
   priceAt,
-  endsOf,
-  pricesOf,
+  Rising,
   Covered,
   Priceable,
   Chargeable,
 };
 
-// Which of some ascending ends is the first above a squared distance, by halving. No step jumps: which half goes on is
-// as good as random, and a wrong guess costs more than a step.
+// Which of 64 ascending ends is the first above a squared distance: six halvings, whatever the number of bands. No step
+// jumps: which half goes on is as good as random, and a wrong guess costs more than a step.
 fn search(ends: &[u64], d: u64) -> usize
-    requires { ⌜ (Sorted ltb (now ends)) × (Covered (now ends) d) ⌝ }
+    requires { ⌜ (Rising (now ends)) × (Covered (now ends) d) ⌝ }
     ensures { λ r. ⌜ r ≡ bandAt (now (ends .entry)) d ⌝ }
 {
     let mut low = 0;
-    let mut size = ends.len();
+    let mut size = 64;
     while 1 < size {
         let half = size / 2;
-        let below = (ends[low + half - 1] <= d) as usize;
-        low = low + half * (1 + below) - half;
+        low += half * (ends[low + half - 1] <= d) as usize;
         size -= half;
     }
     low
@@ -44,7 +40,7 @@ fn search(ends: &[u64], d: u64) -> usize
 // The same, looking first at `at`, the answer for the entry before: entries that ascend by distance are mostly found
 // there, and any others by halving.
 fn band_at(ends: &[u64], at: usize, d: u64) -> usize
-    requires { ⌜ (Sorted ltb (now ends)) × (Covered (now ends) d) × (at < length (now ends)) ⌝ }
+    requires { ⌜ (Rising (now ends)) × (Covered (now ends) d) × (at < 64) ⌝ }
     ensures { λ r. ⌜ r ≡ bandAt (now (ends .entry)) d ⌝ }
 {
     if ends[at] <= d {
@@ -80,10 +76,9 @@ fn write_prices(ends: &[u64], rates: &[u32], distance: &[u64], prices: &mut [u32
 fn all_below(distance: &[u64]) -> bool
     ensures { λ r. ⌜ r ≡ all (λ d. ltb d (square lastTo)) (now (distance .entry)) ⌝ }
 {
-    let end = Band::LAST_TO as u64;
     let mut i = 0;
     while i < distance.len() {
-        if end * end <= distance[i] {
+        if Band::LAST_TO_SQUARED <= distance[i] {
             return false;
         }
         i += 1;
@@ -109,7 +104,7 @@ fn entries_refusal(distance: &[u64], count: u32, prices: &[u32]) -> u32
 pub(super) fn price_by(tariff: Tariff, distance: &[u64], count: u32, prices: &mut [u32]) -> Priced
     requires { ⌜ Priceable tariff ⌝ }
     ensures { λ r.
-        let price = priceAt (endsOf tariff) (pricesOf tariff) in
+        let price = priceAt (tariff .ends) (tariff .prices) in
         let answer = pricedBy (tariff .refusal) price (now (distance .entry)) count (now (prices .entry)) in
         ⌜
         (pricedAnswer r (priceValues (now (prices .exit))) ≡ answer)
@@ -124,10 +119,9 @@ pub(super) fn price_by(tariff: Tariff, distance: &[u64], count: u32, prices: &mu
     if fault != 0 {
         return Priced::Refused(fault);
     }
-    let n = tariff.bands;
     let ends = tariff.ends;
     let rates = tariff.prices;
     let entries = count as usize;
-    let total = write_prices(&ends[..n], &rates[..n], &distance[..entries], prices);
+    let total = write_prices(&ends[..], &rates[..], &distance[..entries], prices);
     Priced::Total(total)
 }

@@ -7,7 +7,6 @@ use native.Mathlib.Omega.{arith}
 use lib.ListN.{length, take, drop, getD, set, length-append, length-drop, take-append-drop, drop-of-length-le, List·getD-append}
 use lib.Seq.{take-suc, append-snoc, set-at, take-all, length-take-le, take-at, drop-at, drop-drop, getD-take, getD-drop, sets, sets-eq}
 use Rattle.column.specs.Column.{overwritten, stored}
-use Rattle.column.proofs.Overwritten.{take-overwritten}
 
 module _ {A : Type 0} where
   -- A store keeps the column's length.
@@ -51,9 +50,10 @@ module _ {A : Type 0} where
   sets-stored vs l at h = sets-eq vs l at h ∙ append-assoc (take at l) vs (drop (at + length vs) l)
 
   -- One value more, before a run of values or after it.
-  -- The first of a column after as many stores from its start on.
-  pub first-sets : (v l : List A) (n : ℕ) → length v ≡ n → n ≤ length l → take n (sets l 0 v) ≡ v
-  first-sets v l n e h = rw (← e, sets-stored v l 0 (omega arith), stored-start) (take-overwritten v l)
+  -- A column after as many stores from its start on.
+  pub sets-over : (v l : List A) (n : ℕ) → length v ≡ n → n ≤ length l → sets l 0 v ≡ v ++ drop n l
+  unfolding overwritten
+  sets-over v l n e h = rw (← e, sets-stored v l 0 (omega arith)) (stored-start v l)
 
   pub stored-first : (at : ℕ) (v l : List A) (a : A) → at < length l → set (stored (suc at) v l) at a ≡ stored at (a ∷ v) l
   unfolding stored

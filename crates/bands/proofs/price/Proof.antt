@@ -45,7 +45,7 @@ use Rattle.bands.specs.declared.Band.{Band}
 use Rattle.bands.specs.declared.Tariff.{Tariff}
 use Rattle.bands.specs.declared.Priced.{Priced}
 use Rattle.bands.specs.Calls.{PriceValues, priceValues, pricedBy, pricedAnswer, priceAnswer}
-use Rattle.bands.specs.Internal.{priceAt, endsOf, pricesOf, gathered}
+use Rattle.bands.specs.Internal.{priceAt, gathered}
 use Rattle.bands.proofs.TariffLaws.{gathered-priceable, gathered-answer}
 use Rattle.bands.proofs.Band as B
 use Rattle.bands.proofs.Tariff as T
@@ -161,7 +161,7 @@ module _ {M : Type 1} (𝓤 : URA M) (H : Heap 𝓤) (A : Atoms 𝓤) (W : Given
 
   -- What `price_by` says, of its own answer and of the contract's.
   abbrev byTariff : Answer PriceValues
-  byTariff = pricedBy (t .refusal) (priceAt (endsOf t) (pricesOf t)) (now d) c (now p)
+  byTariff = pricedBy (t .refusal) (priceAt (t .ends) (t .prices)) (now d) c (now p)
 
   abbrev answer : Answer PriceValues
   answer = priceAnswer (now x) (now d) c (now p)

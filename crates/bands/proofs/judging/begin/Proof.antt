@@ -3,6 +3,7 @@ use mathlib.Core.Path.{_≡_, sym, _∙_}
 use mathlib.Core.Bool.{cond}
 use mathlib.Core.Logic.{⊎-elim}
 use borrow.Author.Tests.{le-leb, lt-leb}
+use Rattle.site.specs.Site.{square}
 use Rattle.bands.specs.Bands.{lawfulNumber}
 use Rattle.bands.specs.Internal.{begun}
 use Rattle.bands.proofs.judging.begin.Statement.{statement}
@@ -20,11 +21,11 @@ chosen : (c : tie.Joined2) → c .if2 .t8 ≡ cond (c .before .if1 .lawful) (c .
 chosen c = ⊎-elim (λ w. rw (w .0 .taken) (w .1)) (λ w. rw (w .0 .left) (w .1)) (c .if2 .came)
 
 returns : tie.Need-returns
-unfolding begun
+unfolding begun square
 returns c = rw (tested (c .before .before), chosen (c .before), c .if3 .taken)
 
 returns-2 : tie.Need-returns-2
-unfolding begun
+unfolding begun square
 returns-2 c = rw (tested (c .before .before), chosen (c .before), c .if3 .left)
 
 pub begin-spec : {M : Type 1} → statement M

@@ -16,10 +16,10 @@ use Rattle.bands.proofs.pricing.all_below.Statement.{statement}
 use Rattle.bands.proofs.pricing.all_below.Tie as tie
 
 abbrev Inv-loop : tie.InvT-loop
-Inv-loop distance end i₀ i = (i ≤ length distance) × ((k : ℕ) → k < i → below (getD distance k 0) ≡ true)
+Inv-loop distance i₀ i = (i ≤ length distance) × ((k : ℕ) → k < i → below (getD distance k 0) ≡ true)
 
 abbrev μ-loop : tie.MeasureT-loop
-μ-loop distance end i₀ i = length distance - i
+μ-loop distance i₀ i = length distance - i
 
 loop-holds : tie.Need-loop-holds Inv-loop μ-loop
 loop-holds c = (omega arith, λ k h. absurd (omega arith))
@@ -48,9 +48,7 @@ all-below-spec =
     (tie.spec
     Inv-loop
     μ-loop
-    (λ c. search needs)
     loop-holds
-    (λ c. search needs)
     (λ c. search needs)
     (λ c. search needs)
     returns

@@ -1,8 +1,6 @@
 -- `bands::price_by` meets its contract.
 use mathlib.Core.Path.{_≡_, refl, sym, _∙_}
-use Prim.Native.Nat.{_≤_}
 use borrow.Author.Needs.{needs}
-use lib.ListN.{length, length-map}
 use lib.Seq.{length-take-le}
 use Rattle.site.proofs.Answer.{first-refused, next-decides}
 use Rattle.bands.specs.Calls.{entriesRefusal, pricedAnswer}
@@ -29,28 +27,6 @@ accepted : (c : tie.Else2)
     (a .tariff .refusal ≡ 0) × (entriesRefusal (a .distance .now) (a .count) (a .prices .now) ≡ 0)
 accepted c = (c .before .before .before .if1 .left, sym (c .before .entries-refusal .ensures) ∙ c .if2 .left)
 
--- Both arrays have 64 elements.
-short : (c : tie.Else2) → let t = start c .args .tariff in (t .bands ≤ length (t .ends)) × (t .bands ≤ length (t .prices))
-short c =
-    let s = start c in
-    let t = s .args .tariff in
-    let arrays = s .good .0 .1 .1 .1 .1 .1 in
-    let ends : length (t .ends) ≡ 64 = sym (length-map (t .ends) (λ v. v)) ∙ arrays .0 .1 .0 .1 in
-    let prices : length (t .prices) ≡ 64 = sym (length-map (t .prices) (λ v. v)) ∙ arrays .1 .0 .1 .0 .1 in
-    (rw ends (s .pre .few), rw prices (s .pre .few))
-
-array-share-prefix-ends : tie.Need-array-share-prefix-ends
-array-share-prefix-ends c = short (c .before .before) .0
-
-slice-aggregate-write-prices : tie.Need-slice-aggregate-write-prices
-slice-aggregate-write-prices c = sym (length-take-le _ _ (short (c .before .before .before) .0))
-
-array-share-prefix-rates : tie.Need-array-share-prefix-rates
-array-share-prefix-rates c = short (c .before .before .before) .1
-
-slice-aggregate-write-prices-2 : tie.Need-slice-aggregate-write-prices-2
-slice-aggregate-write-prices-2 c = sym (length-take-le _ _ (short (c .before .before .before .before) .1))
-
 slice-aggregate-write-prices-3 : tie.Need-slice-aggregate-write-prices-3
 slice-aggregate-write-prices-3 c =
     sym (length-take-le _ _ (entries-accepted _ _ _ (accepted (c .before .before .before .before .before) .1) .room .entries))
@@ -76,10 +52,8 @@ price-by-spec =
     (λ c κs. search needs)
     (λ c. search needs)
     returns-2
-    array-share-prefix-ends
-    slice-aggregate-write-prices
-    array-share-prefix-rates
-    slice-aggregate-write-prices-2
+    (λ c. search needs)
+    (λ c. search needs)
     slice-aggregate-write-prices-3
     write-prices-requires
     (λ c. search needs)

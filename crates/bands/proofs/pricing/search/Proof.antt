@@ -5,16 +5,16 @@ use native.Mathlib.Omega.{arith}
 use borrow.Author.Needs.{needs}
 use borrow.Author.Tests.{leb-true, leb-false}
 use lib.Dec.{leb}
-use lib.ListN.{length, getD}
+use lib.ListN.{getD}
 use Rattle.order.proofs.Order.{byTest}
-use Rattle.order.proofs.Weights.{bit-most}
+use Rattle.order.proofs.Weights.{weight-most}
 use Rattle.bands.specs.Internal.{bandAt, Covered}
-use Rattle.bands.proofs.Ends.{end-below, end-above, step-taken, step-left, step-bounds}
+use Rattle.bands.proofs.Ends.{end-below, end-above, step-taken, step-left}
 use Rattle.bands.proofs.pricing.search.Statement.{statement}
 use Rattle.bands.proofs.pricing.search.Tie as tie
 
 abbrev Inv-loop : tie.InvT-loop
-Inv-loop ends d low₀ size₀ low size = (low ≤ bandAt ends d) × (bandAt ends d < low + size) × (low + size ≤ length ends)
+Inv-loop ends d low₀ size₀ low size = (low ≤ bandAt ends d) × (bandAt ends d < low + size) × (low + size ≤ 64)
 
 abbrev μ-loop : tie.MeasureT-loop
 μ-loop ends d low₀ size₀ low size = size
@@ -33,25 +33,22 @@ middle c = c .before .before .loop .low + half c - 1
 abbrev test : tie.After-shared-slice-known Inv-loop μ-loop → Bool
 test c = let a = c .before .before .before .args in leb (getD (a .ends .now) (middle c) 0) (a .d)
 
-add-low : tie.Need-add-low Inv-loop μ-loop
-add-low c = omega (arith, bit-most (test c))
+shared-slice-read-low : tie.Need-shared-slice-read-low Inv-loop μ-loop
+shared-slice-read-low c = omega (arith, c .before .before .before .pre .0 .long)
 
-mul-low : tie.Need-mul-low Inv-loop μ-loop
-mul-low c = omega (arith, step-bounds (half c) (test c) .1)
+mul-low-2 : tie.Need-mul-low-2 Inv-loop μ-loop
+mul-low-2 c = omega (arith, weight-most (half c) (test c))
 
 add-low-2 : tie.Need-add-low-2 Inv-loop μ-loop
-add-low-2 c = omega (arith, step-bounds (half c) (test c) .1)
-
-sub-low : tie.Need-sub-low Inv-loop μ-loop
-sub-low c = omega (arith, step-bounds (half c) (test c) .0)
+add-low-2 c = omega (arith, weight-most (half c) (test c))
 
 loop-again : tie.Need-loop-again Inv-loop μ-loop
 loop-again c =
-    let s = c .before .before .before in
-    let inside : middle c < length (s .args .ends .now) = omega arith in
+    let rising = c .before .before .before .pre .0 in
+    let inside = shared-slice-read-low c in
     byTest (test c)
-    (λ y. omega (arith, step-taken (half c) (test c) y, end-below _ _ (middle c) (s .pre .0) inside (leb-true _ _ y)))
-    (λ n. omega (arith, step-left (half c) (test c) n, end-above _ _ (middle c) (s .pre .0) inside (leb-false _ _ n)))
+    (λ y. omega (arith, step-taken (half c) (test c) y, end-below _ _ (middle c) (rising .sorted) inside (leb-true _ _ y)))
+    (λ n. omega (arith, step-left (half c) (test c) n, end-above _ _ (middle c) (rising .sorted) inside (leb-false _ _ n)))
 
 pub search-spec : {M : Type 1} → statement M
 search-spec =
@@ -63,12 +60,10 @@ search-spec =
     (λ c. search needs)
     (λ c. search needs)
     (λ c. search needs)
+    shared-slice-read-low
     (λ c. search needs)
-    (λ c. search needs)
-    add-low
-    mul-low
+    mul-low-2
     add-low-2
-    sub-low
     (λ c. search needs)
     (λ c. search needs)
     loop-again

@@ -12,7 +12,7 @@ use Rattle.bands.proofs.pricing.write_prices.Tie as tie
 
 abbrev Inv-loop : tie.InvT-loop
 Inv-loop ends rates distance prices₀ total₀ at₀ i₀ prices total at i =
-    (i < length distance → at < length ends) × (Filled (priceAt ends rates) 1_000_000 distance prices₀ i prices total)
+    (i < length distance → at < 64) × (Filled (priceAt ends rates) 1_000_000 distance prices₀ i prices total)
 
 abbrev μ-loop : tie.MeasureT-loop
 μ-loop ends rates distance prices₀ total₀ at₀ i₀ prices total at i = length distance - i
