@@ -2,9 +2,8 @@
 use super::Band;
 use super::Tariff;
 ghost use mathlib.Core.Path.{_≡_};
-ghost use mathlib.Core.Bool.{cond};
 ghost use Prim.Native.Nat.{_<_};
-ghost use Rattle.site.specs.Answer.{orElse};
+ghost use Rattle.site.specs.Answer.{refuseIf, orElse};
 ghost use Rattle.bands.specs.Bands.{overlaps, leavesGap, bandRefusal};
 ghost use Rattle.bands.specs.Internal.{begun, taken, gathered};
 
@@ -36,42 +35,42 @@ fn leaves_gap(before: u32, last: bool, band: Band) -> bool
     before < band.from || (last && band.to < Band::LAST_TO)
 }
 
+// The number where the fault is there, else 0.
+fn refuse_if(fault: bool, number: u32) -> u32
+    ensures { λ r. ⌜ r ≡ refuseIf fault number ⌝ }
+{
+    if fault { number } else { 0 }
+}
+
+// The first refusal of two in their order, 0 for none.
+fn first_of(refusal: u32, next: u32) -> u32
+    ensures { λ r. ⌜ r ≡ orElse refusal next ⌝ }
+{
+    if refusal != 0 {
+        return refusal;
+    }
+    next
+}
+
 // The refusal of one band by the end of the band before it, 0 for the first, and whether it is the last; 0 for none.
 fn judge(before: u32, last: bool, band: Band) -> u32
     ensures { λ r. ⌜ r ≡ bandRefusal before last band ⌝ }
 {
-    let overlap = overlaps(before, band);
-    let gap = leaves_gap(before, last, band);
-    if overlap {
-        return 13;
-    }
-    if gap {
-        return 12;
-    }
-    0
+    let overlap = refuse_if(overlaps(before, band), 13);
+    let gap = refuse_if(leaves_gap(before, last, band), 12);
+    first_of(overlap, gap)
 }
 
-// The refusal of a table under way: 14 before all, then the one told before, then the band's own.
-fn first_told(dear: bool, before: u32, own: u32) -> u32
-    ensures { λ r. ⌜ r ≡ cond dear 14 (orElse before own) ⌝ }
-{
-    if dear {
-        return 14;
-    }
-    if before != 0 {
-        return before;
-    }
-    own
-}
-
-// A tariff with one band more, the one at place `i`.
+// A tariff with one band more, the one at place `i`: 14 before all, then what was told before, then the band's own.
 fn take(tariff: Tariff, i: usize, band: Band) -> Tariff
     requires { ⌜ i < 64 ⌝ }
     ensures { λ r. ⌜ r ≡ taken tariff i band ⌝ }
 {
     let mut t = tariff;
+    let dear = refuse_if(Band::MAX_PRICE < band.price, 14);
     let own = judge(t.to, i + 1 == t.bands, band);
-    t.refusal = first_told(Band::MAX_PRICE < band.price, t.refusal, own);
+    let told = first_of(t.refusal, own);
+    t.refusal = first_of(dear, told);
     t.to = band.to;
     t.ends[i] = band.to as u64 * band.to as u64;
     t.prices[i] = band.price;

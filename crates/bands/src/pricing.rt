@@ -73,12 +73,12 @@ fn write_prices(ends: &[u64], rates: &[u32], distance: &[u64], prices: &mut [u32
 }
 
 // Whether each squared distance is below the square of the last band's end.
-fn all_below(distance: &[u64]) -> bool
-    ensures { λ r. ⌜ r ≡ all (λ d. ltb d (square lastTo)) (now (distance .entry)) ⌝ }
+fn all_below(column: &[u64]) -> bool
+    ensures { λ r. ⌜ r ≡ all (λ d. ltb d (square lastTo)) (now (column .entry)) ⌝ }
 {
     let mut i = 0;
-    while i < distance.len() {
-        if Band::LAST_TO_SQUARED <= distance[i] {
+    while i < column.len() {
+        if Band::LAST_TO_SQUARED <= column[i] {
             return false;
         }
         i += 1;

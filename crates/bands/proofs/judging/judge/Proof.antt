@@ -1,26 +1,23 @@
--- `bands::judge` meets its contract.
-use mathlib.Core.Path.{sym, _∙_}
+-- `bands::judge` meets its contract: the callees' own words, put together.
 use borrow.Author.Needs.{needs}
-use Rattle.site.specs.Answer.{orElse}
 use Rattle.bands.specs.Bands.{bandRefusal}
 use Rattle.bands.proofs.judging.judge.Statement.{statement}
 use Rattle.bands.proofs.judging.judge.Tie as tie
 
 returns : tie.Need-returns
-unfolding bandRefusal orElse
-returns c = rw (sym (c .before .before .overlaps .ensures) ∙ c .if1 .taken)
-
-returns-2 : tie.Need-returns-2
-unfolding bandRefusal orElse
-returns-2 c =
-    let e = c .before .before in
-    rw (sym (e .before .overlaps .ensures) ∙ c .before .if1 .left, sym (e .leaves-gap .ensures) ∙ c .if2 .taken)
-
-returns-3 : tie.Need-returns-3
-unfolding bandRefusal orElse
-returns-3 c =
-    let e = c .before .before in
-    rw (sym (e .before .overlaps .ensures) ∙ c .before .if1 .left, sym (e .leaves-gap .ensures) ∙ c .if2 .left)
+unfolding bandRefusal
+returns c =
+    let gap = c .before in
+    let overlap = gap .before .before in
+    rw (c .first-of .ensures, gap .refuse-if2 .ensures, gap .before .leaves-gap .ensures, overlap .refuse-if .ensures, overlap .before .overlaps .ensures)
 
 pub judge-spec : {M : Type 1} → statement M
-judge-spec = tie.close (tie.spec (λ c κs. search needs) (λ c κs. search needs) returns returns-2 returns-3)
+judge-spec =
+    tie.close
+    (tie.spec
+    (λ c κs. search needs)
+    (λ c κs. search needs)
+    (λ c κs. search needs)
+    (λ c κs. search needs)
+    (λ c κs. search needs)
+    returns)

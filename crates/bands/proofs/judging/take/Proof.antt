@@ -6,6 +6,7 @@ use borrow.Author.Needs.{needs}
 use borrow.Author.Tests.{ltb-true, ltb-false, lt-leb, le-leb}
 use lib.Dec.{leb, ltb}
 use Rattle.order.proofs.Order.{byTest}
+use Rattle.site.specs.Answer.{refuseIf, orElse}
 use Rattle.site.specs.Site.{square}
 use Rattle.site.proofs.Distance.{square-fits}
 use Rattle.bands.specs.Bands.{lawfulPrice}
@@ -16,9 +17,10 @@ use Rattle.bands.proofs.judging.take.Tie as tie
 mul-t : tie.Need-mul-t
 mul-t c = square-fits (search needs)
 
--- Above the limit, or not at most the limit.
-dear-first : (limit price first later : ℕ) → cond (ltb limit price) first later ≡ cond (leb price limit) later first
-dear-first limit price first later =
+-- A price above the limit is told before all.
+dear-first : (limit price later : ℕ) → orElse (refuseIf (ltb limit price) 14) later ≡ cond (leb price limit) later 14
+unfolding orElse
+dear-first limit price later =
     byTest (ltb limit price)
     (λ y. rw (y, lt-leb price limit (ltb-true limit price y)))
     (λ n. rw (n, le-leb price limit (ltb-false limit price n)))
@@ -26,14 +28,18 @@ dear-first limit price first later =
 returns : tie.Need-returns
 unfolding taken square lawfulPrice
 returns c =
-    let told = c .before .before .first-told .ensures in
-    rw (told, c .before .before .before .before .judge .ensures, dear-first)
+    let first = c .before .before in
+    let told = first .before in
+    let own = told .before in
+    rw (first .first-of2 .ensures, told .first-of .ensures, own .judge .ensures, own .before .refuse-if .ensures, ← dear-first)
 
 pub take-spec : {M : Type 1} → statement M
 take-spec =
     tie.close
     (tie.spec
+    (λ c κs. search needs)
     (λ c. search needs)
+    (λ c κs. search needs)
     (λ c κs. search needs)
     (λ c κs. search needs)
     (λ c. search needs)

@@ -28,7 +28,7 @@ returns : tie.Need-returns Inv-loop μ-loop
 unfolding square
 returns c =
     let l = c .before .before .before in
-    let distance = l .before .args .distance .now in
+    let distance = l .before .args .column .now in
     byTest (all below distance)
     (λ t. never-both (all-at (λ d. below d ≡ true) distance (l .loop .i) 0 (omega arith) (all-holds below distance t))
     (le-ltb _ _ (c .if1 .taken)))
