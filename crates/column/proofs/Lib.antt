@@ -2,6 +2,7 @@
 pub mod Overwritten
 pub mod Stored
 pub mod Filled
+pub mod Replaced
 pub mod Moved
 pub mod Inserted
 pub mod Removed

@@ -6,10 +6,11 @@ use native.Mathlib.Numerals.{add-one}
 use native.Mathlib.Omega.{arith}
 use lib.IntN.{ℤ, pos}
 use lib.ListN.{length, take, getD, set, length-set, length-map, List·getD-map, replicate, length-replicate}
-use lib.Seq.{length-take-le, take-suc, take-suc-set, take-all}
+use lib.Seq.{length-take-le}
 use mir.Syntax.{w32}
 use mir.Val.{SFits, toZ, ofZ}
 use mir.Facts.{toZ-ofZ}
+use Rattle.column.proofs.Replaced.{Replaced, replaced-none, replaced-more, replaced-all}
 use Rattle.site.specs.Site.{Site}
 use Rattle.site.specs.SiteList.{Columns, columns, sites, siteAt, columnsOf}
 use Rattle.site.specs.Answer.{refused, answered, orElse}
@@ -27,29 +28,6 @@ use Rattle.site_file.proofs.ReadAnswer.{inside, read-laid, site-found}
 use Rattle.site_file.proofs.SitesIn.{list-flat, columns-accepted}
 use Rattle.listing.specs.Listing.{listingText}
 use Rattle.listing.specs.Internal.{fileText, Put, Lawful, Sized, FileLists}
-
--- ---- one column, any element
-
--- The first `i` elements of a column are those of the values, which are as many.
-pub record Filled {A : Type 0} (values column : List A) (i : ℕ) : Type 0 where
-  pub size : length column ≡ length values
-  pub first : take i column ≡ take i values
-
-module _ {A : Type 0} (values : List A) where
-  filled-starts : {column : List A} → length column ≡ length values → Filled values column 0
-  filled-starts h = record { size = h; first = refl }
-
-  filled-more : (d : A) {column : List A} (i : ℕ) {v : A} → i < length values → v ≡ getD values i d
-      → Filled values column i → Filled values (set column i v) (suc i)
-  filled-more d {column} i {v} h e f =
-      record {
-        size = length-set column i v ∙ f .size;
-        first = rw (take-suc-set column i v (omega (arith, f .size)), take-suc values i d h, f .first, e);
-      }
-
-  filled-ends : {column : List A} (i : ℕ) → length values ≤ i → Filled values column i → column ≡ values
-  filled-ends {column} i h f =
-      sym (take-all i column (omega (arith, f .size))) ∙ f .first ∙ take-all i values h
 
 -- ---- the sites of a list
 
@@ -87,9 +65,9 @@ module _ (file : List ℕ) (w : Which) (i : ℕ) (r : SiteRead) (answer : siteRe
 pub record SitesRead (l : List Site) (n : ℕ) (xs ys : List ℤ) (ns : List ℕ) (i : ℕ) : Type 0 where
   pub count : length l ≡ n
   pub sized : Sized n (columns xs ys ns)
-  pub x : Filled (map (λ s. s .x) l) xs i
-  pub y : Filled (map (λ s. s .y) l) ys i
-  pub number : Filled (map (λ s. s .number) l) ns i
+  pub x : Replaced (map (λ s. s .x) l) xs i
+  pub y : Replaced (map (λ s. s .y) l) ys i
+  pub number : Replaced (map (λ s. s .number) l) ns i
 
 module _ (l : List Site) where
   size : {B : Type 0} {n : ℕ} (f : Site → B) → length l ≡ n → length (map f l) ≡ n
@@ -105,9 +83,9 @@ module _ (l : List Site) where
       record {
         count = e ∙ sym (h .x);
         sized = record { x = refl; y = h .y ∙ sym (h .x); number = h .number ∙ sym (h .x) };
-        x = filled-starts _ (h .x ∙ sym (size (λ s. s .x) e));
-        y = filled-starts _ (h .y ∙ sym (size (λ s. s .y) e));
-        number = filled-starts _ (h .number ∙ sym (size (λ s. s .number) e));
+        x = replaced-none _ (h .x ∙ sym (size (λ s. s .x) e));
+        y = replaced-none _ (h .y ∙ sym (size (λ s. s .y) e));
+        number = replaced-none _ (h .number ∙ sym (size (λ s. s .number) e));
       }
 
   pub sites-more : {n : ℕ} (i : ℕ) {xs ys us vs : List ℤ} {ns ms : List ℕ} → i < n
@@ -123,19 +101,19 @@ module _ (l : List Site) where
               y = length-set ys i _ ∙ w .sized .y;
               number = length-set ns i _ ∙ w .sized .number;
             };
-        x = filled-more _ (pos 0) i (omega (arith, size (λ s. s .x) (w .count))) (value (λ s. s .x) i) (w .x);
-        y = filled-more _ (pos 0) i (omega (arith, size (λ s. s .y) (w .count))) (value (λ s. s .y) i) (w .y);
+        x = replaced-more _ (pos 0) i (omega (arith, size (λ s. s .x) (w .count))) (value (λ s. s .x) i) (w .x);
+        y = replaced-more _ (pos 0) i (omega (arith, size (λ s. s .y) (w .count))) (value (λ s. s .y) i) (w .y);
         number =
-            filled-more _ 0 i (omega (arith, size (λ s. s .number) (w .count))) (value (λ s. s .number) i) (w .number);
+            replaced-more _ 0 i (omega (arith, size (λ s. s .number) (w .count))) (value (λ s. s .number) i) (w .number);
       })
 
   pub sites-ends : {n : ℕ} (i : ℕ) {xs ys : List ℤ} {ns : List ℕ} → n ≤ i → SitesRead l n xs ys ns i
       → columns xs ys ns ≡ columnsOf l
   unfolding columnsOf
   sites-ends i h w =
-      let x = filled-ends _ i (omega (arith, size (λ s. s .x) (w .count))) (w .x) in
-      let y = filled-ends _ i (omega (arith, size (λ s. s .y) (w .count))) (w .y) in
-      let number = filled-ends _ i (omega (arith, size (λ s. s .number) (w .count))) (w .number) in
+      let x = replaced-all _ i (omega (arith, size (λ s. s .x) (w .count))) (w .x) in
+      let y = replaced-all _ i (omega (arith, size (λ s. s .y) (w .count))) (w .y) in
+      let number = replaced-all _ i (omega (arith, size (λ s. s .number) (w .count))) (w .number) in
       rw (x, y, number)
 
 -- The next place of a list of a file, and of its columns.
