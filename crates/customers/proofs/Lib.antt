@@ -1,0 +1,2 @@
+-- The laws of the two customers of a grid.
+pub mod CustomerLaws
