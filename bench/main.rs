@@ -484,55 +484,76 @@ fn prices() {
     pricing("shuffled, 64 bands", &many, &distance);
 }
 
-/// A campaign as the calls take it.
-struct Campaign {
-    numbers: [u32; 4],
+/// A grid as the calls take it.
+struct Grid {
+    strips: [u32; 2],
     first_ends: [u32; 32],
     second_ends: [u32; 32],
     marks: [u8; 1024],
+    shares: [u32; 4],
 }
 
-impl Campaign {
-    fn new() -> Campaign {
-        Campaign { numbers: [0; 4], first_ends: [0; 32], second_ends: [0; 32], marks: [0; 1024] }
+/// The ends of this many strips of a list.
+fn cuts(l: &Columns, strips: usize) -> Vec<u32> {
+    (1..=strips).map(|s| (l.x.len() * s / strips) as u32).collect()
+}
+
+impl Grid {
+    /// A grid prepared with this many strips a list. What is measured afterwards is one customer's, from their opening on.
+    fn prepared(a: &Columns, b: &Columns, strips: usize) -> Grid {
+        let mut g =
+            Grid { strips: [9; 2], first_ends: [9; 32], second_ends: [9; 32], marks: [9; 1024], shares: [9; 4] };
+        let (first, second) = (cuts(a, strips), cuts(b, strips));
+        let ([fs, ss], [k1, e1, k2, e2]) = (&mut g.strips, &mut g.shares);
+        let number = unsafe {
+            raw::vumlintel_prepare(
+                a.x.as_ptr(), a.x.len(), a.y.as_ptr(), a.y.len(), a.number.as_ptr(), a.number.len(),
+                a.height.as_ptr(), a.height.len(),
+                b.x.as_ptr(), b.x.len(), b.y.as_ptr(), b.y.len(), b.number.as_ptr(), b.number.len(),
+                b.height.as_ptr(), b.height.len(),
+                first.as_ptr(), strips, second.as_ptr(), strips,
+                fs, ss, &mut g.first_ends, &mut g.second_ends, &mut g.marks, k1, e1, k2, e2,
+            )
+        };
+        assert_eq!(number, 0);
+        g
     }
 }
 
-/// An opening, with this many strips a list.
-fn opened(a: &Columns, b: &Columns, k: usize, strips: usize, c: &mut Campaign, r: &Results) {
-    let cuts = |l: &Columns| (1..=strips).map(|s| (l.x.len() * s / strips) as u32).collect::<Vec<_>>();
-    let (first, second) = (cuts(a), cuts(b));
-    let [ck, ce, fs, ss] = &mut c.numbers;
+/// An opening as customer 1, with the grid's ends.
+fn opened(a: &Columns, b: &Columns, k: usize, strips: usize, g: &mut Grid, r: &Results) {
+    let (first, second) = (cuts(a, strips), cuts(b, strips));
+    let ([fs, ss], [k1, e1, k2, e2]) = (&mut g.strips, &mut g.shares);
     let number = unsafe {
         raw::vumlintel_open(
+            fs, ss, &mut g.first_ends, &mut g.second_ends, &mut g.marks, k1, e1, k2, e2, 1,
             a.x.as_ptr(), a.x.len(), a.y.as_ptr(), a.y.len(), a.number.as_ptr(), a.number.len(),
             a.height.as_ptr(), a.height.len(),
             b.x.as_ptr(), b.x.len(), b.y.as_ptr(), b.y.len(), b.number.as_ptr(), b.number.len(),
             b.height.as_ptr(), b.height.len(),
             k as u32, first.as_ptr(), strips, second.as_ptr(), strips,
             r.distance.as_ptr(), k, r.first.as_ptr(), k, r.second.as_ptr(), k,
-            ck, ce, fs, ss, &mut c.first_ends, &mut c.second_ends, &mut c.marks,
         )
     };
     assert_eq!(number, 0);
 }
 
 /// A job: whether it was swept, and its looks or its range pairs.
-type Job = fn(&Columns, &Columns, usize, &mut Campaign, &mut Results, (u32, u32)) -> (u32, u64);
+type Job = fn(&Columns, &Columns, usize, &mut Grid, &mut Results, (u32, u32)) -> (u32, u64);
 
 fn classic_job(
     a: &Columns,
     b: &Columns,
     k: usize,
-    c: &mut Campaign,
+    g: &mut Grid,
     r: &mut Results,
     (s, t): (u32, u32),
 ) -> (u32, u64) {
-    let [ck, ce, fs, ss] = &mut c.numbers;
+    let ([fs, ss], [k1, e1, k2, e2]) = (&mut g.strips, &mut g.shares);
     let (mut swept, mut looks, mut distances) = (0, 0, 0);
     let number = unsafe {
         raw::vumlintel_job_classic(
-            ck, ce, fs, ss, &mut c.first_ends, &mut c.second_ends, &mut c.marks,
+            fs, ss, &mut g.first_ends, &mut g.second_ends, &mut g.marks, k1, e1, k2, e2, 1,
             a.x.as_ptr(), a.x.len(), a.y.as_ptr(), a.y.len(), a.number.as_ptr(), a.number.len(),
             a.height.as_ptr(), a.height.len(),
             b.x.as_ptr(), b.x.len(), b.y.as_ptr(), b.y.len(), b.number.as_ptr(), b.number.len(),
@@ -549,15 +570,15 @@ fn halves_job(
     a: &Columns,
     b: &Columns,
     k: usize,
-    c: &mut Campaign,
+    g: &mut Grid,
     r: &mut Results,
     (s, t): (u32, u32),
 ) -> (u32, u64) {
-    let [ck, ce, fs, ss] = &mut c.numbers;
+    let ([fs, ss], [k1, e1, k2, e2]) = (&mut g.strips, &mut g.shares);
     let (mut swept, mut range_pairs) = (0, 0);
     let number = unsafe {
         raw::vumlintel_job_halves(
-            ck, ce, fs, ss, &mut c.first_ends, &mut c.second_ends, &mut c.marks,
+            fs, ss, &mut g.first_ends, &mut g.second_ends, &mut g.marks, k1, e1, k2, e2, 1,
             a.x.as_ptr(), a.x.len(), a.y.as_ptr(), a.y.len(), a.number.as_ptr(), a.number.len(),
             a.height.as_ptr(), a.height.len(),
             b.x.as_ptr(), b.x.len(), b.y.as_ptr(), b.y.len(), b.number.as_ptr(), b.number.len(),
@@ -570,34 +591,34 @@ fn halves_job(
     (swept, range_pairs)
 }
 
-/// An opening and all jobs by mark, one call a job: looks or range pairs, and jobs skipped.
+/// An opening as customer 1 and all their jobs by mark, one call a job: looks or range pairs, and jobs skipped.
 fn all_jobs(
     job: Job,
     a: &Columns,
     b: &Columns,
     k: usize,
     strips: usize,
-    c: &mut Campaign,
+    g: &mut Grid,
     r: &mut Results,
 ) -> (u64, u32) {
-    opened(a, b, k, strips, c, r);
+    opened(a, b, k, strips, g, r);
     let strips = strips as u32;
     let (mut count, mut skips) = (0, 0);
     for mark in 0..strips * strips {
-        let (swept, counted) = job(a, b, k, c, r, (mark / strips, mark % strips));
+        let (swept, counted) = job(a, b, k, g, r, (mark / strips, mark % strips));
         count += counted;
         skips += 1 - swept;
     }
     (count, skips)
 }
 
-/// A status of a campaign with all jobs settled: the tests of both lists and refusal 7.
-fn status(a: &Columns, b: &Columns, k: usize, strips: usize, c: &Campaign, r: &Results) {
+/// A status of customer 1 with all jobs settled: the tests of both lists and refusal 7.
+fn status(a: &Columns, b: &Columns, k: usize, strips: usize, g: &Grid, r: &Results) {
     let (mut settled, mut jobs, mut entries, mut got) = (0, 0, 0, 0);
-    let [ck, ce, fs, ss] = &c.numbers;
+    let ([fs, ss], [k1, e1, k2, e2]) = (&g.strips, &g.shares);
     let number = unsafe {
         raw::vumlintel_status(
-            ck, ce, fs, ss, &c.first_ends, &c.second_ends, &c.marks,
+            fs, ss, &g.first_ends, &g.second_ends, &g.marks, k1, e1, k2, e2, 1,
             a.x.as_ptr(), a.x.len(), a.y.as_ptr(), a.y.len(), a.number.as_ptr(), a.number.len(),
             a.height.as_ptr(), a.height.len(),
             b.x.as_ptr(), b.x.len(), b.y.as_ptr(), b.y.len(), b.number.as_ptr(), b.number.len(),
@@ -638,12 +659,12 @@ fn looks(a: List, b: List, p: (usize, usize), q: (usize, usize), list: &mut impl
 /// A campaign beside the same in ordinary Rust and beside one classic sweep, and where its time goes.
 fn campaign(name: &str, a: &Columns, b: &Columns, k: usize) {
     let mut r = Results::new(k);
-    let mut c = Campaign::new();
+    let mut g = Grid::prepared(a, b, 16);
     let (mut told, mut whole) = ((0, 0), None);
     let (mut sorted, mut heaped, mut buffered) = (None, None, None);
     let (la, lb) = (a.lent(), b.lent());
     let [jobs, by_sorting, by_heap, by_buffer, sweep] = least([
-        &mut || told = all_jobs(classic_job, a, b, k, 16, &mut c, &mut r),
+        &mut || told = all_jobs(classic_job, a, b, k, 16, &mut g, &mut r),
         &mut || sorted = Some(plain_jobs(la, lb, k, Sorted::new, looks)),
         &mut || heaped = Some(plain_jobs(la, lb, k, Heap::new, looks)),
         &mut || buffered = Some(plain_jobs(la, lb, k, Buffered::new, looks)),
@@ -653,7 +674,7 @@ fn campaign(name: &str, a: &Columns, b: &Columns, k: usize) {
     assert!([sorted, heaped, buffered].iter().all(|l| *l == answer), "the answers differ");
     assert!(Some(r.entries()) == whole.map(|w| w.0), "the answers differ");
     let [statuses, checks] = least([
-        &mut || (0..256).for_each(|_| status(a, b, k, 16, &c, &r)),
+        &mut || (0..256).for_each(|_| status(a, b, k, 16, &g, &r)),
         &mut || (0..256).for_each(|_| [a, b].into_iter().for_each(checked)),
     ]);
     println!(
@@ -672,12 +693,12 @@ fn campaign(name: &str, a: &Columns, b: &Columns, k: usize) {
 /// A campaign by halves beside the same in ordinary Rust, and beside the same jobs by the classic sweep.
 fn campaign_by_halves(name: &str, a: &Columns, b: &Columns, k: usize) {
     let [mut r, mut by_classic] = [0; 2].map(|_| Results::new(k));
-    let [mut c, mut d] = [0; 2].map(|_| Campaign::new());
+    let [mut g, mut d] = [0; 2].map(|_| Grid::prepared(a, b, 16));
     let (mut told, mut classic_told) = ((0, 0), (0, 0));
     let (mut sorted, mut heaped, mut buffered) = (None, None, None);
     let (la, lb) = (a.lent(), b.lent());
     let [jobs, by_sorting, by_heap, by_buffer, classic] = least([
-        &mut || told = all_jobs(halves_job, a, b, k, 16, &mut c, &mut r),
+        &mut || told = all_jobs(halves_job, a, b, k, 16, &mut g, &mut r),
         &mut || sorted = Some(plain_jobs(la, lb, k, Sorted::new, ordinary::halves)),
         &mut || heaped = Some(plain_jobs(la, lb, k, Heap::new, ordinary::halves)),
         &mut || buffered = Some(plain_jobs(la, lb, k, Buffered::new, ordinary::halves)),
@@ -704,12 +725,12 @@ fn one_position(r: &mut Random, k: usize, strips: usize) {
     let (a, b) = (even(r, most), even(r, most));
     let (p, q) = (stacked(most), stacked(most));
     let (mut held, mut none) = (Results::new(k), Results::new(k));
-    let (mut c, mut d) = (Campaign::new(), Campaign::new());
-    all_jobs(classic_job, &a, &b, k, strips, &mut c, &mut held);
+    let (mut g, mut d) = (Grid::prepared(&a, &b, strips), Grid::prepared(&p, &q, strips));
+    all_jobs(classic_job, &a, &b, k, strips, &mut g, &mut held);
     opened(&p, &q, k, strips, &mut d, &mut none);
-    d.marks = c.marks;
+    d.marks = g.marks;
     let [spread, stacked] = least([
-        &mut || (0..100).for_each(|_| status(&a, &b, k, strips, &c, &held)),
+        &mut || (0..100).for_each(|_| status(&a, &b, k, strips, &g, &held)),
         &mut || (0..100).for_each(|_| status(&p, &q, k, strips, &d, &none)),
     ]);
     println!(

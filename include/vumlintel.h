@@ -2,23 +2,27 @@
  * Vumlintel: pairs of sites of two lists, by rank or by distance, whole or in strip jobs, and their prices.
  *
  * Every call answers a refusal number, 0 for success. A refused call writes nothing at all: no answer, no column, no buffer,
- * no part of a campaign. A success writes its answers through the pointers at the end of its parameters.
+ * no part of a grid. A success writes its answers through the pointers at the end of its parameters, or into the grid that it
+ * was lent first.
  *
  *   VUMLINTEL_LIST_SIZE       1  columns of unequal length, more than 65,535 sites, or (adding, removing) a count in use above
  *                                the length
  *   VUMLINTEL_LIMITS          2  an x or y outside -1,000,000,000 to 1,000,000,000, or a height outside -10,000 to 10,000
  *   VUMLINTEL_ORDER           3  sites not strictly ascending by x, then y, then number
  *   VUMLINTEL_K               4  K is 0 or above 4,096
- *   VUMLINTEL_CUT_ENDS        5  cut ends unlawful: at most 32, strictly ascending, each above 0, the last the list's length
+ *   VUMLINTEL_CUT_ENDS        5  cut ends unlawful: at most 32, strictly ascending, each above 0, the last the list's length;
+ *                                opening: cut ends other than the grid's
  *   VUMLINTEL_ROOM            6  a result column shorter than K, too few elements for the pairs found, a forecast's column
  *                                shorter than the first list, a buffer shorter than the file, or no room for one more site;
  *                                pricing: a price column or distance column shorter than the entry count, or a count above
  *                                4,096
- *   VUMLINTEL_CAMPAIGN        7  the campaign or its result columns do not fit each other or the lists; an entry of co-sited
- *                                cells is such a fault; pricing: a squared distance not below 2,828,427,125 squared
+ *   VUMLINTEL_CAMPAIGN        7  the grid, what the customer has in it and their result columns do not fit each other or the
+ *                                lists, or they have not opened; an entry of co-sited cells is such a fault; a mark above 3,
+ *                                or one that is not 0 outside the jobs, is one for either customer, at opening too; pricing: a
+ *                                squared distance not below 2,828,427,125 squared
  *   VUMLINTEL_RANGE           8  a strip number not below the strip count, a place not below the list's count, or (editing a
  *                                band) a place not below the number of bands
- *   VUMLINTEL_SETTLED         9  the job is settled already
+ *   VUMLINTEL_SETTLED         9  the job is settled already, for this customer
  *   VUMLINTEL_FILE           10  the file's contents or length are wrong
  *   VUMLINTEL_PRESENT        11  the same x, y and number is in the list already
  *   VUMLINTEL_BAND_GAP       12  a band that starts above the end of the band before, a first band that starts above 0, or a
@@ -26,12 +30,13 @@
  *   VUMLINTEL_BAND_OVERLAP   13  a band that starts below the end of the band before, is empty (its to is not above its from)
  *                                or ends above 2,828,427,125
  *   VUMLINTEL_TARIFF         14  no band, more than 64 bands, or a price above 1,000,000
+ *   VUMLINTEL_CUSTOMER       15  a customer number other than 1 or 2
  *   VUMLINTEL_ABSENT         16  no site with this x, y and number is in the list
  *
- * Order: the first list's 1, 2, 3, then the second list's, then the rest by number. Adding tests the new site (2) after the
- * list; removing does not, and a site outside the limits gets 16. A file below 16 bytes gets 10; any other is tested for 1
- * (counts), then 10, then its lists for 2 and 3. Pricing tests the bands for 14, then band by band, from the first on, for 13
- * and then 12, so that the first band at fault decides; then for 6, then for 7. The number 15 is not in use.
+ * Order: 15 before all else, then the first list's 1, 2, 3, then the second list's, then the rest by number. Adding tests the
+ * new site (2) after the list; removing does not, and a site outside the limits gets 16. A file below 16 bytes gets 10; any
+ * other is tested for 1 (counts), then 10, then its lists for 2 and 3. Pricing tests the bands for 14, then band by band, from
+ * the first on, for 13 and then 12, so that the first band at fault decides; then for 6, then for 7.
  *
  * A list is four columns: x, y, number and height, each a pointer and an element count. Its order does not look at the height.
  * A site's place is its index from 0. The squared distance of two sites is the sum of the squares of the differences of x, y
@@ -68,6 +73,7 @@ enum {
     VUMLINTEL_BAND_GAP = 12,
     VUMLINTEL_BAND_OVERLAP = 13,
     VUMLINTEL_TARIFF = 14,
+    VUMLINTEL_CUSTOMER = 15,
     VUMLINTEL_ABSENT = 16
 };
 
@@ -147,82 +153,107 @@ uint32_t vumlintel_forecast(const int32_t *ax, size_t axs, const int32_t *ay, si
                             const uint32_t *bn, size_t bns, const int32_t *bh, size_t bhs, uint32_t e, uint32_t *partners,
                             size_t partners_length, uint64_t *total);
 
-/* A campaign. It may be kept anywhere between calls; its result columns, which hold its entries, belong to it. */
-typedef struct vumlintel_campaign {
-    uint32_t k;
-    uint32_t entries;
+/*
+ * A grid: the cut ends of both lists and 1,024 marks, one for each job, which two customers share, customer 1 and customer 2.
+ * Each customer runs a campaign of their own on it: they have a K, an entry count and their own bit of each mark in the grid,
+ * and result columns of their own, which hold their entries and which they lend with each call. A grid may be kept anywhere
+ * between calls. What a customer is told depends on the lists, the ends and what is their own, never on what the other one has
+ * done: beside the ends they may read their own K, entry count and bits.
+ */
+typedef struct vumlintel_grid {
     uint32_t first_strips;
     uint32_t second_strips;
     uint32_t first_ends[32];
     uint32_t second_ends[32];
-    uint8_t marks[1024]; /* job (a, b) is mark 32 * a + b; 1 means settled */
-} vumlintel_campaign;
+    uint8_t marks[1024]; /* job (a, b) is mark 32 * a + b, from 0 to 3: customer 1 owns the 1, customer 2 the 2 */
+    uint32_t k1;
+    uint32_t entries1;
+    uint32_t k2;
+    uint32_t entries2;
+} vumlintel_grid;
 
-/* The parts of a campaign, as the calls below take them. */
-#define VUMLINTEL_PARTS(c)                                                                                                     \
-    &(c)->k, &(c)->entries, &(c)->first_strips, &(c)->second_strips, (c)->first_ends, (c)->second_ends, (c)->marks
+/* The parts of a grid, as the calls below take them. */
+#define VUMLINTEL_PARTS(g)                                                                                                     \
+    &(g)->first_strips, &(g)->second_strips, (g)->first_ends, (g)->second_ends, (g)->marks, &(g)->k1, &(g)->entries1,          \
+        &(g)->k2, &(g)->entries2
 
 /*
- * Opens a campaign: K, and the cut ends of both lists. Strip s of a list runs from end s - 1 (or 0) up to, not including, end
- * s. The result columns are not written. Answers the campaign, with no entry and no job settled, or 1, 2, 3 for each list, 4,
- * 5, 6.
+ * Prepares a grid, whatever it held: the cut ends of both lists. Strip s of a list runs from end s - 1 (or 0) up to, not
+ * including, end s. Answers the grid: the ends, 0 past them, every mark, both K and both entry counts 0, so that both customers
+ * have yet to open; or 1, 2, 3 for each list, 5.
  */
-uint32_t vumlintel_open(const int32_t *ax, size_t axs, const int32_t *ay, size_t ays, const uint32_t *an, size_t ans,
-                        const int32_t *ah, size_t ahs, const int32_t *bx, size_t bxs, const int32_t *by, size_t bys,
+uint32_t vumlintel_prepare(const int32_t *ax, size_t axs, const int32_t *ay, size_t ays, const uint32_t *an, size_t ans,
+                           const int32_t *ah, size_t ahs, const int32_t *bx, size_t bxs, const int32_t *by, size_t bys,
+                           const uint32_t *bn, size_t bns, const int32_t *bh, size_t bhs, const uint32_t *first_cuts,
+                           size_t first_cuts_length, const uint32_t *second_cuts, size_t second_cuts_length,
+                           uint32_t *first_strips, uint32_t *second_strips, uint32_t first_ends[32], uint32_t second_ends[32],
+                           uint8_t marks[1024], uint32_t *k1, uint32_t *entries1, uint32_t *k2, uint32_t *entries2);
+
+/*
+ * Opens a campaign of one customer, with this K: with no entry, and no job settled for them. The cut ends are lent once more
+ * and are the grid's. The result columns are not written, and what the other customer has in the grid stays. Answers the grid,
+ * or 15, 1, 2, 3 for each list, 4, 5, 6, 7 (the marks alone).
+ */
+uint32_t vumlintel_open(uint32_t *first_strips, uint32_t *second_strips, uint32_t first_ends[32], uint32_t second_ends[32],
+                        uint8_t marks[1024], uint32_t *k1, uint32_t *entries1, uint32_t *k2, uint32_t *entries2,
+                        uint32_t customer, const int32_t *ax, size_t axs, const int32_t *ay, size_t ays, const uint32_t *an,
+                        size_t ans, const int32_t *ah, size_t ahs, const int32_t *bx, size_t bxs, const int32_t *by, size_t bys,
                         const uint32_t *bn, size_t bns, const int32_t *bh, size_t bhs, uint32_t k, const uint32_t *first_cuts,
                         size_t first_cuts_length, const uint32_t *second_cuts, size_t second_cuts_length,
                         const uint64_t *distance, size_t distance_length, const uint32_t *first, size_t first_length,
-                        const uint32_t *second, size_t second_length, uint32_t *campaign_k, uint32_t *campaign_entries,
-                        uint32_t *first_strips, uint32_t *second_strips, uint32_t first_ends[32], uint32_t second_ends[32],
-                        uint8_t marks[1024]);
+                        const uint32_t *second, size_t second_length);
 
 /*
- * Does the job of a strip of each list, by the classic sweep or by Reverse Run. It is skipped where K entries are held and the
- * boxes around the two strips' sites (least and greatest x, y and height) are farther apart than the last of them: where the
- * sum of the squares of the x gap, the y gap and the height gap, each 0 where the ranges touch or overlap, is greater than the
- * last squared distance.
- * Answers the campaign, whether the job was swept (1) or skipped (0), and looks and distances, both 0 when skipped; or 1, 2, 3
- * for each list, 7, 8, 9.
+ * Does the job of a strip of each list for one customer, by the classic sweep or by Reverse Run. It is skipped where K entries
+ * of theirs are held and the boxes around the two strips' sites (least and greatest x, y and height) are farther apart than the
+ * last of them: where the sum of the squares of the x gap, the y gap and the height gap, each 0 where the ranges touch or
+ * overlap, is greater than the last squared distance.
+ * Answers the grid, in which the customer's bit of the job's mark is set and their entry count is the new one, whether the job
+ * was swept (1) or skipped (0), and looks and distances, both 0 when skipped; or 15, 1, 2, 3 for each list, 7, 8, 9.
  */
-uint32_t vumlintel_job_classic(uint32_t *campaign_k, uint32_t *campaign_entries, uint32_t *first_strips,
-                               uint32_t *second_strips, uint32_t first_ends[32], uint32_t second_ends[32], uint8_t marks[1024],
-                               const int32_t *ax, size_t axs, const int32_t *ay, size_t ays, const uint32_t *an, size_t ans,
-                               const int32_t *ah, size_t ahs, const int32_t *bx, size_t bxs, const int32_t *by, size_t bys,
-                               const uint32_t *bn, size_t bns, const int32_t *bh, size_t bhs, uint64_t *distance,
-                               size_t distance_length, uint32_t *first, size_t first_length, uint32_t *second,
-                               size_t second_length, uint32_t first_strip, uint32_t second_strip, uint32_t *swept,
-                               uint64_t *looks, uint64_t *distances);
+uint32_t vumlintel_job_classic(uint32_t *first_strips, uint32_t *second_strips, uint32_t first_ends[32],
+                               uint32_t second_ends[32], uint8_t marks[1024], uint32_t *k1, uint32_t *entries1, uint32_t *k2,
+                               uint32_t *entries2, uint32_t customer, const int32_t *ax, size_t axs, const int32_t *ay,
+                               size_t ays, const uint32_t *an, size_t ans, const int32_t *ah, size_t ahs, const int32_t *bx,
+                               size_t bxs, const int32_t *by, size_t bys, const uint32_t *bn, size_t bns, const int32_t *bh,
+                               size_t bhs, uint64_t *distance, size_t distance_length, uint32_t *first, size_t first_length,
+                               uint32_t *second, size_t second_length, uint32_t first_strip, uint32_t second_strip,
+                               uint32_t *swept, uint64_t *looks, uint64_t *distances);
 
-uint32_t vumlintel_job_reverse_run(uint32_t *campaign_k, uint32_t *campaign_entries, uint32_t *first_strips,
-                                   uint32_t *second_strips, uint32_t first_ends[32], uint32_t second_ends[32],
-                                   uint8_t marks[1024], const int32_t *ax, size_t axs, const int32_t *ay, size_t ays,
-                                   const uint32_t *an, size_t ans, const int32_t *ah, size_t ahs, const int32_t *bx, size_t bxs,
-                                   const int32_t *by, size_t bys, const uint32_t *bn, size_t bns, const int32_t *bh, size_t bhs,
-                                   uint64_t *distance, size_t distance_length, uint32_t *first, size_t first_length,
-                                   uint32_t *second, size_t second_length, uint32_t first_strip, uint32_t second_strip,
-                                   uint32_t *swept, uint64_t *looks, uint64_t *distances);
+uint32_t vumlintel_job_reverse_run(uint32_t *first_strips, uint32_t *second_strips, uint32_t first_ends[32],
+                                   uint32_t second_ends[32], uint8_t marks[1024], uint32_t *k1, uint32_t *entries1,
+                                   uint32_t *k2, uint32_t *entries2, uint32_t customer, const int32_t *ax, size_t axs,
+                                   const int32_t *ay, size_t ays, const uint32_t *an, size_t ans, const int32_t *ah, size_t ahs,
+                                   const int32_t *bx, size_t bxs, const int32_t *by, size_t bys, const uint32_t *bn, size_t bns,
+                                   const int32_t *bh, size_t bhs, uint64_t *distance, size_t distance_length, uint32_t *first,
+                                   size_t first_length, uint32_t *second, size_t second_length, uint32_t first_strip,
+                                   uint32_t second_strip, uint32_t *swept, uint64_t *looks, uint64_t *distances);
 
 /*
  * The same by halves, from the two strips on and with the entries held: in place of looks and distances it answers the range
  * pairs, 0 when skipped. Jobs of one campaign may be done by different ways.
  */
-uint32_t vumlintel_job_halves(uint32_t *campaign_k, uint32_t *campaign_entries, uint32_t *first_strips, uint32_t *second_strips,
-                              uint32_t first_ends[32], uint32_t second_ends[32], uint8_t marks[1024], const int32_t *ax,
-                              size_t axs, const int32_t *ay, size_t ays, const uint32_t *an, size_t ans, const int32_t *ah,
-                              size_t ahs, const int32_t *bx, size_t bxs, const int32_t *by, size_t bys, const uint32_t *bn,
-                              size_t bns, const int32_t *bh, size_t bhs, uint64_t *distance, size_t distance_length,
-                              uint32_t *first, size_t first_length, uint32_t *second, size_t second_length,
-                              uint32_t first_strip, uint32_t second_strip, uint32_t *swept, uint64_t *range_pairs);
+uint32_t vumlintel_job_halves(uint32_t *first_strips, uint32_t *second_strips, uint32_t first_ends[32],
+                              uint32_t second_ends[32], uint8_t marks[1024], uint32_t *k1, uint32_t *entries1, uint32_t *k2,
+                              uint32_t *entries2, uint32_t customer, const int32_t *ax, size_t axs, const int32_t *ay,
+                              size_t ays, const uint32_t *an, size_t ans, const int32_t *ah, size_t ahs, const int32_t *bx,
+                              size_t bxs, const int32_t *by, size_t bys, const uint32_t *bn, size_t bns, const int32_t *bh,
+                              size_t bhs, uint64_t *distance, size_t distance_length, uint32_t *first, size_t first_length,
+                              uint32_t *second, size_t second_length, uint32_t first_strip, uint32_t second_strip,
+                              uint32_t *swept, uint64_t *range_pairs);
 
-/* Answers the jobs settled, the jobs in all, the entries and K; or 1, 2, 3 for each list, 7. Writes nothing else. */
-uint32_t vumlintel_status(const uint32_t *campaign_k, const uint32_t *campaign_entries, const uint32_t *first_strips,
-                          const uint32_t *second_strips, const uint32_t first_ends[32], const uint32_t second_ends[32],
-                          const uint8_t marks[1024], const int32_t *ax, size_t axs, const int32_t *ay, size_t ays,
-                          const uint32_t *an, size_t ans, const int32_t *ah, size_t ahs, const int32_t *bx, size_t bxs,
-                          const int32_t *by, size_t bys, const uint32_t *bn, size_t bns, const int32_t *bh, size_t bhs,
-                          const uint64_t *distance, size_t distance_length, const uint32_t *first, size_t first_length,
-                          const uint32_t *second, size_t second_length, uint32_t *settled, uint32_t *jobs, uint32_t *entries,
-                          uint32_t *k);
+/*
+ * Answers the jobs settled for one customer, the jobs in all, their entries and their K; or 15, 1, 2, 3 for each list, 7.
+ * Writes nothing else.
+ */
+uint32_t vumlintel_status(const uint32_t *first_strips, const uint32_t *second_strips, const uint32_t first_ends[32],
+                          const uint32_t second_ends[32], const uint8_t marks[1024], const uint32_t *k1,
+                          const uint32_t *entries1, const uint32_t *k2, const uint32_t *entries2, uint32_t customer,
+                          const int32_t *ax, size_t axs, const int32_t *ay, size_t ays, const uint32_t *an, size_t ans,
+                          const int32_t *ah, size_t ahs, const int32_t *bx, size_t bxs, const int32_t *by, size_t bys,
+                          const uint32_t *bn, size_t bns, const int32_t *bh, size_t bhs, const uint64_t *distance,
+                          size_t distance_length, const uint32_t *first, size_t first_length, const uint32_t *second,
+                          size_t second_length, uint32_t *settled, uint32_t *jobs, uint32_t *entries, uint32_t *k);
 
 /* Writes two lists, three columns each, as a site file from a buffer's start on: its length, or 1, 2, 3 for each list, 6. */
 uint32_t vumlintel_write_file(const int32_t *ax, size_t axs, const int32_t *ay, size_t ays, const uint32_t *an, size_t ans,

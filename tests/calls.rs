@@ -1,7 +1,7 @@
 //! The exported calls, safe, with all that is lent between fences: a write outside a lent buffer is seen, and so is a
 //! changed element of what is lent to be read only, and an answer written by a refused call.
 
-use crate::model::{Campaign, Columns, Counters, Results, Site, Status, Way};
+use crate::model::{Columns, Counters, Grid, Opening, Results, Site, Status, Way};
 use crate::plane;
 use crate::raw::{self, Band};
 
@@ -260,42 +260,58 @@ pub fn forecast(a: &Columns, b: &Columns, e: u32, partners: &mut Vec<u32>) -> Re
     told(number, total, L)
 }
 
-/// The campaign is written in place by an accepted opening.
-pub fn open(
-    a: &Columns,
-    b: &Columns,
-    k: u32,
-    first_cut: &[u32],
-    second_cut: &[u32],
-    r: &Results,
-    c: &mut Campaign,
-) -> Result<(), u32> {
+/// The grid is written in place by an accepted preparing.
+pub fn prepare(a: &Columns, b: &Columns, first_cut: &[u32], second_cut: &[u32], g: &mut Grid) -> Result<(), u32> {
     let (p, q) = (LentList::new(a), LentList::new(b));
     let (f, s) = (Lent::new(first_cut, U), Lent::new(second_cut, U));
-    let l = LentResults::new(r);
+    let [one, two] = &mut g.shares;
     let number = unsafe {
-        raw::vumlintel_open(
+        raw::vumlintel_prepare(
             p.x.shared(), p.x.len(), p.y.shared(), p.y.len(), p.n.shared(), p.n.len(), p.h.shared(), p.h.len(),
             q.x.shared(), q.x.len(), q.y.shared(), q.y.len(), q.n.shared(), q.n.len(), q.h.shared(), q.h.len(),
-            k,
             f.shared(), f.len(), s.shared(), s.len(),
-            l.distance.shared(), l.distance.len(), l.first.shared(), l.first.len(), l.second.shared(), l.second.len(),
-            &mut c.k, &mut c.entries, &mut c.first_strips, &mut c.second_strips,
-            &mut c.first_ends, &mut c.second_ends, &mut c.marks,
+            &mut g.first_strips, &mut g.second_strips, &mut g.first_ends, &mut g.second_ends, &mut g.marks,
+            &mut one.k, &mut one.entries, &mut two.k, &mut two.entries,
         )
     };
     p.unchanged(a);
     q.unchanged(b);
     f.unchanged(first_cut);
     s.unchanged(second_cut);
+    told(number, (), ())
+}
+
+/// The grid is changed in place by an accepted opening.
+pub fn open(g: &mut Grid, customer: u32, a: &Columns, b: &Columns, o: Opening, r: &Results) -> Result<(), u32> {
+    let (p, q) = (LentList::new(a), LentList::new(b));
+    let (f, s) = (Lent::new(o.first_ends, U), Lent::new(o.second_ends, U));
+    let l = LentResults::new(r);
+    let [one, two] = &mut g.shares;
+    let number = unsafe {
+        raw::vumlintel_open(
+            &mut g.first_strips, &mut g.second_strips, &mut g.first_ends, &mut g.second_ends, &mut g.marks,
+            &mut one.k, &mut one.entries, &mut two.k, &mut two.entries,
+            customer,
+            p.x.shared(), p.x.len(), p.y.shared(), p.y.len(), p.n.shared(), p.n.len(), p.h.shared(), p.h.len(),
+            q.x.shared(), q.x.len(), q.y.shared(), q.y.len(), q.n.shared(), q.n.len(), q.h.shared(), q.h.len(),
+            o.k,
+            f.shared(), f.len(), s.shared(), s.len(),
+            l.distance.shared(), l.distance.len(), l.first.shared(), l.first.len(), l.second.shared(), l.second.len(),
+        )
+    };
+    p.unchanged(a);
+    q.unchanged(b);
+    f.unchanged(o.first_ends);
+    s.unchanged(o.second_ends);
     assert!(l.back() == *r, "opening wrote a result column");
     told(number, (), ())
 }
 
-/// Whether the job was swept, and the counters; the campaign and the columns are changed in place.
+/// Whether the job was swept, and the counters; the grid and the columns are changed in place.
 pub fn job(
     way: Way,
-    c: &mut Campaign,
+    g: &mut Grid,
+    customer: u32,
     a: &Columns,
     b: &Columns,
     r: &mut Results,
@@ -306,11 +322,13 @@ pub fn job(
     let mut l = LentResults::new(r);
     let (mut swept, mut counters) = (U, unwritten(way));
     let Counters { looks, distances, range_pairs } = &mut counters;
+    let [one, two] = &mut g.shares;
     macro_rules! call {
         ($call:ident, $($counter:ident),*) => {
             raw::$call(
-                &mut c.k, &mut c.entries, &mut c.first_strips, &mut c.second_strips,
-                &mut c.first_ends, &mut c.second_ends, &mut c.marks,
+                &mut g.first_strips, &mut g.second_strips, &mut g.first_ends, &mut g.second_ends, &mut g.marks,
+                &mut one.k, &mut one.entries, &mut two.k, &mut two.entries,
+                customer,
                 p.x.shared(), p.x.len(), p.y.shared(), p.y.len(), p.n.shared(), p.n.len(), p.h.shared(), p.h.len(),
                 q.x.shared(), q.x.len(), q.y.shared(), q.y.len(), q.n.shared(), q.n.len(), q.h.shared(), q.h.len(),
                 l.distance.exclusive(), l.distance.len(),
@@ -334,15 +352,17 @@ pub fn job(
     told(number, (swept, counters), (U, unwritten(way)))
 }
 
-pub fn status(c: &Campaign, a: &Columns, b: &Columns, r: &Results) -> Result<Status, u32> {
+pub fn status(g: &Grid, customer: u32, a: &Columns, b: &Columns, r: &Results) -> Result<Status, u32> {
     let (p, q) = (LentList::new(a), LentList::new(b));
     let l = LentResults::new(r);
-    let before = c.clone();
+    let before = g.clone();
     let (mut settled, mut jobs, mut entries, mut k) = (U, U, U, U);
+    let [one, two] = &g.shares;
     let number = unsafe {
         raw::vumlintel_status(
-            &c.k, &c.entries, &c.first_strips, &c.second_strips,
-            &c.first_ends, &c.second_ends, &c.marks,
+            &g.first_strips, &g.second_strips, &g.first_ends, &g.second_ends, &g.marks,
+            &one.k, &one.entries, &two.k, &two.entries,
+            customer,
             p.x.shared(), p.x.len(), p.y.shared(), p.y.len(), p.n.shared(), p.n.len(), p.h.shared(), p.h.len(),
             q.x.shared(), q.x.len(), q.y.shared(), q.y.len(), q.n.shared(), q.n.len(), q.h.shared(), q.h.len(),
             l.distance.shared(), l.distance.len(), l.first.shared(), l.first.len(), l.second.shared(), l.second.len(),
@@ -351,7 +371,7 @@ pub fn status(c: &Campaign, a: &Columns, b: &Columns, r: &Results) -> Result<Sta
     };
     p.unchanged(a);
     q.unchanged(b);
-    assert!(*c == before && l.back() == *r, "status wrote the campaign or a result column");
+    assert!(*g == before && l.back() == *r, "status wrote the grid or a result column");
     told(number, Status { settled, jobs, entries, k }, Status { settled: U, jobs: U, entries: U, k: U })
 }
 

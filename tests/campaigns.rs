@@ -1,19 +1,36 @@
-//! Opening, jobs and status beside the brute force, and whole histories beside the book.
+//! Preparing, opening, jobs and status beside the brute force, and whole histories of one customer beside their book. The other
+//! customer's part of the grid holds anything meanwhile.
 
 use crate::calls;
 use crate::harness::{Harness, progress};
 use crate::lists::{HIGHEST, LOWEST, MAX, damaged, even, f, lawful, stacked};
-use crate::model::{self, Book, Campaign, Columns, Counters, Results, Status, Strip, WAYS, Way, site};
+use crate::model::{self, Book, CUSTOMERS, Columns, Counters, Grid, Opening, Results, Share, Status, Strip, WAYS, Way, site};
 use crate::random::Random;
 use std::collections::BTreeMap;
 
-/// All that a campaign's calls are lent.
+/// All that a customer's calls are lent, their number included.
 #[derive(Clone)]
 pub struct Bench {
     pub a: Columns,
     pub b: Columns,
     pub r: Results,
-    pub c: Campaign,
+    pub g: Grid,
+    pub customer: u32,
+}
+
+impl Bench {
+    pub fn share(&self) -> &Share {
+        self.g.share(self.customer)
+    }
+
+    pub fn share_mut(&mut self) -> &mut Share {
+        self.g.share_mut(self.customer)
+    }
+
+    /// Sets the customer's bit of a mark, or clears it.
+    pub fn mark(&mut self, mark: usize, settled: bool) {
+        self.g.marks[mark] = model::marked(self.customer, self.g.marks[mark], settled);
+    }
 }
 
 pub fn results(r: &mut Random, lengths: [usize; 3]) -> Results {
@@ -24,31 +41,98 @@ pub fn results(r: &mut Random, lengths: [usize; 3]) -> Results {
     }
 }
 
-/// A campaign that holds anything, as before an opening.
-pub fn anything(r: &mut Random) -> Campaign {
-    let mut c = model::blank_campaign();
-    c.k = r.next() as u32;
-    c.entries = r.next() as u32;
-    c.first_strips = r.next() as u32;
-    c.second_strips = r.next() as u32;
-    c.first_ends = [0; 32].map(|_: u32| r.next() as u32);
-    c.second_ends = [0; 32].map(|_: u32| r.next() as u32);
-    c.marks = [0; 1024].map(|_: u8| r.next() as u8);
-    c
+/// A grid that holds anything, as before a preparing.
+pub fn anything(r: &mut Random) -> Grid {
+    let mut g = model::blank_grid();
+    g.first_strips = r.next() as u32;
+    g.second_strips = r.next() as u32;
+    g.first_ends = [0; 32].map(|_: u32| r.next() as u32);
+    g.second_ends = [0; 32].map(|_: u32| r.next() as u32);
+    g.marks = [0; 1024].map(|_: u8| r.next() as u8);
+    g.shares = g.shares.map(|_| Share { k: r.next() as u32, entries: r.next() as u32 });
+    g
+}
+
+/// Either customer.
+pub fn either(r: &mut Random) -> u32 {
+    CUSTOMERS[r.below(2)]
+}
+
+pub fn other_customer(customer: u32) -> u32 {
+    3 - customer
+}
+
+/// Puts anything into a customer's part of a lawful grid: whatever K and entry count, whatever bits inside the jobs.
+pub fn any_part(r: &mut Random, g: &mut Grid, customer: u32) {
+    let number = |r: &mut Random| [0, 1, 5, 4_096, 4_097, u32::MAX, r.next() as u32][r.below(7)];
+    *g.share_mut(customer) = Share { k: number(r), entries: number(r) };
+    for s in 0..g.first_strips as usize {
+        for t in 0..g.second_strips as usize {
+            let mark = &mut g.marks[32 * s + t];
+            *mark = model::marked(customer, *mark, r.once_in(2));
+        }
+    }
+}
+
+/// A grid prepared for cuts of two lists, in which the other customer has anything, and columns of these lengths.
+pub fn prepared(
+    r: &mut Random,
+    customer: u32,
+    lists: [&Columns; 2],
+    ends: [&[u32]; 2],
+    lengths: [usize; 3],
+) -> Bench {
+    let [a, b] = lists.map(Columns::clone);
+    let mut bench = Bench { a, b, r: results(r, lengths), g: anything(r), customer };
+    same_prepare(&mut bench, ends[0], ends[1]).unwrap();
+    any_part(r, &mut bench.g, other_customer(customer));
+    bench
+}
+
+/// The same after an opening with this K.
+pub fn opened(
+    r: &mut Random,
+    customer: u32,
+    lists: [&Columns; 2],
+    ends: [&[u32]; 2],
+    k: u32,
+    lengths: [usize; 3],
+) -> Bench {
+    let mut bench = prepared(r, customer, lists, ends, lengths);
+    same_open(&mut bench, k, ends[0], ends[1]).unwrap();
+    bench
+}
+
+pub fn same_prepare(bench: &mut Bench, first: &[u32], second: &[u32]) -> Result<(), u32> {
+    let expected = model::prepare(&bench.a, &bench.b, first, second);
+    let before = bench.g.clone();
+    let answer = calls::prepare(&bench.a, &bench.b, first, second, &mut bench.g);
+    match expected {
+        Ok(grid) => {
+            assert_eq!(answer, Ok(()), "{first:?} {second:?}");
+            assert!(bench.g == grid, "the grid differs: {:?}", bench.g);
+        }
+        Err(refusal) => {
+            assert_eq!(answer, Err(refusal), "{first:?} {second:?}");
+            assert!(bench.g == before, "a refused preparing changed the grid");
+        }
+    }
+    answer
 }
 
 pub fn same_open(bench: &mut Bench, k: u32, first: &[u32], second: &[u32]) -> Result<(), u32> {
-    let expected = model::open(&bench.a, &bench.b, k, first, second, &bench.r);
-    let before = bench.c.clone();
-    let answer = calls::open(&bench.a, &bench.b, k, first, second, &bench.r, &mut bench.c);
+    let o = Opening { k, first_ends: first, second_ends: second };
+    let before = bench.g.clone();
+    let expected = model::open(&before, bench.customer, &bench.a, &bench.b, o, &bench.r);
+    let answer = calls::open(&mut bench.g, bench.customer, &bench.a, &bench.b, o, &bench.r);
     match expected {
-        Ok(campaign) => {
-            assert_eq!(answer, Ok(()), "k {k} {first:?} {second:?}");
-            assert!(bench.c == campaign, "the campaign differs: {:?}", bench.c);
+        Ok(grid) => {
+            assert_eq!(answer, Ok(()), "customer {} {o:?}", bench.customer);
+            assert!(bench.g == grid, "the grid differs: {:?}", bench.g);
         }
         Err(refusal) => {
-            assert_eq!(answer, Err(refusal), "k {k} {first:?} {second:?}");
-            assert!(bench.c == before, "a refused opening changed the campaign");
+            assert_eq!(answer, Err(refusal), "customer {} {o:?}", bench.customer);
+            assert!(bench.g == before, "a refused opening changed the grid");
         }
     }
     answer
@@ -56,27 +140,29 @@ pub fn same_open(bench: &mut Bench, k: u32, first: &[u32], second: &[u32]) -> Re
 
 pub fn same_job(way: Way, bench: &mut Bench, s: u32, t: u32) -> Result<bool, u32> {
     let before = bench.clone();
-    let expected = model::job(way, &before.c, &before.a, &before.b, &before.r, s, t);
-    let answer = calls::job(way, &mut bench.c, &bench.a, &bench.b, &mut bench.r, s, t);
+    let customer = bench.customer;
+    let expected = model::job(way, &before.g, customer, &before.a, &before.b, &before.r, s, t);
+    let answer = calls::job(way, &mut bench.g, customer, &bench.a, &bench.b, &mut bench.r, s, t);
     match expected {
         Ok(done) => {
-            assert_eq!(answer, Ok((done.swept as u32, done.counters)), "{way:?} job {s} {t}");
-            assert!(bench.c == done.campaign, "{way:?} job {s} {t}: the campaign differs");
-            assert!(bench.r == done.results, "{way:?} job {s} {t}: a column differs");
+            assert_eq!(answer, Ok((done.swept as u32, done.counters)), "customer {customer} {way:?} job {s} {t}");
+            assert!(bench.g == done.grid, "customer {customer} {way:?} job {s} {t}: the grid differs");
+            assert!(bench.r == done.results, "customer {customer} {way:?} job {s} {t}: a column differs");
             assert!(done.swept || done.counters == Counters::default());
             Ok(done.swept)
         }
         Err(refusal) => {
-            assert_eq!(answer, Err(refusal), "{way:?} job {s} {t}");
-            assert!(bench.c == before.c && bench.r == before.r, "a refused job changed something");
+            assert_eq!(answer, Err(refusal), "customer {customer} {way:?} job {s} {t}");
+            assert!(bench.g == before.g && bench.r == before.r, "a refused job changed something");
             Err(refusal)
         }
     }
 }
 
 pub fn same_status(bench: &Bench) -> Result<Status, u32> {
-    let answer = calls::status(&bench.c, &bench.a, &bench.b, &bench.r);
-    assert_eq!(answer, model::status(&bench.c, &bench.a, &bench.b, &bench.r));
+    let answer = calls::status(&bench.g, bench.customer, &bench.a, &bench.b, &bench.r);
+    let expected = model::status(&bench.g, bench.customer, &bench.a, &bench.b, &bench.r);
+    assert_eq!(answer, expected, "customer {}", bench.customer);
     answer
 }
 
@@ -97,7 +183,7 @@ pub fn cuts(r: &mut Random, sites: usize) -> Vec<u32> {
 }
 
 /// A strip number, now and then one that is not below the count.
-fn strip_number(r: &mut Random, strips: usize) -> u32 {
+pub fn strip_number(r: &mut Random, strips: usize) -> u32 {
     if strips == 0 || r.once_in(12) {
         return [strips as u32, 32, u32::MAX][r.below(3)];
     }
@@ -112,9 +198,9 @@ fn fixed_example() {
         [Way::Halves, Way::Classic, Way::ReverseRun, Way::Halves],
         [Way::ReverseRun, Way::Halves, Way::Halves, Way::Classic],
     ];
-    for ways in WAYS.map(|way| [way; 4]).into_iter().chain(mixed) {
-        let mut bench = Bench { a: Columns::of(&a), b: Columns::of(&b), r: results(r, [2, 3, 4]), c: anything(r) };
-        same_open(&mut bench, 2, &[2, 3], &[1, 3]).unwrap();
+    let lists = [&Columns::of(&a), &Columns::of(&b)];
+    for (i, ways) in WAYS.map(|way| [way; 4]).into_iter().chain(mixed).chain(mixed).enumerate() {
+        let mut bench = opened(r, CUSTOMERS[i % 2], lists, [&[2, 3], &[1, 3]], 2, [2, 3, 4]);
         let jobs = [(0, 0, true), (1, 0, false), (0, 1, true), (1, 1, true)];
         for (way, (s, t, swept)) in ways.into_iter().zip(jobs) {
             assert_eq!(same_job(way, &mut bench, s, t), Ok(swept));
@@ -129,24 +215,35 @@ fn fixed_example() {
 
 fn opening_refusals() {
     let r = &mut Random::new(51);
+    for customer in CUSTOMERS {
+        refused_openings(r, customer);
+    }
+}
+
+/// Preparings and openings as one customer. An opening gets the refusals of a preparing with the same lists and ends, too.
+fn refused_openings(r: &mut Random, customer: u32) {
     let (a, b) = f();
     let (a, b) = (Columns::of(&a), Columns::of(&b));
-    let bench = Bench { a, b, r: results(r, [5, 5, 5]), c: anything(r) };
     let lawful: &[u32] = &[1, 3];
+    let bench = prepared(r, customer, [&a, &b], [lawful, lawful], [5, 5, 5]);
     let unlawful: [&[u32]; 10] =
         [&[], &[0], &[0, 3], &[1], &[4], &[1, 4], &[2, 1, 3], &[1, 1, 3], &[3, 3], &[u32::MAX, 3]];
     for ends in unlawful {
-        assert_eq!(same_open(&mut bench.clone(), 5, ends, lawful), Err(5));
-        assert_eq!(same_open(&mut bench.clone(), 5, lawful, ends), Err(5));
-        // 4 before 5, 5 before 6
-        assert_eq!(same_open(&mut bench.clone(), 0, ends, lawful), Err(4));
-        assert_eq!(same_open(&mut bench.clone(), 4_097, lawful, ends), Err(4));
-        assert_eq!(same_open(&mut bench.clone(), 6, ends, lawful), Err(5));
+        for (first, second) in [(ends, lawful), (lawful, ends), (ends, ends)] {
+            assert_eq!(same_prepare(&mut bench.clone(), first, second), Err(5));
+            assert_eq!(same_open(&mut bench.clone(), 5, first, second), Err(5));
+            // 4 before 5, 5 before 6
+            assert_eq!(same_open(&mut bench.clone(), 0, first, second), Err(4));
+            assert_eq!(same_open(&mut bench.clone(), 4_097, first, second), Err(4));
+            assert_eq!(same_open(&mut bench.clone(), 6, first, second), Err(5));
+        }
     }
     assert_eq!(same_open(&mut bench.clone(), 6, lawful, lawful), Err(6));
     for ends in [&[3][..], &[1, 3], &[2, 3], &[1, 2, 3]] {
-        assert_eq!(same_open(&mut bench.clone(), 5, ends, lawful), Ok(()));
-        assert_eq!(same_open(&mut bench.clone(), 5, lawful, ends), Ok(()));
+        for (first, second) in [(ends, lawful), (lawful, ends)] {
+            let mut one = prepared(r, customer, [&a, &b], [first, second], [5, 5, 5]);
+            assert_eq!(same_open(&mut one, 5, first, second), Ok(()));
+        }
     }
     for k in [1usize, 5, 4_096] {
         for lengths in [[k - 1, k, k], [k, k - 1, k], [k, k, k - 1], [k, k, k]] {
@@ -156,27 +253,32 @@ fn opening_refusals() {
         }
     }
     // empty lists have no ends, and every job of theirs gets 8
-    let mut one = Bench { a: Columns::default(), ..bench.clone() };
+    let none = Columns::default();
+    let mut one = Bench { a: none.clone(), ..bench.clone() };
+    assert_eq!(same_prepare(&mut one, &[0], lawful), Err(5));
+    let mut one = prepared(r, customer, [&none, &b], [&[], lawful], [5, 5, 5]);
     assert_eq!(same_open(&mut one, 5, &[0], lawful), Err(5));
     assert_eq!(same_open(&mut one, 5, &[], lawful), Ok(()));
     assert_eq!(same_job(Way::Classic, &mut one, 0, 0), Err(8));
     assert_eq!(same_status(&one), Ok(Status { settled: 0, jobs: 0, entries: 0, k: 5 }));
     // 32 ends are taken, 33 are not
     let sites: Vec<_> = (0..40).map(|x| site(x, 0, 0)).collect();
-    let mut one = Bench { a: Columns::of(&sites), ..bench.clone() };
-    let ends: Vec<u32> = (9..=40).collect();
-    assert_eq!(same_open(&mut one, 5, &ends, lawful), Ok(()));
-    let ends: Vec<u32> = (8..=40).collect();
-    assert_eq!(same_open(&mut one, 5, &ends, lawful), Err(5));
+    let long = Columns::of(&sites);
+    let (most, more): (Vec<u32>, Vec<u32>) = ((9..=40).collect(), (8..=40).collect());
+    let mut one = prepared(r, customer, [&long, &b], [&most, lawful], [5, 5, 5]);
+    assert_eq!(same_open(&mut one, 5, &more, lawful), Err(5));
+    assert_eq!(same_prepare(&mut one, &more, lawful), Err(5));
+    assert_eq!(same_open(&mut one, 5, &most, lawful), Ok(()));
     // lists before everything, the first before the second
     let high = Columns::of(&[site(0, MAX + 1, 0)]);
     let falling = Columns::of(&[site(1, 0, 0), site(0, 0, 0)]);
     let mut one = Bench { a: falling.clone(), b: high.clone(), ..bench.clone() };
-    assert_eq!(same_open(&mut one, 0, &[], &[]), Err(3));
+    let refused = |one: &mut Bench| [same_prepare(one, &[], &[]), same_open(one, 0, &[], &[])];
+    assert_eq!(refused(&mut one), [Err(3); 2]);
     one.a = bench.a.clone();
-    assert_eq!(same_open(&mut one, 0, &[], &[]), Err(2));
+    assert_eq!(refused(&mut one), [Err(2); 2]);
     one.b.y.pop();
-    assert_eq!(same_open(&mut one, 0, &[], &[]), Err(1));
+    assert_eq!(refused(&mut one), [Err(1); 2]);
 }
 
 /// A number beside this one, or one of these.
@@ -188,52 +290,58 @@ fn other_than(r: &mut Random, number: u32, others: &[u32]) -> u32 {
     }
 }
 
-/// Changes one thing of what a campaign's calls are lent.
-fn tamper(r: &mut Random, bench: &mut Bench) {
-    let c = &mut bench.c;
-    let (first, second) = (c.first_strips.min(31) as usize, c.second_strips.min(31) as usize);
-    let entries = bench.r.shortest().min(c.entries as usize);
+/// Changes one thing of what a customer's calls are lent.
+pub fn tamper(r: &mut Random, bench: &mut Bench) {
+    let Share { k, entries } = *bench.share();
+    let whose = either(r);
+    let g = &mut bench.g;
+    let share = *g.share(whose);
+    let job = 32 * r.below(g.first_strips.min(31) as usize + 1) + r.below(g.second_strips.min(31) as usize + 1);
+    let (k, entries) = (k as usize, bench.r.shortest().min(entries as usize));
     let (n, m) = (bench.a.shortest(), bench.b.shortest());
-    match r.below(24) {
-        0 => c.k = other_than(r, c.k, &[0, 4_097, u32::MAX]),
-        1 => c.entries = other_than(r, c.entries, &[u32::MAX, c.k, 0]),
-        2 => c.first_strips = other_than(r, c.first_strips, &[33, u32::MAX, 0]),
-        3 => c.second_strips = other_than(r, c.second_strips, &[33, u32::MAX, 0]),
-        4 => c.first_ends[r.below(32)] = [0, 1, 5, u32::MAX, r.next() as u32][r.below(5)],
-        5 => c.second_ends[r.below(32)] = [0, 1, 5, u32::MAX, r.next() as u32][r.below(5)],
-        6 => c.marks[r.below(1024)] = [0, 1, 2, 255][r.below(4)],
-        7 => c.marks[32 * r.below(first + 1) + r.below(second + 1)] ^= 1,
-        8 => c.marks[32 * r.below(first + 1) + r.below(second + 1)] = 2,
-        9 => bench.r.distance.truncate((c.k as usize).saturating_sub(1)),
-        10 => bench.r.first.truncate((c.k as usize).saturating_sub(1)),
-        11 => bench.r.second.truncate((c.k as usize).saturating_sub(1)),
-        12 => bench.a = damaged(r, &bench.a),
-        13 => bench.b = damaged(r, &bench.b),
-        14 => std::mem::swap(&mut bench.a, &mut bench.b),
-        15 => {
+    match r.below(30) {
+        0 => g.share_mut(bench.customer).k = other_than(r, k as u32, &[0, 4_097, u32::MAX]),
+        1 => g.share_mut(bench.customer).entries = other_than(r, entries as u32, &[u32::MAX, k as u32, 0]),
+        2 => g.first_strips = other_than(r, g.first_strips, &[33, u32::MAX, 0]),
+        3 => g.second_strips = other_than(r, g.second_strips, &[33, u32::MAX, 0]),
+        4 => g.first_ends[r.below(32)] = [0, 1, 5, u32::MAX, r.next() as u32][r.below(5)],
+        5 => g.second_ends[r.below(32)] = [0, 1, 5, u32::MAX, r.next() as u32][r.below(5)],
+        6 => g.marks[r.below(1024)] = [0, 1, 2, 3, 4, 255, r.next() as u8][r.below(7)],
+        7 => g.marks[job] ^= whose as u8,
+        8 => g.marks[job] = [4, 5, 7, 128, 255, 4 | r.next() as u8][r.below(6)],
+        9 => g.share_mut(whose).k = other_than(r, share.k, &[0, 4_097, u32::MAX]),
+        10 => g.share_mut(whose).entries = other_than(r, share.entries, &[u32::MAX, share.k, 0]),
+        11 => g.marks[job] ^= 3,
+        12 => bench.r.distance.truncate(k.saturating_sub(1)),
+        13 => bench.r.first.truncate(k.saturating_sub(1)),
+        14 => bench.r.second.truncate(k.saturating_sub(1)),
+        15 => bench.a = damaged(r, &bench.a),
+        16 => bench.b = damaged(r, &bench.b),
+        17 => std::mem::swap(&mut bench.a, &mut bench.b),
+        18 => {
             // a lawful list of as many sites, moved up
             for y in &mut bench.a.y {
                 *y = y.saturating_add(1).min(MAX);
             }
         }
-        16 => {
+        19 => {
             // one floor higher
             for h in &mut bench.b.height {
                 *h = h.saturating_add(1).min(HIGHEST);
             }
         }
-        17 if n > 0 => bench.a.height[r.below(n)] = [LOWEST, 0, HIGHEST, HIGHEST + 1][r.below(4)],
+        20 if n > 0 => bench.a.height[r.below(n)] = [LOWEST, 0, HIGHEST, HIGHEST + 1][r.below(4)],
         _ if entries == 0 => bench.r = results(r, [4_100, 4_100, 4_100]),
-        18 => bench.r.distance[r.below(entries)] ^= 1 << r.below(64),
-        19 => bench.r.first[r.below(entries)] = [u32::MAX, bench.a.x.len() as u32, 0][r.below(3)],
-        20 => bench.r.second[r.below(entries)] = [u32::MAX, bench.b.x.len() as u32, 0][r.below(3)],
-        21 => {
+        21 => bench.r.distance[r.below(entries)] ^= 1 << r.below(64),
+        22 => bench.r.first[r.below(entries)] = [u32::MAX, bench.a.x.len() as u32, 0][r.below(3)],
+        23 => bench.r.second[r.below(entries)] = [u32::MAX, bench.b.x.len() as u32, 0][r.below(3)],
+        24 => {
             let (i, j) = (r.below(entries), r.below(entries));
             bench.r.distance.swap(i, j);
             bench.r.first.swap(i, j);
             bench.r.second.swap(i, j);
         }
-        22 => {
+        25 => {
             // an entry twice
             let i = r.below(entries);
             let j = (i + 1) % entries;
@@ -258,7 +366,7 @@ fn tamper(r: &mut Random, bench: &mut Bench) {
 }
 
 /// What a history showed: refusals, faults of refusal 7, by each way jobs swept, skipped and repeated, jobs skipped though the
-/// x gap alone would not do, and though the x and y gaps would not, and tampered campaigns that passed.
+/// x gap alone would not do, and though the x and y gaps would not, and tampered grids that passed.
 #[derive(Default)]
 struct Seen {
     refusals: BTreeMap<u32, u32>,
@@ -278,22 +386,22 @@ impl Seen {
     }
 }
 
-/// Calls on a campaign that somebody tampered with: each as the brute force says, whatever it is.
+/// Calls on a grid that somebody tampered with: each as the brute force says, whatever it is.
 fn tampered_calls(r: &mut Random, bench: &Bench, seen: &mut Seen) {
     let mut other = bench.clone();
     for _ in 0..1 + r.below(2) {
         tamper(r, &mut other);
     }
     if let Ok((a, b)) = model::lists(&other.a, &other.b) {
-        match other.c.fault(&a, &b, &other.r) {
+        match other.g.fault(other.customer, &a, &b, &other.r) {
             Some(fault) => *seen.faults.entry(fault).or_default() += 1,
             None => seen.passed += 1,
         }
     }
     seen.told(same_status(&other));
     for way in WAYS {
-        let s = r.below(other.c.first_strips.min(32) as usize + 1) as u32;
-        let t = r.below(other.c.second_strips.min(32) as usize + 1) as u32;
+        let s = r.below(other.g.first_strips.min(32) as usize + 1) as u32;
+        let t = r.below(other.g.second_strips.min(32) as usize + 1) as u32;
         seen.told(same_job(way, &mut other, s, t));
     }
 }
@@ -303,29 +411,29 @@ fn swept_by(gaps: usize, bench: &Bench, s: u32, t: u32) -> bool {
     let (a, b) = model::lists(&bench.a, &bench.b).unwrap();
     let strip = |(from, to), sites| Strip { sites, from, to };
     let squares = model::squared_gaps(
-        strip(model::strip_range(&bench.c.first_ends, s as usize), &a),
-        strip(model::strip_range(&bench.c.second_ends, t as usize), &b),
+        strip(model::strip_range(&bench.g.first_ends, s as usize), &a),
+        strip(model::strip_range(&bench.g.second_ends, t as usize), &b),
     );
-    squares[..gaps].iter().sum::<i128>() <= bench.r.distance[bench.c.k as usize - 1] as i128
+    squares[..gaps].iter().sum::<i128>() <= bench.r.distance[bench.share().k as usize - 1] as i128
 }
 
-/// One history: an opening, then calls of every kind, each held to the brute force and to the book.
+/// One history of a customer: an opening, then calls of every kind, each held to the brute force and to the book.
 fn history(r: &mut Random, kind: usize, seen: &mut Seen) {
     let (n, m) = ([0, 1, 3, 10, 40][r.below(5)], [1, 2, 3, 10, 40][r.below(5)]);
     let (a, b) = (Columns::of(&lawful(r, kind, n)), Columns::of(&lawful(r, kind, m)));
     let k = [1, 2, 5, 1 + r.below(30) as u32, 4_096][r.below(5)];
     let lengths = [0; 3].map(|_| k as usize + r.below(3));
     let (first, second) = (cuts(r, a.x.len()), cuts(r, b.x.len()));
-    let mut bench = Bench { a, b, r: results(r, lengths), c: anything(r) };
-    same_open(&mut bench, k, &first, &second).unwrap();
-    let mut book = Book::opened(&bench.a, &bench.b, k, &first, &second);
+    let customer = either(r);
+    let mut bench = opened(r, customer, [&a, &b], [&first, &second], k, lengths);
+    let mut book = Book::opened(&a, &b, Opening { k, first_ends: &first, second_ends: &second });
     let jobs = first.len() * second.len();
     for _ in 0..6 + 2 * jobs.min(60) {
         match r.below(12) {
             0 => tampered_calls(r, &bench, seen),
             1 => seen.told(same_status(&bench)),
             2 => {
-                // a refused opening leaves the campaign
+                // a refused opening leaves the grid
                 let ends: &[u32] = &[9, 8];
                 let answer = same_open(&mut bench, k, ends, &second);
                 assert!(answer.is_err());
@@ -350,7 +458,7 @@ fn history(r: &mut Random, kind: usize, seen: &mut Seen) {
             }
         }
         let status = book.status();
-        assert_eq!(calls::status(&bench.c, &bench.a, &bench.b, &bench.r), Ok(status));
+        assert_eq!(calls::status(&bench.g, customer, &bench.a, &bench.b, &bench.r), Ok(status));
         assert_eq!(bench.r.entries(status.entries as usize), book.entries(), "the book holds other entries");
     }
     if !book.no_open_job() {
@@ -359,7 +467,7 @@ fn history(r: &mut Random, kind: usize, seen: &mut Seen) {
     seen.complete += 1;
     let mut whole = results(r, lengths);
     let (count, _) = calls::k_list(Way::Classic, &bench.a, &bench.b, k, &mut whole).unwrap();
-    assert_eq!(count, bench.c.entries);
+    assert_eq!(count, bench.share().entries);
     assert_eq!(whole.entries(count as usize), bench.r.entries(count as usize));
 }
 
@@ -374,7 +482,7 @@ fn histories(r: &mut Random) {
         assert!(seen.refusals.get(&number).is_some_and(|n| *n > 50), "{:?}", seen.refusals);
     }
     let faults = [
-        "K", "strip count", "ends", "mark above 1", "mark outside the jobs", "column", "entry count", "place",
+        "K", "strip count", "ends", "mark above 3", "mark outside the jobs", "column", "entry count", "place",
         "squared distance", "co-sited", "unsettled job", "rank order",
     ];
     for fault in faults {
@@ -393,8 +501,9 @@ fn full_grid(r: &mut Random) {
     let cut = |n: usize| (1..=32).map(|s| (n * s / 32) as u32).collect::<Vec<_>>();
     for k in [1, 50, 4_096] {
         let lengths = [k as usize; 3];
-        let mut bench = Bench { a: Columns::of(&a), b: Columns::of(&b), r: results(r, lengths), c: anything(r) };
-        same_open(&mut bench, k, &cut(a.len()), &cut(b.len())).unwrap();
+        let customer = either(r);
+        let lists = [&Columns::of(&a), &Columns::of(&b)];
+        let mut bench = opened(r, customer, lists, [&cut(a.len()), &cut(b.len())], k, lengths);
         let mut jobs: Vec<u32> = (0..1_024).collect();
         for i in (1..jobs.len()).rev() {
             jobs.swap(i, r.below(i + 1));
@@ -405,7 +514,7 @@ fn full_grid(r: &mut Random) {
         assert_eq!(same_status(&bench).unwrap().settled, 1_024);
         let mut whole = results(r, lengths);
         let (count, _) = calls::k_list(Way::Classic, &bench.a, &bench.b, k, &mut whole).unwrap();
-        assert_eq!(whole.entries(count as usize), bench.r.entries(bench.c.entries as usize));
+        assert_eq!(whole.entries(count as usize), bench.r.entries(bench.share().entries as usize));
     }
 }
 
@@ -414,8 +523,8 @@ fn long_list(r: &mut Random) {
     let (a, b) = (even(r, 65_535), lawful(r, 2, 9));
     let ends: Vec<u32> = (1..=32).map(|s| (65_535 * s / 32) as u32).collect();
     let lengths = [300; 3];
-    let mut bench = Bench { a: Columns::of(&a), b: Columns::of(&b), r: results(r, lengths), c: anything(r) };
-    same_open(&mut bench, 300, &ends, &[4, b.len() as u32]).unwrap();
+    let lists = [&Columns::of(&a), &Columns::of(&b)];
+    let mut bench = opened(r, 2, lists, [&ends, &[4, b.len() as u32]], 300, lengths);
     for s in 0..32 {
         for t in 0..2 {
             same_job(WAYS[(s + t) as usize % 3], &mut bench, s, t).unwrap();
@@ -430,14 +539,14 @@ fn long_list(r: &mut Random) {
 fn one_position(r: &mut Random) {
     let (mut a, b) = (stacked(-3, 8, 65_535), stacked(-3, 8, 65_535));
     let cut = |n: u32, strips: u32| (1..=strips).map(|s| n * s / strips).collect::<Vec<_>>();
-    for strips in [1, 32] {
+    for (customer, strips) in [(2, 1), (1, 32)] {
         let ends = cut(65_535, strips);
-        let mut bench = Bench { a: Columns::of(&a), b: Columns::of(&b), r: results(r, [40; 3]), c: anything(r) };
-        same_open(&mut bench, 40, &ends, &ends).unwrap();
+        let lists = [&Columns::of(&a), &Columns::of(&b)];
+        let mut bench = opened(r, customer, lists, [&ends, &ends], 40, [40; 3]);
         assert_eq!(same_status(&bench), Ok(Status { settled: 0, jobs: strips * strips, entries: 0, k: 40 }));
         for s in 0..strips as usize {
             for t in 0..strips as usize {
-                bench.c.marks[32 * s + t] = 1;
+                bench.mark(32 * s + t, true);
             }
         }
         let all = Status { settled: strips * strips, jobs: strips * strips, entries: 0, k: 40 };
@@ -445,23 +554,23 @@ fn one_position(r: &mut Random) {
         assert_eq!(same_job(Way::Classic, &mut bench, 0, 0), Err(9));
         // co-sited cells as an entry, whatever the count says
         for entries in 0..3 {
-            bench.c.entries = entries;
+            bench.share_mut().entries = entries;
             bench.r = bench.r.holding(&[model::Entry { distance: 0, first: 5, second: 5 }]);
             assert_eq!(same_status(&bench).is_ok(), entries == 0);
         }
     }
     // one site beside the others makes as many pairs as the other list has sites
     a[65_534].y = 9;
-    let a = Columns::of(&a);
+    let lists = [&Columns::of(&a), &Columns::of(&b)];
     for count in [0, 39, 40, 41] {
-        let mut bench = Bench { a: a.clone(), b: Columns::of(&b), r: results(r, [4_096; 3]), c: anything(r) };
-        same_open(&mut bench, 40, &[65_000, 65_535], &[30, 65_535]).unwrap();
-        bench.c.marks[32] = 1;
-        bench.c.entries = count;
+        let customer = either(r);
+        let mut bench = opened(r, customer, lists, [&[65_000, 65_535], &[30, 65_535]], 40, [4_096; 3]);
+        bench.mark(32, true);
+        bench.share_mut().entries = count;
         let beside = |second| model::Entry { distance: 1, first: 65_534, second };
         bench.r = bench.r.holding(&(0..30).map(beside).collect::<Vec<_>>());
         assert_eq!(same_status(&bench), Err(7));
-        bench.c.entries = 30;
+        bench.share_mut().entries = 30;
         assert_eq!(same_status(&bench), Ok(Status { settled: 1, jobs: 4, entries: 30, k: 40 }));
     }
 }
@@ -470,11 +579,10 @@ fn one_position(r: &mut Random) {
 fn skips_at_the_limit() {
     let r = &mut Random::new(56);
     for (x, swept) in [(5, true), (6, false)] {
-        for way in WAYS {
+        for (way, customer) in WAYS.into_iter().flat_map(|way| CUSTOMERS.map(|customer| (way, customer))) {
             let a = Columns::of(&[site(0, 0, 0)]);
             let b = Columns::of(&[site(0, 5, 0), site(x, 0, 0)]);
-            let mut bench = Bench { a, b, r: results(r, [1, 1, 1]), c: anything(r) };
-            same_open(&mut bench, 1, &[1], &[1, 2]).unwrap();
+            let mut bench = opened(r, customer, [&a, &b], [&[1], &[1, 2]], 1, [1; 3]);
             assert_eq!(same_job(way, &mut bench, 0, 0), Ok(true));
             assert_eq!(same_job(way, &mut bench, 0, 1), Ok(swept));
         }
@@ -500,12 +608,11 @@ fn skips_by_boxes() {
             [site(-4_000, 0, 0), site(-2_100, -7, 0), site(-2_050, 0, 0), site(-2_000, -90, 0)],
             [site(-4_000 + dx, dy, 0), site(-2_000 + x, y + 40, 0), site(-1_900 + x, y, 0), site(-1_890 + x, y + 9, 0)],
         ];
-        for _ in 0..2 {
+        for customer in CUSTOMERS {
             lists.swap(0, 1);
             for way in WAYS {
                 let [a, b] = [0, 1].map(|l| Columns::of(&lists[l]));
-                let mut bench = Bench { a, b, r: results(r, [1, 1, 1]), c: anything(r) };
-                same_open(&mut bench, 1, &[1, 4], &[1, 4]).unwrap();
+                let mut bench = opened(r, customer, [&a, &b], [&[1, 4], &[1, 4]], 1, [1; 3]);
                 assert_eq!(same_job(way, &mut bench, 0, 0), Ok(true));
                 assert_eq!(same_job(way, &mut bench, 1, 1), Ok(swept), "{way:?} {dx} {dy} {x} {y}");
             }
@@ -515,7 +622,7 @@ fn skips_by_boxes() {
 
 pub fn run(h: &mut Harness) {
     h.test("campaign: the fixed example", fixed_example);
-    h.test("campaign: refused openings in their order", opening_refusals);
+    h.test("campaign: refused preparings and openings in their order", opening_refusals);
     h.test("campaign: a skip at the limit", skips_at_the_limit);
     h.test("campaign: skips by the strips' boxes", skips_by_boxes);
     h.test("campaign: random histories beside the book, with tampering", || histories(&mut Random::new(52)));

@@ -49,18 +49,20 @@ fn m4_and_m5() {
 fn m6() {
     let (a, b) = f();
     let (a, b) = (Columns::of(&a), Columns::of(&b));
-    for way in WAYS {
+    let opening = Opening { k: 2, first_ends: &[2, 3], second_ends: &[1, 3] };
+    for (way, customer) in WAYS.into_iter().flat_map(|way| CUSTOMERS.map(|customer| (way, customer))) {
         let mut r = results(2);
-        let mut c = open(&a, &b, 2, &[2, 3], &[1, 3], &r).unwrap();
+        let mut g = prepare(&a, &b, &[2, 3], &[1, 3]).unwrap();
+        g = open(&g, customer, &a, &b, opening, &r).unwrap();
         let mut swept = Vec::new();
         for (s, t) in [(0, 0), (1, 0), (0, 1), (1, 1)] {
-            let done = job(way, &c, &a, &b, &r, s, t).unwrap();
-            (c, r) = (done.campaign, done.results);
+            let done = job(way, &g, customer, &a, &b, &r, s, t).unwrap();
+            (g, r) = (done.grid, done.results);
             swept.push(done.swept);
         }
         assert_eq!(swept, [true, false, true, true]);
         assert_eq!((&r.first[..], &r.second[..]), (&[2, 1][..], &[2, 1][..]));
-        assert_eq!(status(&c, &a, &b, &r), Ok(Status { settled: 4, jobs: 4, entries: 2, k: 2 }));
+        assert_eq!(status(&g, customer, &a, &b, &r), Ok(Status { settled: 4, jobs: 4, entries: 2, k: 2 }));
     }
 }
 
@@ -71,11 +73,55 @@ fn m7_m8_and_m10() {
         assert_eq!(listed(way, &[], &b, 1), (vec![], Counters::default()));
         assert_eq!(listed(way, &a, &[], 1), (vec![], Counters::default()));
     }
-    let c = open(&Columns::of(&[]), &Columns::of(&b), 1, &[], &[1], &results(1)).unwrap();
-    let counts = status(&c, &Columns::of(&[]), &Columns::of(&b), &results(1)).unwrap();
-    assert_eq!((counts.jobs, counts.entries), (0, 0));
+    let (none, b) = (Columns::of(&[]), Columns::of(&b));
+    let g = prepare(&none, &b, &[], &[1]).unwrap();
+    for customer in CUSTOMERS {
+        let opening = Opening { k: 1, first_ends: &[], second_ends: &[1] };
+        let g = open(&g, customer, &none, &b, opening, &results(1)).unwrap();
+        let counts = status(&g, customer, &none, &b, &results(1)).unwrap();
+        assert_eq!((counts.jobs, counts.entries), (0, 0));
+    }
     let corner = 1_000_000_000;
     assert_eq!(squared_distance(site(-corner, -corner, 0), site(corner, corner, 0)), 8_000_000_000_000_000_000);
+}
+
+/// M6's lists and cuts for two customers, mark by mark.
+fn two_customers() {
+    let (a, b) = f();
+    let (a, b) = (Columns::of(&a), Columns::of(&b));
+    let opening = |k| Opening { k, first_ends: &[2, 3], second_ends: &[1, 3] };
+    let (mut r, mut q) = (results(2), results(9));
+    let mut g = prepare(&a, &b, &[2, 3], &[1, 3]).unwrap();
+    assert_eq!((g.first_ends[..3].to_vec(), g.second_ends[..3].to_vec()), (vec![2, 3, 0], vec![1, 3, 0]));
+    assert_eq!([status(&g, 1, &a, &b, &r), status(&g, 2, &a, &b, &q)], [Err(7); 2]);
+    g = open(&g, 2, &a, &b, opening(9), &q).unwrap();
+    assert_eq!(status(&g, 1, &a, &b, &r), Err(7));
+    let mut told = Vec::new();
+    for (customer, s, t) in [(2, 1, 0), (2, 0, 1), (1, 0, 0), (1, 1, 0), (2, 0, 0)] {
+        if (customer, s) == (1, 0) {
+            g = open(&g, 1, &a, &b, opening(2), &r).unwrap();
+        }
+        let columns = if customer == 1 { &mut r } else { &mut q };
+        let done = job(Way::Classic, &g, customer, &a, &b, columns, s, t).unwrap();
+        (g, *columns) = (done.grid, done.results);
+        told.push((g.marks[0], g.marks[1], g.marks[32], g.shares[0].entries, g.shares[1].entries, done.swept));
+    }
+    let expected = [
+        (0, 0, 2, 0, 1, true),
+        (0, 2, 2, 0, 5, true),
+        (1, 2, 2, 2, 5, true),
+        (1, 2, 3, 2, 5, false),
+        (3, 2, 3, 2, 7, true),
+    ];
+    assert_eq!(told, expected);
+    assert_eq!(status(&g, 1, &a, &b, &r), Ok(Status { settled: 2, jobs: 4, entries: 2, k: 2 }));
+    assert_eq!(status(&g, 2, &a, &b, &q), Ok(Status { settled: 3, jobs: 4, entries: 7, k: 9 }));
+    assert_eq!(job(Way::Classic, &g, 2, &a, &b, &q, 1, 0).err(), Some(9));
+    assert_eq!(open(&g, 1, &a, &b, Opening { first_ends: &[1, 3], ..opening(2) }, &r).err(), Some(5));
+    assert_eq!(open(&g, 3, &a, &b, opening(0), &r).err(), Some(15));
+    g = open(&g, 1, &a, &b, opening(1), &r).unwrap();
+    assert_eq!((g.marks[0], g.marks[1], g.marks[32]), (2, 2, 2));
+    assert_eq!(g.shares, [Share { k: 1, entries: 0 }, Share { k: 9, entries: 7 }]);
 }
 
 /// Document 02 l's own numbers, and what follows from them.
@@ -179,6 +225,7 @@ pub fn run(h: &mut Harness) {
     h.test("model: M4, M5", m4_and_m5);
     h.test("model: M6", m6);
     h.test("model: M7, M8, M10", m7_m8_and_m10);
+    h.test("model: two customers", two_customers);
     h.test("model: own examples", own_examples);
     h.test("model: heights", heights);
     h.test("model: removing", removing);

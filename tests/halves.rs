@@ -2,10 +2,10 @@
 //! one mistake each, which small lists tell from the true one.
 
 use crate::calls;
-use crate::campaigns::{Bench, anything, cuts, results, same_job, same_open, same_status};
+use crate::campaigns::{self, Bench, cuts, either, results, same_job, same_status};
 use crate::harness::{Harness, progress};
 use crate::lists::{HIGHEST, KINDS, MAX, f, lawful, stacked, tower};
-use crate::model::{self, Columns, Counters, Entry, Site, Status, Strip, WAYS, Way, site};
+use crate::model::{self, CUSTOMERS, Columns, Counters, Entry, Site, Status, Strip, WAYS, Way, site};
 use crate::pair_lists::same_k_list;
 use crate::random::Random;
 use std::ops::Range;
@@ -68,8 +68,7 @@ fn empty_lists_and_strips(r: &mut Random) {
         assert_eq!(model::joined(Way::Halves, 2, q, p, held.clone()), (held.clone(), Counters::default()));
     }
     let (a, b) = (Columns::of(&none), Columns::of(&some));
-    let mut bench = Bench { a, b, r: results(r, [5; 3]), c: anything(r) };
-    same_open(&mut bench, 5, &[], &[1, 3]).unwrap();
+    let mut bench = campaigns::opened(r, 2, [&a, &b], [&[], &[1, 3]], 5, [5; 3]);
     assert_eq!(same_job(Way::Halves, &mut bench, 0, 0), Err(8));
     assert_eq!(same_status(&bench), Ok(Status { settled: 0, jobs: 0, entries: 0, k: 5 }));
 }
@@ -335,17 +334,20 @@ fn k_list_refusals(r: &mut Random) {
     assert_eq!(k_list(&a, &b, 3, r, [3; 3]), Ok(3));
 }
 
-/// A campaign on F with this K, its first list cut at 2 and its second at 1.
-fn opened(r: &mut Random, k: u32) -> Bench {
+/// A customer's campaign on F with this K, its first list cut at 2 and its second at 1.
+fn opened(r: &mut Random, customer: u32, k: u32) -> Bench {
     let (a, b) = f();
-    let mut bench =
-        Bench { a: Columns::of(&a), b: Columns::of(&b), r: results(r, [k as usize; 3]), c: anything(r) };
-    same_open(&mut bench, k, &[2, 3], &[1, 3]).unwrap();
-    bench
+    let lists = [&Columns::of(&a), &Columns::of(&b)];
+    campaigns::opened(r, customer, lists, [&[2, 3], &[1, 3]], k, [k as usize; 3])
 }
 
 fn job_refusals(r: &mut Random) {
-    let mut bench = opened(r, 2);
+    for customer in CUSTOMERS {
+        refused_jobs(opened(r, customer, 2));
+    }
+}
+
+fn refused_jobs(mut bench: Bench) {
     assert_eq!(same_job(Way::Halves, &mut bench, 0, 0), Ok(true));
     let job = |change: &dyn Fn(&mut Bench), s, t| {
         let mut other = bench.clone();
@@ -356,16 +358,22 @@ fn job_refusals(r: &mut Random) {
         assert_eq!(job(&|other| other.a = bad.clone(), 0, 0), Err(number));
         assert_eq!(job(&|other| other.b = bad.clone(), 9, 9), Err(number));
     }
-    let faults: [&dyn Fn(&mut Bench); 9] = [
-        &|other| other.c.k = 0,
-        &|other| other.c.first_ends[1] = 4,
-        &|other| other.c.marks[0] = 2,
-        &|other| other.c.marks[2] = 1,
+    let faults: [&dyn Fn(&mut Bench); 11] = [
+        &|other| other.share_mut().k = 0,
+        &|other| other.g.first_ends[1] = 4,
+        &|other| other.g.marks[0] = 4,
+        &|other| other.g.marks[2] = 1,
+        &|other| other.g.marks[64] = 2,
+        &|other| other.g.marks[1023] = 3,
         &|other| other.r.second.truncate(1),
-        &|other| other.c.entries = 1,
+        &|other| other.share_mut().entries = 1,
         &|other| other.r.first[1] = 3,
         &|other| other.r.distance[1] += 1,
-        &|other| other.c.marks[1] = 1 - std::mem::replace(&mut other.c.marks[0], 0),
+        &|other| {
+            // another job settled in place of the one that has the entries
+            other.mark(0, false);
+            other.mark(1, true);
+        },
     ];
     for fault in faults {
         // 7 before 8 and 9
@@ -384,26 +392,28 @@ fn job_refusals(r: &mut Random) {
 /// A job by the call, held to the brute force too: whether it was swept, and its range pairs.
 fn job(bench: &mut Bench, s: u32, t: u32) -> (u32, u64) {
     let mut other = bench.clone();
-    let told = calls::job(Way::Halves, &mut other.c, &other.a, &other.b, &mut other.r, s, t).unwrap();
+    let told = calls::job(Way::Halves, &mut other.g, other.customer, &other.a, &other.b, &mut other.r, s, t).unwrap();
     same_job(Way::Halves, bench, s, t).unwrap();
     (told.0, told.1.range_pairs)
 }
 
 /// M6 by halves: its second job is skipped and has no range pair.
 fn jobs_on_f(r: &mut Random) {
-    let mut bench = opened(r, 2);
-    let told = [(0, 0), (1, 0), (0, 1), (1, 1)].map(|(s, t)| job(&mut bench, s, t));
-    assert_eq!(told, [(1, 3), (0, 0), (1, 7), (1, 3)]);
-    assert_eq!(bench.r.entries(2), [entry(5, 2, 2), entry(9, 1, 1)]);
-    assert_eq!(same_status(&bench), Ok(Status { settled: 4, jobs: 4, entries: 2, k: 2 }));
+    for customer in CUSTOMERS {
+        let mut bench = opened(r, customer, 2);
+        let told = [(0, 0), (1, 0), (0, 1), (1, 1)].map(|(s, t)| job(&mut bench, s, t));
+        assert_eq!(told, [(1, 3), (0, 0), (1, 7), (1, 3)]);
+        assert_eq!(bench.r.entries(2), [entry(5, 2, 2), entry(9, 1, 1)]);
+        assert_eq!(same_status(&bench), Ok(Status { settled: 4, jobs: 4, entries: 2, k: 2 }));
+    }
 }
 
 /// Entries of an earlier job, by whatever way, drop range pairs of a later one that has to go further alone.
 fn old_entries_drop(r: &mut Random) {
     let (a, b) = (line(&[0, 100]), line(&[1, 40, 41, 200, 201]));
-    for way in WAYS {
-        let mut bench = Bench { a: Columns::of(&a), b: Columns::of(&b), r: results(r, [1; 3]), c: anything(r) };
-        same_open(&mut bench, 1, &[1, 2], &[1, 5]).unwrap();
+    let lists = [&Columns::of(&a), &Columns::of(&b)];
+    for (way, customer) in WAYS.into_iter().flat_map(|way| CUSTOMERS.map(|customer| (way, customer))) {
+        let mut bench = campaigns::opened(r, customer, lists, [&[1, 2], &[1, 5]], 1, [1; 3]);
         assert_eq!(same_job(way, &mut bench, 0, 0), Ok(true));
         assert_eq!(job(&mut bench, 1, 1), (1, 3));
         assert_eq!(bench.r.entries(1), [entry(1, 0, 0)]);
@@ -411,8 +421,8 @@ fn old_entries_drop(r: &mut Random) {
     assert_eq!(called(r, &a[1..], &b[1..], 1), (5, vec![entry(59 * 59, 0, 1)]));
     // a gap squared equal to the last squared distance: neither skipped nor dropped
     let (a, b) = (line(&[0, 9]), line(&[4, 13]));
-    let mut bench = Bench { a: Columns::of(&a), b: Columns::of(&b), r: results(r, [1; 3]), c: anything(r) };
-    same_open(&mut bench, 1, &[1, 2], &[1, 2]).unwrap();
+    let lists = [&Columns::of(&a), &Columns::of(&b)];
+    let mut bench = campaigns::opened(r, 1, lists, [&[1, 2], &[1, 2]], 1, [1; 3]);
     assert_eq!([(1, 1), (0, 0), (0, 1)].map(|(s, t)| job(&mut bench, s, t)), [(1, 1), (1, 1), (0, 0)]);
     assert_eq!(bench.r.entries(1), [entry(16, 0, 0)]);
 }
@@ -427,9 +437,9 @@ fn jobs_agree(r: &mut Random) {
         let (a, b) = (list(r, round % KINDS, n), list(r, round % KINDS, m));
         let k = [1, 3, 1 + r.below(40) as u32][r.below(3)];
         let (first, second) = (cuts(r, a.len()), cuts(r, b.len()));
-        let mut bench =
-            Bench { a: Columns::of(&a), b: Columns::of(&b), r: results(r, [k as usize; 3]), c: anything(r) };
-        same_open(&mut bench, k, &first, &second).unwrap();
+        let customer = either(r);
+        let lists = [&Columns::of(&a), &Columns::of(&b)];
+        let bench = campaigns::opened(r, customer, lists, [&first, &second], k, [k as usize; 3]);
         let mut benches = [0; 4].map(|_: u8| bench.clone());
         for _ in 0..30 {
             let (s, t) = (r.below(first.len()) as u32, r.below(second.len()) as u32);
@@ -443,7 +453,7 @@ fn jobs_agree(r: &mut Random) {
             ];
             assert!(answers.iter().all(|answer| *answer == answers[0]), "{answers:?}");
             for other in &benches {
-                assert!(other.c == benches[0].c && other.r == benches[0].r, "job {s} {t}: the ways differ");
+                assert!(other.g == benches[0].g && other.r == benches[0].r, "job {s} {t}: the ways differ");
             }
             if let Ok(swept) = answers[2] {
                 seen[swept as usize] += 1;

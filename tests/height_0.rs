@@ -1,10 +1,10 @@
 //! Two lists with every height 0 give the plane's answers: the calls beside the brute force of the plane, which has no heights.
 
 use crate::calls;
-use crate::campaigns::{anything, cuts, results};
+use crate::campaigns::{cuts, either, opened, results};
 use crate::harness::{Harness, progress};
 use crate::lists::{KINDS, lawful, stacked};
-use crate::model::{Columns, Counters, Results, Site, WAYS, Way};
+use crate::model::{Columns, Counters, Site, WAYS, Way};
 use crate::pair_lists::numbers;
 use crate::plane::{self, flat};
 use crate::random::Random;
@@ -89,11 +89,11 @@ fn distance_lists(r: &mut Random) {
     }
 }
 
-/// A campaign of the plane beside the library's, status after each job: jobs swept and skipped.
+/// A campaign of the plane beside the library's, of either customer, status after each job: jobs swept and skipped.
 fn same_campaign(r: &mut Random, a: &Level, b: &Level, k: u32, ends: [&[u32]; 2]) -> [u32; 2] {
-    let mut columns: Results = results(r, [k as usize; 3]);
-    let mut c = anything(r);
-    calls::open(&a.columns, &b.columns, k, ends[0], ends[1], &columns, &mut c).unwrap();
+    let customer = either(r);
+    let mut bench = opened(r, customer, [&a.columns, &b.columns], ends, k, [k as usize; 3]);
+    let (g, columns) = (&mut bench.g, &mut bench.r);
     let mut book = plane::Campaign::opened(&a.plane, &b.plane, k, ends[0], ends[1]);
     let mut seen = [0; 2];
     let mut jobs: Vec<(usize, usize)> =
@@ -104,10 +104,10 @@ fn same_campaign(r: &mut Random, a: &Level, b: &Level, k: u32, ends: [&[u32]; 2]
         let before = columns.clone();
         let told = book.job(way, s, t);
         let expected = told.map_or((0, Counters::default()), |counters| (1, counters));
-        let answer = calls::job(way, &mut c, &a.columns, &b.columns, &mut columns, s as u32, t as u32);
+        let answer = calls::job(way, g, customer, &a.columns, &b.columns, columns, s as u32, t as u32);
         assert_eq!(answer, Ok(expected), "{way:?} job {s} {t}");
-        assert!(columns == before.holding(&book.entries), "{way:?} job {s} {t}: a column differs");
-        assert_eq!(calls::status(&c, &a.columns, &b.columns, &columns), Ok(book.status()));
+        assert!(*columns == before.holding(&book.entries), "{way:?} job {s} {t}: a column differs");
+        assert_eq!(calls::status(g, customer, &a.columns, &b.columns, columns), Ok(book.status()));
         seen[told.is_none() as usize] += 1;
     }
     seen

@@ -1,10 +1,12 @@
 //! What document 02 l adds: the column of heights in every call that is lent lists, beside the brute force.
 
 use crate::calls;
-use crate::campaigns::{Bench, anything, results, same_job, same_open, same_status};
+use crate::campaigns::{
+    Bench, any_part, either, opened, other_customer, results, same_job, same_open, same_prepare, same_status,
+};
 use crate::harness::{Harness, progress};
 use crate::lists::{HIGHEST, LOWEST, MAX, MIN, stacked, tower};
-use crate::model::{self, Columns, Entry, Site, Status, Strip, WAYS, Way, site};
+use crate::model::{self, CUSTOMERS, Columns, Entry, Share, Site, Status, Strip, WAYS, Way, site};
 use crate::pair_lists::{numbers, same_distance_list, same_k_list};
 use crate::random::Random;
 use crate::site_lists::{same_add, same_check};
@@ -13,21 +15,26 @@ fn number<T>(answer: Result<T, u32>) -> u32 {
     answer.err().unwrap_or(0)
 }
 
-/// A campaign of one job on lists of these lengths, not opened by a call: the lists may be at fault.
-fn one_job(a: &Columns, b: &Columns) -> model::Campaign {
-    let mut c = model::blank_campaign();
-    (c.k, c.first_strips, c.second_strips) = (1, 1, 1);
-    (c.first_ends[0], c.second_ends[0]) = (a.x.len() as u32, b.x.len() as u32);
-    c
+/// A grid of one job on lists of these lengths, neither prepared nor opened by a call: the lists may be at fault.
+fn one_job(r: &mut Random, customer: u32, a: &Columns, b: &Columns) -> model::Grid {
+    let mut g = model::blank_grid();
+    (g.first_strips, g.second_strips) = (1, 1);
+    (g.first_ends[0], g.second_ends[0]) = (a.x.len() as u32, b.x.len() as u32);
+    any_part(r, &mut g, other_customer(customer));
+    *g.share_mut(customer) = Share { k: 1, entries: 0 };
+    g
 }
 
-/// The number that K list, distance list, opening, job and status all answer on two lists.
+/// The number that K list, distance list, preparing, opening, job and status all answer on two lists.
 fn number_of_every_call(r: &mut Random, a: &Columns, b: &Columns) -> u32 {
-    let bench = Bench { a: a.clone(), b: b.clone(), r: results(r, [1; 3]), c: one_job(a, b) };
+    let customer = either(r);
+    let g = one_job(r, customer, a, b);
+    let bench = Bench { a: a.clone(), b: b.clone(), r: results(r, [1; 3]), g, customer };
     let (first, second) = (numbers(r, 20), numbers(r, 20));
     let (ends_a, ends_b) = ([a.x.len() as u32], [b.x.len() as u32]);
     let mut told = vec![
         number(same_distance_list(a, b, u32::MAX, &first, &second)),
+        number(same_prepare(&mut bench.clone(), &ends_a, &ends_b)),
         number(same_open(&mut bench.clone(), 1, &ends_a, &ends_b)),
         number(same_status(&bench)),
     ];
@@ -171,14 +178,13 @@ fn squared_distances(r: &mut Random) {
     ];
     for (s, t, distance, e) in cases {
         let (a, b) = (Columns::of(&[s]), Columns::of(&[t]));
-        for way in WAYS {
+        for (way, customer) in WAYS.into_iter().flat_map(|way| CUSTOMERS.map(|customer| (way, customer))) {
             let mut columns = results(r, [1; 3]);
             calls::k_list(way, &a, &b, 1, &mut columns).unwrap();
             assert_eq!(columns.distance[0], distance);
-            let mut bench = Bench { a: a.clone(), b: b.clone(), r: results(r, [1; 3]), c: anything(r) };
-            same_open(&mut bench, 1, &[1], &[1]).unwrap();
+            let mut bench = opened(r, customer, [&a, &b], [&[1], &[1]], 1, [1; 3]);
             assert_eq!(same_job(way, &mut bench, 0, 0), Ok(true));
-            assert_eq!((bench.c.entries, bench.r.distance[0]), (1, distance));
+            assert_eq!((bench.share().entries, bench.r.distance[0]), (1, distance));
             assert_eq!(same_status(&bench), Ok(Status { settled: 1, jobs: 1, entries: 1, k: 1 }));
         }
         assert_eq!(same_distance_list(&a, &b, e, &[7], &[7]), Ok(1));
@@ -234,10 +240,9 @@ fn skips_by_boxes(r: &mut Random) {
         let first = [&[site(-4_000, 0, 0).up(60)], &middle[..]].concat();
         let second = [&[site(-4_000 + dx, dy, 0).up(60 + dh)], &other[..]].concat();
         for way in WAYS {
-            for (a, b) in [(&first, &second), (&second, &first)] {
+            for (customer, a, b) in [(1, &first, &second), (2, &second, &first)] {
                 let (a, b) = (Columns::of(a), Columns::of(b));
-                let mut bench = Bench { a, b, r: results(r, [1, 1, 1]), c: anything(r) };
-                same_open(&mut bench, 1, &[1, 4], &[1, 4]).unwrap();
+                let mut bench = opened(r, customer, [&a, &b], [&[1, 4], &[1, 4]], 1, [1; 3]);
                 assert_eq!(same_job(way, &mut bench, 0, 0), Ok(true));
                 assert_eq!(same_job(way, &mut bench, 1, 1), Ok(swept), "{dx} {dy} {dh} {x} {y} {h}");
             }
@@ -287,15 +292,15 @@ fn count_decides(bench: &Bench) {
     let held = same_status(bench).unwrap();
     for entries in [0, held.entries.wrapping_sub(1), held.entries + 1, held.k, 4_096] {
         let mut other = bench.clone();
-        other.c.entries = entries;
+        other.share_mut().entries = entries;
         assert_eq!(same_status(&other).is_ok(), entries == held.entries, "{entries} for {}", held.entries);
     }
 }
 
-/// All jobs of a campaign on two lists, status after each.
+/// All jobs of a campaign of either customer on two lists, status after each.
 fn all_jobs(r: &mut Random, a: &[Site], b: &[Site], k: u32, ends: [&[u32]; 2]) -> Bench {
-    let mut bench = Bench { a: Columns::of(a), b: Columns::of(b), r: results(r, [k as usize; 3]), c: anything(r) };
-    same_open(&mut bench, k, ends[0], ends[1]).unwrap();
+    let customer = either(r);
+    let mut bench = opened(r, customer, [&Columns::of(a), &Columns::of(b)], ends, k, [k as usize; 3]);
     for s in 0..ends[0].len() {
         for t in 0..ends[1].len() {
             same_job(WAYS[r.below(3)], &mut bench, s as u32, t as u32).unwrap();
@@ -323,7 +328,7 @@ fn campaigns_on_towers(r: &mut Random) {
         let (first, second) = (cut(a.len(), 1 + r.below(3)), cut(b.len(), 1 + r.below(3)));
         let bench = all_jobs(r, &a, &b, k, [&first, &second]);
         let total = model::pair_count(Strip::whole(&a), Strip::whole(&b));
-        assert_eq!(bench.c.entries as u64, total.min(k as u64));
+        assert_eq!(bench.share().entries as u64, total.min(k as u64));
         if total < k as u64 {
             exact += 1;
             count_decides(&bench);
@@ -339,14 +344,15 @@ fn long_towers(r: &mut Random) {
     for h in [LOWEST, -1, 1, HIGHEST] {
         let mut a = b.clone();
         a[65_534].height = h;
+        let lists = [&Columns::of(&a), &Columns::of(&b)];
         for count in [29, 30, 31] {
-            let mut bench = Bench { a: Columns::of(&a), b: Columns::of(&b), r: results(r, [40; 3]), c: anything(r) };
-            same_open(&mut bench, 40, &[65_000, 65_535], &[30, 65_535]).unwrap();
+            let customer = either(r);
+            let mut bench = opened(r, customer, lists, [&[65_000, 65_535], &[30, 65_535]], 40, [40; 3]);
             // the job of 535 and 30 sites, and those that have no pair
             for mark in [0, 1, 32] {
-                bench.c.marks[mark] = 1;
+                bench.mark(mark, true);
             }
-            bench.c.entries = count;
+            bench.share_mut().entries = count;
             let above = |second| Entry { distance: h.unsigned_abs() as u64 * h.unsigned_abs() as u64, first: 65_534, second };
             bench.r = bench.r.holding(&(0..40).map(above).collect::<Vec<_>>());
             assert_eq!(same_status(&bench).is_ok(), count == 30);
@@ -359,14 +365,16 @@ fn marks_on_towers(r: &mut Random) {
     let (a, b) = (tower(r, 1, 1, 6_000, FLOORS[1]), tower(r, 1, 1, 7_000, FLOORS[1]));
     let a: Vec<Site> = a.into_iter().enumerate().map(|(i, s)| if i < 3_000 { s.up(0) } else { s }).collect();
     let b: Vec<Site> = b.into_iter().enumerate().map(|(i, s)| if i < 4_000 { s.up(0) } else { s }).collect();
-    let mut bench = Bench { a: Columns::of(&a), b: Columns::of(&b), r: results(r, [3; 3]), c: anything(r) };
-    same_open(&mut bench, 3, &[3_000, 6_000], &[4_000, 7_000]).unwrap();
-    // 12,000,000 co-sited cells and no pair
-    bench.c.marks[0] = 1;
-    assert_eq!(same_status(&bench), Ok(Status { settled: 1, jobs: 4, entries: 0, k: 3 }));
-    assert_eq!(same_job(Way::ReverseRun, &mut bench, 0, 1), Ok(true));
-    assert_eq!(same_job(Way::Classic, &mut bench, 1, 0), Ok(true));
-    assert_eq!(same_status(&bench), Ok(Status { settled: 3, jobs: 4, entries: 3, k: 3 }));
+    let lists = [&Columns::of(&a), &Columns::of(&b)];
+    for customer in CUSTOMERS {
+        let mut bench = opened(r, customer, lists, [&[3_000, 6_000], &[4_000, 7_000]], 3, [3; 3]);
+        // 12,000,000 co-sited cells and no pair
+        bench.mark(0, true);
+        assert_eq!(same_status(&bench), Ok(Status { settled: 1, jobs: 4, entries: 0, k: 3 }));
+        assert_eq!(same_job(Way::ReverseRun, &mut bench, 0, 1), Ok(true));
+        assert_eq!(same_job(Way::Classic, &mut bench, 1, 0), Ok(true));
+        assert_eq!(same_status(&bench), Ok(Status { settled: 3, jobs: 4, entries: 3, k: 3 }));
+    }
 }
 
 pub fn run(h: &mut Harness) {

@@ -6,6 +6,7 @@ mod calls;
 mod campaigns;
 mod case_listing;
 mod comparison;
+mod customers;
 mod examples;
 mod forecasts;
 mod halves;
@@ -34,6 +35,7 @@ fn main() {
     forecasts::run(&mut h);
     bands::run(&mut h);
     campaigns::run(&mut h);
+    customers::run(&mut h);
     halves::run(&mut h);
     heights::run(&mut h);
     height_0::run(&mut h);

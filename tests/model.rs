@@ -1,5 +1,5 @@
-//! Documents 01 and 02 a, b, d, f, g, k and l in plain Rust, by brute force: what each call on lists with heights, and each on
-//! price bands, must answer and leave behind. What is of the plane, the site file and the case listing, is in `plane`.
+//! Documents 01 and 02 a, b, d, e, f, g, k and l in plain Rust, by brute force: what each call on lists with heights, and each
+//! on price bands, must answer and leave behind. What is of the plane, the site file and the case listing, is in `plane`.
 
 use crate::raw::Band;
 use std::collections::HashMap;
@@ -489,30 +489,56 @@ pub fn forecast(a: &Columns, b: &Columns, e: u32, column: usize) -> Result<(Vec<
     Ok((partners, total))
 }
 
-// Campaigns.
+// Grids.
 
-#[repr(C)]
-#[derive(Clone, Debug, PartialEq, Eq)]
-pub struct Campaign {
+/// What a customer has in a grid beside their bit of each mark.
+#[derive(Clone, Copy, Debug, PartialEq, Eq, Default)]
+pub struct Share {
     pub k: u32,
     pub entries: u32,
+}
+
+/// A grid: the ends, the marks of both customers, and customer 1's share before customer 2's.
+#[derive(Clone, Debug, PartialEq, Eq)]
+pub struct Grid {
     pub first_strips: u32,
     pub second_strips: u32,
     pub first_ends: [u32; 32],
     pub second_ends: [u32; 32],
     pub marks: [u8; 1024],
+    pub shares: [Share; 2],
 }
 
-pub fn blank_campaign() -> Campaign {
-    Campaign {
-        k: 0,
-        entries: 0,
+pub fn blank_grid() -> Grid {
+    Grid {
         first_strips: 0,
         second_strips: 0,
         first_ends: [0; 32],
         second_ends: [0; 32],
         marks: [0; 1024],
+        shares: [Share::default(); 2],
     }
+}
+
+pub const CUSTOMERS: [u32; 2] = [1, 2];
+
+/// "15 for a customer number other than 1 or 2, before all else."
+pub fn customer_refusal(customer: u32) -> Result<(), u32> {
+    if CUSTOMERS.contains(&customer) { Ok(()) } else { Err(15) }
+}
+
+/// Whether a mark holds a customer's own number: "the first customer owns the 1 and the second the 2".
+pub fn owns(customer: u32, mark: u8) -> bool {
+    match customer {
+        1 => mark == 1 || mark == 3,
+        _ => mark == 2 || mark == 3,
+    }
+}
+
+/// A mark from 0 to 3 with a customer's number in it, or without it.
+pub fn marked(customer: u32, mark: u8, settled: bool) -> u8 {
+    let mine = |c: u32| if c == customer { settled } else { owns(c, mark) };
+    mine(1) as u8 + 2 * mine(2) as u8
 }
 
 /// "at most 32 per list, strictly ascending, each above 0, the last equal to the list's length; an empty list has none."
@@ -527,27 +553,44 @@ pub fn lawful_ends(sites: usize, ends: &[u32]) -> bool {
         && ends[ends.len() - 1] as usize == sites
 }
 
-pub fn open(
-    a: &Columns,
-    b: &Columns,
-    k: u32,
-    first_ends: &[u32],
-    second_ends: &[u32],
-    r: &Results,
-) -> Result<Campaign, u32> {
+/// Preparing, whatever the grid held.
+pub fn prepare(a: &Columns, b: &Columns, first_ends: &[u32], second_ends: &[u32]) -> Result<Grid, u32> {
     let (a, b) = lists(a, b)?;
-    k_refusal(k)?;
     if !lawful_ends(a.len(), first_ends) || !lawful_ends(b.len(), second_ends) {
         return Err(5);
     }
-    room_refusal(k, r)?;
-    let mut c = blank_campaign();
-    c.k = k;
-    c.first_strips = first_ends.len() as u32;
-    c.second_strips = second_ends.len() as u32;
-    c.first_ends[..first_ends.len()].copy_from_slice(first_ends);
-    c.second_ends[..second_ends.len()].copy_from_slice(second_ends);
-    Ok(c)
+    let mut g = blank_grid();
+    g.first_strips = first_ends.len() as u32;
+    g.second_strips = second_ends.len() as u32;
+    g.first_ends[..first_ends.len()].copy_from_slice(first_ends);
+    g.second_ends[..second_ends.len()].copy_from_slice(second_ends);
+    Ok(g)
+}
+
+/// What an opening is lent beside the grid, the lists and the result columns.
+#[derive(Clone, Copy, Debug)]
+pub struct Opening<'a> {
+    pub k: u32,
+    pub first_ends: &'a [u32],
+    pub second_ends: &'a [u32],
+}
+
+/// The grid after an opening as a customer.
+pub fn open(g: &Grid, customer: u32, a: &Columns, b: &Columns, o: Opening, r: &Results) -> Result<Grid, u32> {
+    customer_refusal(customer)?;
+    let (a, b) = lists(a, b)?;
+    k_refusal(o.k)?;
+    if !lawful_ends(a.len(), o.first_ends) || !lawful_ends(b.len(), o.second_ends) || !g.has_ends(o) {
+        return Err(5);
+    }
+    room_refusal(o.k, r)?;
+    if g.mark_fault().is_some() {
+        return Err(7);
+    }
+    let mut after = g.clone();
+    *after.share_mut(customer) = Share { k: o.k, entries: 0 };
+    after.marks = g.marks.map(|m| marked(customer, m, false));
+    Ok(after)
 }
 
 /// The places of a strip.
@@ -578,7 +621,7 @@ fn squared_gap(a: Strip, b: Strip) -> i128 {
     squared_gaps(a, b).iter().sum()
 }
 
-impl Campaign {
+impl Grid {
     fn first_cut(&self) -> &[u32] {
         &self.first_ends[..self.first_strips as usize]
     }
@@ -587,13 +630,43 @@ impl Campaign {
         &self.second_ends[..self.second_strips as usize]
     }
 
-    fn settled(&self, s: usize, t: usize) -> bool {
-        self.marks[32 * s + t] == 1
+    pub fn share(&self, customer: u32) -> &Share {
+        &self.shares[customer as usize - 1]
     }
 
-    /// The fault that refusal 7 names first in the paper, or none.
-    pub fn fault(&self, a: &[Site], b: &[Site], r: &Results) -> Option<&'static str> {
-        if self.k == 0 || self.k > MOST_K {
+    pub fn share_mut(&mut self, customer: u32) -> &mut Share {
+        &mut self.shares[customer as usize - 1]
+    }
+
+    pub fn settled(&self, customer: u32, s: usize, t: usize) -> bool {
+        owns(customer, self.marks[32 * s + t])
+    }
+
+    /// Whether the ends in use are those that an opening is lent; slots past them are not in use.
+    fn has_ends(&self, o: Opening) -> bool {
+        let same = |strips: u32, slots: &[u32], ends: &[u32]| {
+            strips as usize == ends.len() && ends.iter().zip(slots).all(|(end, slot)| end == slot)
+        };
+        same(self.first_strips, &self.first_ends, o.first_ends) && same(self.second_strips, &self.second_ends, o.second_ends)
+    }
+
+    /// "whether all marks are within 0 to 3 and inside the jobs": the first fault, or none.
+    pub fn mark_fault(&self) -> Option<&'static str> {
+        for (i, m) in self.marks.iter().enumerate() {
+            if *m > 3 {
+                return Some("mark above 3");
+            }
+            if *m != 0 && (i / 32 >= self.first_strips as usize || i % 32 >= self.second_strips as usize) {
+                return Some("mark outside the jobs");
+            }
+        }
+        None
+    }
+
+    /// The fault that refusal 7 names first in the papers for a customer, or none.
+    pub fn fault(&self, customer: u32, a: &[Site], b: &[Site], r: &Results) -> Option<&'static str> {
+        let Share { k, entries } = *self.share(customer);
+        if k == 0 || k > MOST_K {
             return Some("K");
         }
         if self.first_strips > 32 || self.second_strips > 32 {
@@ -602,22 +675,16 @@ impl Campaign {
         if !lawful_ends(a.len(), self.first_cut()) || !lawful_ends(b.len(), self.second_cut()) {
             return Some("ends");
         }
-        let (rows, cols) = (self.first_strips as usize, self.second_strips as usize);
-        for (i, m) in self.marks.iter().enumerate() {
-            if *m > 1 {
-                return Some("mark above 1");
-            }
-            if *m == 1 && (i / 32 >= rows || i % 32 >= cols) {
-                return Some("mark outside the jobs");
-            }
+        if let Some(fault) = self.mark_fault() {
+            return Some(fault);
         }
-        if r.shortest() < self.k as usize {
+        if r.shortest() < k as usize {
             return Some("column");
         }
         let mut total = 0u128;
-        for s in 0..rows {
-            for t in 0..cols {
-                if self.settled(s, t) {
+        for s in 0..self.first_strips as usize {
+            for t in 0..self.second_strips as usize {
+                if self.settled(customer, s, t) {
                     let (p, q) = (strip_range(self.first_cut(), s), strip_range(self.second_cut(), t));
                     let p = Strip { sites: a, from: p.0, to: p.1 };
                     let q = Strip { sites: b, from: q.0, to: q.1 };
@@ -625,10 +692,10 @@ impl Campaign {
                 }
             }
         }
-        if self.entries as u128 != total.min(self.k as u128) {
+        if entries as u128 != total.min(k as u128) {
             return Some("entry count");
         }
-        let entries = r.entries(self.entries as usize);
+        let entries = r.entries(entries as usize);
         for e in &entries {
             if e.first as usize >= a.len() || e.second as usize >= b.len() {
                 return Some("place");
@@ -641,7 +708,7 @@ impl Campaign {
             }
             let s = strip_of(self.first_cut(), e.first as usize);
             let t = strip_of(self.second_cut(), e.second as usize);
-            if !self.settled(s, t) {
+            if !self.settled(customer, s, t) {
                 return Some("unsettled job");
             }
         }
@@ -654,7 +721,7 @@ impl Campaign {
 
 #[derive(Clone, Debug, PartialEq, Eq)]
 pub struct JobDone {
-    pub campaign: Campaign,
+    pub grid: Grid,
     pub results: Results,
     pub swept: bool,
     pub counters: Counters,
@@ -662,38 +729,41 @@ pub struct JobDone {
 
 pub fn job(
     way: Way,
-    c: &Campaign,
+    g: &Grid,
+    customer: u32,
     a: &Columns,
     b: &Columns,
     r: &Results,
     first_strip: u32,
     second_strip: u32,
 ) -> Result<JobDone, u32> {
+    customer_refusal(customer)?;
     let (a, b) = lists(a, b)?;
-    if c.fault(&a, &b, r).is_some() {
+    if g.fault(customer, &a, &b, r).is_some() {
         return Err(7);
     }
-    if first_strip >= c.first_strips || second_strip >= c.second_strips {
+    if first_strip >= g.first_strips || second_strip >= g.second_strips {
         return Err(8);
     }
     let (s, t) = (first_strip as usize, second_strip as usize);
-    if c.settled(s, t) {
+    if g.settled(customer, s, t) {
         return Err(9);
     }
-    let (p, q) = (strip_range(c.first_cut(), s), strip_range(c.second_cut(), t));
+    let (p, q) = (strip_range(g.first_cut(), s), strip_range(g.second_cut(), t));
     let p = Strip { sites: &a, from: p.0, to: p.1 };
     let q = Strip { sites: &b, from: q.0, to: q.1 };
-    let old = r.entries(c.entries as usize);
-    let full = old.len() == c.k as usize;
+    let Share { k, entries } = *g.share(customer);
+    let old = r.entries(entries as usize);
+    let full = old.len() == k as usize;
     let skipped = full && squared_gap(p, q) > old[old.len() - 1].distance as i128;
-    let counters = if skipped { Counters::default() } else { joined(way, c.k, p, q, old.clone()).1 };
+    let counters = if skipped { Counters::default() } else { joined(way, k, p, q, old.clone()).1 };
     let mut all = old;
     all.extend(pairs(p, q));
-    let entries = best(c.k, all);
-    let mut after = c.clone();
-    after.entries = entries.len() as u32;
-    after.marks[32 * s + t] = 1;
-    Ok(JobDone { campaign: after, results: r.holding(&entries), swept: !skipped, counters })
+    let entries = best(k, all);
+    let mut after = g.clone();
+    after.share_mut(customer).entries = entries.len() as u32;
+    after.marks[32 * s + t] = marked(customer, g.marks[32 * s + t], true);
+    Ok(JobDone { grid: after, results: r.holding(&entries), swept: !skipped, counters })
 }
 
 #[derive(Clone, Copy, Debug, PartialEq, Eq)]
@@ -704,16 +774,18 @@ pub struct Status {
     pub k: u32,
 }
 
-pub fn status(c: &Campaign, a: &Columns, b: &Columns, r: &Results) -> Result<Status, u32> {
+pub fn status(g: &Grid, customer: u32, a: &Columns, b: &Columns, r: &Results) -> Result<Status, u32> {
+    customer_refusal(customer)?;
     let (a, b) = lists(a, b)?;
-    if c.fault(&a, &b, r).is_some() {
+    if g.fault(customer, &a, &b, r).is_some() {
         return Err(7);
     }
-    let settled = c.marks.iter().filter(|m| **m == 1).count() as u32;
-    Ok(Status { settled, jobs: c.first_strips * c.second_strips, entries: c.entries, k: c.k })
+    let settled = g.marks.iter().filter(|m| owns(customer, **m)).count() as u32;
+    let Share { k, entries } = *g.share(customer);
+    Ok(Status { settled, jobs: g.first_strips * g.second_strips, entries, k })
 }
 
-/// The book: kept from the calls alone.
+/// A customer's book: kept from their calls alone.
 pub struct Book {
     a: Vec<Site>,
     b: Vec<Site>,
@@ -725,18 +797,18 @@ pub struct Book {
 
 impl Book {
     /// After an accepted opening.
-    pub fn opened(a: &Columns, b: &Columns, k: u32, first_ends: &[u32], second_ends: &[u32]) -> Book {
+    pub fn opened(a: &Columns, b: &Columns, o: Opening) -> Book {
         Book {
             a: a.sites(a.x.len()),
             b: b.sites(b.x.len()),
-            k,
-            first_ends: first_ends.to_vec(),
-            second_ends: second_ends.to_vec(),
+            k: o.k,
+            first_ends: o.first_ends.to_vec(),
+            second_ends: o.second_ends.to_vec(),
             settled: Vec::new(),
         }
     }
 
-    /// A job call with the campaign's own lists and columns: 8, 9, or 0 and the job is settled.
+    /// A job call of the customer with their lists and columns: 8, 9, or 0 and the job is settled.
     pub fn job(&mut self, s: u32, t: u32) -> u32 {
         if s as usize >= self.first_ends.len() || t as usize >= self.second_ends.len() {
             return 8;

@@ -67,19 +67,32 @@ unsafe extern "C" {
         total: *mut u64,
     ) -> u32;
 
+    pub fn vumlintel_prepare(
+        ax: X, axs: usize, ay: X, ays: usize, an: N, ans: usize, ah: X, ahs: usize,
+        bx: X, bxs: usize, by: X, bys: usize, bn: N, bns: usize, bh: X, bhs: usize,
+        first_cut: N, first_cuts: usize, second_cut: N, second_cuts: usize,
+        first_strips: *mut u32, second_strips: *mut u32,
+        first_ends: *mut [u32; 32], second_ends: *mut [u32; 32], marks: *mut [u8; 1024],
+        k1: *mut u32, entries1: *mut u32, k2: *mut u32, entries2: *mut u32,
+    ) -> u32;
+
     pub fn vumlintel_open(
+        first_strips: *mut u32, second_strips: *mut u32,
+        first_ends: *mut [u32; 32], second_ends: *mut [u32; 32], marks: *mut [u8; 1024],
+        k1: *mut u32, entries1: *mut u32, k2: *mut u32, entries2: *mut u32,
+        customer: u32,
         ax: X, axs: usize, ay: X, ays: usize, an: N, ans: usize, ah: X, ahs: usize,
         bx: X, bxs: usize, by: X, bys: usize, bn: N, bns: usize, bh: X, bhs: usize,
         k: u32,
         first_cut: N, first_cuts: usize, second_cut: N, second_cuts: usize,
         distance: *const u64, distances_len: usize, first: N, firsts: usize, second: N, seconds: usize,
-        campaign_k: *mut u32, campaign_entries: *mut u32, first_strips: *mut u32, second_strips: *mut u32,
-        first_ends: *mut [u32; 32], second_ends: *mut [u32; 32], marks: *mut [u8; 1024],
     ) -> u32;
 
     pub fn vumlintel_job_classic(
-        campaign_k: *mut u32, campaign_entries: *mut u32, first_strips: *mut u32, second_strips: *mut u32,
+        first_strips: *mut u32, second_strips: *mut u32,
         first_ends: *mut [u32; 32], second_ends: *mut [u32; 32], marks: *mut [u8; 1024],
+        k1: *mut u32, entries1: *mut u32, k2: *mut u32, entries2: *mut u32,
+        customer: u32,
         ax: X, axs: usize, ay: X, ays: usize, an: N, ans: usize, ah: X, ahs: usize,
         bx: X, bxs: usize, by: X, bys: usize, bn: N, bns: usize, bh: X, bhs: usize,
         distance: *mut u64, distances_len: usize, first: *mut u32, firsts: usize, second: *mut u32, seconds: usize,
@@ -88,8 +101,10 @@ unsafe extern "C" {
     ) -> u32;
 
     pub fn vumlintel_job_reverse_run(
-        campaign_k: *mut u32, campaign_entries: *mut u32, first_strips: *mut u32, second_strips: *mut u32,
+        first_strips: *mut u32, second_strips: *mut u32,
         first_ends: *mut [u32; 32], second_ends: *mut [u32; 32], marks: *mut [u8; 1024],
+        k1: *mut u32, entries1: *mut u32, k2: *mut u32, entries2: *mut u32,
+        customer: u32,
         ax: X, axs: usize, ay: X, ays: usize, an: N, ans: usize, ah: X, ahs: usize,
         bx: X, bxs: usize, by: X, bys: usize, bn: N, bns: usize, bh: X, bhs: usize,
         distance: *mut u64, distances_len: usize, first: *mut u32, firsts: usize, second: *mut u32, seconds: usize,
@@ -98,8 +113,10 @@ unsafe extern "C" {
     ) -> u32;
 
     pub fn vumlintel_job_halves(
-        campaign_k: *mut u32, campaign_entries: *mut u32, first_strips: *mut u32, second_strips: *mut u32,
+        first_strips: *mut u32, second_strips: *mut u32,
         first_ends: *mut [u32; 32], second_ends: *mut [u32; 32], marks: *mut [u8; 1024],
+        k1: *mut u32, entries1: *mut u32, k2: *mut u32, entries2: *mut u32,
+        customer: u32,
         ax: X, axs: usize, ay: X, ays: usize, an: N, ans: usize, ah: X, ahs: usize,
         bx: X, bxs: usize, by: X, bys: usize, bn: N, bns: usize, bh: X, bhs: usize,
         distance: *mut u64, distances_len: usize, first: *mut u32, firsts: usize, second: *mut u32, seconds: usize,
@@ -108,8 +125,10 @@ unsafe extern "C" {
     ) -> u32;
 
     pub fn vumlintel_status(
-        campaign_k: *const u32, campaign_entries: *const u32, first_strips: *const u32, second_strips: *const u32,
+        first_strips: *const u32, second_strips: *const u32,
         first_ends: *const [u32; 32], second_ends: *const [u32; 32], marks: *const [u8; 1024],
+        k1: *const u32, entries1: *const u32, k2: *const u32, entries2: *const u32,
+        customer: u32,
         ax: X, axs: usize, ay: X, ays: usize, an: N, ans: usize, ah: X, ahs: usize,
         bx: X, bxs: usize, by: X, bys: usize, bn: N, bns: usize, bh: X, bhs: usize,
         distance: *const u64, distances_len: usize, first: N, firsts: usize, second: N, seconds: usize,

@@ -132,33 +132,51 @@ static void heights(void)
     EXPECT(vumlintel_distance_list(HIGH, LOW, 3, first, 1, second, 1, &count) == VUMLINTEL_OK && count == 1);
 }
 
+/* One grid for two customers: the first works with K 2, the second with K 9, each with columns of their own. */
 static void campaigns(void)
 {
-    const uint32_t first_cuts[] = {2, 3}, second_cuts[] = {1, 3};
-    uint64_t distance[2] = {0, 0}, looks = 0, distances = 0, range_pairs = 99;
-    uint32_t first[2] = {0, 0}, second[2] = {0, 0}, swept = 99, settled, jobs, entries, k;
-    vumlintel_campaign c;
-    memset(&c, 0xff, sizeof c);
-    EXPECT(vumlintel_open(A, B, 2, first_cuts, 2, second_cuts, 2, distance, 2, first, 2, second, 2, VUMLINTEL_PARTS(&c)) ==
-           VUMLINTEL_OK);
-    EXPECT(vumlintel_job_classic(VUMLINTEL_PARTS(&c), A, B, distance, 2, first, 2, second, 2, 0, 0, &swept, &looks,
-                                 &distances) == VUMLINTEL_OK &&
+    const uint32_t first_cuts[] = {2, 3}, second_cuts[] = {1, 3}, other_cuts[] = {2, 3};
+    uint64_t distance[2] = {0, 0}, distance2[9] = {0}, looks = 0, distances = 0, range_pairs = 99;
+    uint32_t first[2] = {0, 0}, second[2] = {0, 0}, first2[9] = {0}, second2[9] = {0}, swept = 99, settled, jobs, entries, k;
+    vumlintel_grid g;
+    memset(&g, 0xff, sizeof g);
+#define COLUMNS1 distance, 2, first, 2, second, 2
+#define COLUMNS2 distance2, 9, first2, 9, second2, 9
+    EXPECT(sizeof(vumlintel_grid) == 1304);
+    EXPECT(vumlintel_prepare(A, B, first_cuts, 1, second_cuts, 2, VUMLINTEL_PARTS(&g)) == VUMLINTEL_CUT_ENDS);
+    EXPECT(g.first_strips == UINT32_MAX && g.marks[1023] == 255 && g.entries2 == UINT32_MAX);
+    EXPECT(vumlintel_prepare(A, B, first_cuts, 2, second_cuts, 2, VUMLINTEL_PARTS(&g)) == VUMLINTEL_OK);
+    EXPECT(g.first_strips == 2 && g.second_strips == 2 && g.first_ends[0] == 2 && g.first_ends[1] == 3 && g.first_ends[2] == 0);
+    EXPECT(g.second_ends[0] == 1 && g.second_ends[1] == 3 && g.second_ends[31] == 0);
+    EXPECT(g.marks[0] == 0 && g.marks[1023] == 0 && g.k1 == 0 && g.entries1 == 0 && g.k2 == 0 && g.entries2 == 0);
+    EXPECT(vumlintel_status(VUMLINTEL_PARTS(&g), 1, A, B, COLUMNS1, &settled, &jobs, &entries, &k) == VUMLINTEL_CAMPAIGN);
+    EXPECT(vumlintel_open(VUMLINTEL_PARTS(&g), 3, A, B, 2, first_cuts, 2, second_cuts, 2, COLUMNS1) == VUMLINTEL_CUSTOMER);
+    EXPECT(vumlintel_open(VUMLINTEL_PARTS(&g), 1, A, B, 2, first_cuts, 2, other_cuts, 2, COLUMNS1) == VUMLINTEL_CUT_ENDS);
+    EXPECT(g.k1 == 0);
+    EXPECT(vumlintel_open(VUMLINTEL_PARTS(&g), 1, A, B, 2, first_cuts, 2, second_cuts, 2, COLUMNS1) == VUMLINTEL_OK);
+    EXPECT(g.k1 == 2 && g.k2 == 0);
+    EXPECT(vumlintel_job_classic(VUMLINTEL_PARTS(&g), 1, A, B, COLUMNS1, 0, 0, &swept, &looks, &distances) == VUMLINTEL_OK &&
            swept == 1);
-    EXPECT(vumlintel_job_classic(VUMLINTEL_PARTS(&c), A, B, distance, 2, first, 2, second, 2, 0, 0, &swept, &looks,
-                                 &distances) == VUMLINTEL_SETTLED);
-    EXPECT(vumlintel_job_reverse_run(VUMLINTEL_PARTS(&c), A, B, distance, 2, first, 2, second, 2, 1, 0, &swept, &looks,
-                                     &distances) == VUMLINTEL_OK &&
-           swept == 0 && looks == 0 && distances == 0);
-    EXPECT(vumlintel_status(VUMLINTEL_PARTS(&c), A, B, distance, 2, first, 2, second, 2, &settled, &jobs, &entries, &k) ==
-           VUMLINTEL_OK);
-    EXPECT(settled == 2 && jobs == 4 && entries == 2 && k == 2 && c.marks[0] == 1 && c.marks[32] == 1 && c.marks[1] == 0);
-    EXPECT(vumlintel_job_halves(VUMLINTEL_PARTS(&c), A, B, distance, 2, first, 2, second, 2, 1, 0, &swept, &range_pairs) ==
-               VUMLINTEL_SETTLED &&
-           swept == 0 && range_pairs == 99);
-    EXPECT(vumlintel_job_halves(VUMLINTEL_PARTS(&c), A, B, distance, 2, first, 2, second, 2, 0, 1, &swept, &range_pairs) ==
+    EXPECT(vumlintel_job_classic(VUMLINTEL_PARTS(&g), 1, A, B, COLUMNS1, 0, 0, &swept, &looks, &distances) ==
+           VUMLINTEL_SETTLED);
+    EXPECT(vumlintel_job_reverse_run(VUMLINTEL_PARTS(&g), 1, A, B, COLUMNS1, 1, 0, &swept, &looks, &distances) ==
                VUMLINTEL_OK &&
+           swept == 0 && looks == 0 && distances == 0);
+    EXPECT(vumlintel_status(VUMLINTEL_PARTS(&g), 1, A, B, COLUMNS1, &settled, &jobs, &entries, &k) == VUMLINTEL_OK);
+    EXPECT(settled == 2 && jobs == 4 && entries == 2 && k == 2 && g.marks[0] == 1 && g.marks[32] == 1 && g.marks[1] == 0);
+    EXPECT(vumlintel_job_halves(VUMLINTEL_PARTS(&g), 2, A, B, COLUMNS2, 1, 0, &swept, &range_pairs) == VUMLINTEL_CAMPAIGN);
+    EXPECT(vumlintel_open(VUMLINTEL_PARTS(&g), 2, A, B, 9, first_cuts, 2, second_cuts, 2, COLUMNS2) == VUMLINTEL_OK);
+    EXPECT(g.k1 == 2 && g.entries1 == 2 && g.k2 == 9 && g.entries2 == 0 && g.marks[0] == 1 && g.marks[32] == 1);
+    EXPECT(vumlintel_job_halves(VUMLINTEL_PARTS(&g), 2, A, B, COLUMNS2, 1, 0, &swept, &range_pairs) == VUMLINTEL_OK &&
+           swept == 1 && range_pairs == 1 && g.marks[32] == 3 && g.entries2 == 1 && distance2[0] == 125);
+    EXPECT(vumlintel_status(VUMLINTEL_PARTS(&g), 2, A, B, COLUMNS2, &settled, &jobs, &entries, &k) == VUMLINTEL_OK);
+    EXPECT(settled == 1 && jobs == 4 && entries == 1 && k == 9);
+    range_pairs = 99;
+    EXPECT(vumlintel_job_halves(VUMLINTEL_PARTS(&g), 1, A, B, COLUMNS1, 1, 0, &swept, &range_pairs) == VUMLINTEL_SETTLED &&
+           swept == 1 && range_pairs == 99);
+    EXPECT(vumlintel_job_halves(VUMLINTEL_PARTS(&g), 1, A, B, COLUMNS1, 0, 1, &swept, &range_pairs) == VUMLINTEL_OK &&
            swept == 1 && range_pairs == 7);
-    EXPECT(c.marks[1] == 1 && c.entries == 2 && distance[0] == 9 && distance[1] == 16);
+    EXPECT(g.marks[1] == 1 && g.entries1 == 2 && distance[0] == 9 && distance[1] == 16);
     EXPECT(first[0] == 1 && second[0] == 1 && first[1] == 0 && second[1] == 1);
 }
 

@@ -1,18 +1,18 @@
 -- Cut ends taken one at a time: the test of them, the strip that holds a place, and the slots.
-use mathlib.Core.Path.{_≡_, refl, sym, _∙_}
-use mathlib.Core.Bool.{Bool, true, false}
+use mathlib.Core.Path.{_≡_, refl, sym, ap₂, _∙_}
+use mathlib.Core.Bool.{Bool, true, false, _&&_}
 use mathlib.Core.List.{List, [], _∷_, _++_, append-assoc}
 use Prim.Native.Nat.{ℕ, suc, _+_, _-_, _≤_, _<_}
 use native.Mathlib.Numerals.{add-one}
 use native.Mathlib.Omega.{arith}
 use lib.Dec.{leb, ltb, eqb}
 use lib.ListN.{length, getD, take, drop, set, replicate, drop-of-length-le}
-use lib.Seq.{drop-cons, take-suc, set-at, length-take-le, append-snoc, take-length}
-use borrow.Author.Tests.{lt-ltb, le-ltb, le-leb, lt-leb}
+use lib.Seq.{drop-cons, take-suc, set-at, length-take-le, append-snoc, take-length, getD-take}
+use borrow.Author.Tests.{lt-ltb, le-ltb, le-leb, lt-leb, eq-eqb, ne-eqb}
 use Rattle.order.specs.Order.{ascending}
 use Rattle.order.specs.Lists.{keep, last as ending}
 use Rattle.order.proofs.Lists.{keep-yes, keep-no, keep-nil}
-use Rattle.campaign.specs.Grid.{lawfulEnds, stripHolding}
+use Rattle.campaign.specs.Grid.{lawfulEnds, sameNumbers, sameEnds, stripHolding}
 use Rattle.campaign.specs.Calls.{slots}
 use Rattle.campaign.specs.Internal.{lawfulSlots}
 
@@ -76,6 +76,46 @@ module _ (n : ℕ) (slots : List ℕ) (used : ℕ) where
   pub slots-decide : {r : Bool} → used ≤ 32 → r ≡ lawfulEnds n (take used slots) → r ≡ lawfulSlots n used slots
   unfolding lawfulSlots
   slots-decide h e = e ∙ simp (le-leb used 32 h)
+
+-- ---- the ends of a grid
+
+-- From place `i` on the slots tell what all in use tell.
+module _ (used : ℕ) (slots ends : List ℕ) where
+  -- What is left to compare tells what all tells.
+  abbrev pub Alike : ℕ → Type 0
+  Alike i = sameNumbers (drop i (take used slots)) (drop i ends) ≡ sameNumbers (take used slots) ends
+
+  pub other-count : (used ≡ length ends → ⊥) → false ≡ sameEnds used slots ends
+  unfolding sameEnds
+  other-count h = simp (ne-eqb used (length ends) h)
+
+  module _ (count : used ≡ length ends) (few : length ends ≤ length slots) where
+    same-all : sameEnds used slots ends ≡ sameNumbers (take used slots) ends
+    unfolding sameEnds
+    same-all = simp (eq-eqb used (length ends) count)
+
+    module _ (i : ℕ) (w : Alike i) where
+      module _ (inside : i < length ends) where
+        here : sameNumbers (take used slots) ends
+            ≡ (eqb (getD slots i 0) (getD ends i 0) && sameNumbers (drop (i + 1) (take used slots)) (drop (i + 1) ends))
+        unfolding sameNumbers
+        here =
+            let long : length (take used slots) ≡ used = length-take-le used slots (omega arith) in
+            sym w
+            ∙ ap₂ sameNumbers (drop-cons (take used slots) i 0 (omega arith)) (drop-cons ends i 0 inside)
+            ∙ rw (getD-take used slots i 0 (omega arith), add-one i)
+
+        pub same-more : getD slots i 0 ≡ getD ends i 0 → Alike (i + 1)
+        same-more e = sym (here ∙ simp (eq-eqb (getD slots i 0) (getD ends i 0) e))
+
+        pub same-fails : (getD slots i 0 ≡ getD ends i 0 → ⊥) → false ≡ sameEnds used slots ends
+        same-fails e = sym (same-all ∙ here ∙ simp (ne-eqb (getD slots i 0) (getD ends i 0) e))
+
+      pub same-ends : length ends ≤ i → true ≡ sameEnds used slots ends
+      unfolding sameNumbers
+      same-ends h =
+          let long : length (take used slots) ≤ i = omega (arith, length-take-le used slots (omega arith)) in
+          sym (same-all ∙ sym w ∙ ap₂ sameNumbers (drop-of-length-le (take used slots) long) (drop-of-length-le ends h))
 
 -- ---- the strip that holds a place
 

@@ -17,7 +17,7 @@ use Rattle.site.specs.Site.{Site}
 use Rattle.entry.specs.declared.Entry.{Entry}
 use Rattle.entry.specs.Entry.{rankBefore}
 use Rattle.entry.proofs.Rank.{rank-order}
-use Rattle.campaign.specs.declared.Campaign.{Campaign}
+use Rattle.customers.specs.declared.Campaign.{Campaign}
 use Rattle.campaign.specs.Grid.{jobs, settled, settledJobs, jobsPairs}
 use Rattle.campaign.specs.Soundness.{firstEnds, secondEnds, soundEntry}
 use Rattle.campaign.proofs.LawfulEnds.{Cut}

@@ -1,6 +1,6 @@
--- Examples of skips, of a job's refusals and of co-sited cells: what M1 to M10 do not tell apart.
+-- Examples of skips, of a job's refusals, of co-sited cells and of both customers: what M1 to M10 do not tell apart.
 use mathlib.Core.Path.{_≡_, refl}
-use mathlib.Core.List.{List, [], _∷_, flatMap, zipWith}
+use mathlib.Core.List.{List, [], _∷_, _++_, flatMap, map, zipWith}
 use Prim.Native.Nat.{ℕ, _*_, _-_}
 use lib.IntN.{pos}
 use Rattle.order.specs.Order.{lex, ascending, firstOf, foremost}
@@ -21,7 +21,8 @@ use Rattle.sweep.specs.Sweep.{classicOver, leads, look, sweep}
 use Rattle.halves.specs.Gap.{squaredStripGap}
 use Rattle.join.specs.declared.Join.the-variants.{Sweep}
 use Rattle.join.specs.Join.{join}
-use Rattle.campaign.specs.declared.Campaign.{Campaign}
+use Rattle.customers.specs.declared.Grid.{Grid}
+use Rattle.customers.specs.Customers.{isCustomer, ownMark, withOwn, cleared, campaignAs, withCampaign, settledAt}
 use Rattle.campaign.specs.Grid.{
   lawfulEnds,
   stripAt,
@@ -33,26 +34,35 @@ use Rattle.campaign.specs.Grid.{
   markOf,
   settled,
   settledJobs,
+  lawfulMark,
   lawfulMarks,
   jobPairs,
   jobsPairs,
 }
-use Rattle.campaign.specs.Soundness.{firstEnds, secondEnds, soundEntry, sound, campaignRefusal}
-use Rattle.campaign.specs.Calls.{slots, newCampaign, jobRefusal, skips, jobEntries, afterJob, JobValues, jobAnswer}
+use Rattle.campaign.specs.Soundness.{customerRefusal, firstEnds, secondEnds, soundEntry, sound, lawfulGrid, campaignRefusal}
+use Rattle.campaign.specs.Calls.{slots, prepared, opened, jobRefusal, skips, jobEntries, afterJob, JobValues, jobAnswer}
 
 -- What a job answers, in one number: the refusal's, or 100 where it was swept and 200 where it was skipped.
 answerAs : Answer JobValues → ℕ
 answerAs (refused n) = n
 answerAs (answered v) = 200 - 100 * v .swept
 
--- Jobs by the classic sweep, one after another.
-answersOf : Columns → Columns → Campaign → Results → List Job → List ℕ
-answersOf a b c r [] = []
-answersOf a b c r (j ∷ l) =
-    let answer = jobAnswer (Sweep Classic) c a b r j in
-    let c' = afterwards (λ (v : JobValues). v .campaign) answer c in
+-- A customer's jobs by the classic sweep, one after another.
+answersTo : ℕ → Columns → Columns → Grid → Results → List Job → List ℕ
+answersTo customer a b g r [] = []
+answersTo customer a b g r (j ∷ l) =
+    let answer = jobAnswer (Sweep Classic) customer g a b r j in
+    let g' = afterwards (λ (v : JobValues). v .grid) answer g in
     let r' = afterwards (λ (v : JobValues). v .results) answer r in
-    answerAs answer ∷ answersOf a b c' r' l
+    answerAs answer ∷ answersTo customer a b g' r' l
+
+-- The first customer's.
+answersOf : Columns → Columns → Grid → Results → List Job → List ℕ
+answersOf = answersTo 1
+
+-- The first customer's campaign on a new grid.
+newGrid : ℕ → List ℕ → List ℕ → Grid
+newGrid k ends ends' = opened 1 (prepared ends ends') k
 
 one : Results
 one = results (0 ∷ []) (0 ∷ []) (0 ∷ [])
@@ -61,7 +71,7 @@ one = results (0 ∷ []) (0 ∷ []) (0 ∷ [])
 equalGap : List ℕ
 equalGap =
     answersOf (columns (pos 0 ∷ []) (pos 0 ∷ []) (1 ∷ [])) (columns (pos 3 ∷ pos 5 ∷ []) (pos 4 ∷ pos 0 ∷ []) (2 ∷ 3 ∷ []))
-    (newCampaign 1 (1 ∷ []) (1 ∷ 2 ∷ [])) one
+    (newGrid 1 (1 ∷ []) (1 ∷ 2 ∷ [])) one
     (jobOf 0 0 ∷ jobOf 0 1 ∷ jobOf 0 1 ∷ jobOf 1 1 ∷ jobOf 0 2 ∷ [])
 
 -- The gap is that of the strips' own x ranges: a strip does not reach to the next one's first site.
@@ -69,7 +79,7 @@ ownRanges : List ℕ
 ownRanges =
     answersOf (columns (pos 0 ∷ pos 100 ∷ []) (pos 0 ∷ pos 0 ∷ []) (1 ∷ 2 ∷ []))
     (columns (pos 1 ∷ pos 50 ∷ []) (pos 0 ∷ pos 0 ∷ []) (3 ∷ 4 ∷ []))
-    (newCampaign 1 (1 ∷ 2 ∷ []) (1 ∷ 2 ∷ [])) one
+    (newGrid 1 (1 ∷ 2 ∷ []) (1 ∷ 2 ∷ [])) one
     (jobOf 0 0 ∷ jobOf 0 1 ∷ jobOf 1 0 ∷ jobOf 1 1 ∷ [])
 
 -- The gap is that of boxes: strips whose x ranges touch, 50 apart in y, are skipped behind a pair at 1.
@@ -77,7 +87,7 @@ apartInY : List ℕ
 apartInY =
     answersOf (columns (pos 0 ∷ pos 10 ∷ []) (pos 0 ∷ pos 0 ∷ []) (1 ∷ 2 ∷ []))
     (columns (pos 1 ∷ pos 10 ∷ []) (pos 0 ∷ pos 50 ∷ []) (3 ∷ 4 ∷ []))
-    (newCampaign 1 (1 ∷ 2 ∷ []) (1 ∷ 2 ∷ [])) one
+    (newGrid 1 (1 ∷ 2 ∷ []) (1 ∷ 2 ∷ [])) one
     (jobOf 0 0 ∷ jobOf 1 1 ∷ [])
 
 -- And of heights: strips whose x and y ranges touch, 50 apart in height, are skipped behind a pair at 1.
@@ -85,14 +95,14 @@ apartInHeight : List ℕ
 apartInHeight =
     answersOf (raised (pos 0 ∷ pos 10 ∷ []) (pos 0 ∷ pos 0 ∷ []) (1 ∷ 2 ∷ []) (pos 0 ∷ pos 0 ∷ []))
     (raised (pos 1 ∷ pos 10 ∷ []) (pos 0 ∷ pos 0 ∷ []) (3 ∷ 4 ∷ []) (pos 0 ∷ pos 50 ∷ []))
-    (newCampaign 1 (1 ∷ 2 ∷ []) (1 ∷ 2 ∷ [])) one
+    (newGrid 1 (1 ∷ 2 ∷ []) (1 ∷ 2 ∷ [])) one
     (jobOf 0 0 ∷ jobOf 1 1 ∷ [])
 
 -- Refusal 7 comes before 8: a mark outside the jobs, and a strip past the count.
 soundnessFirst : List ℕ
 soundnessFirst =
     answersOf (columns (pos 0 ∷ []) (pos 0 ∷ []) (1 ∷ [])) (columns (pos 3 ∷ []) (pos 4 ∷ []) (2 ∷ []))
-    (afterJob (newCampaign 1 (1 ∷ []) (1 ∷ [])) 0 (jobOf 0 1)) one
+    (afterJob 1 (newGrid 1 (1 ∷ []) (1 ∷ [])) 0 (jobOf 0 1)) one
     (jobOf 0 0 ∷ jobOf 1 1 ∷ [])
 
 -- A site at the origin, and the same with another at (3, 4).
@@ -105,29 +115,39 @@ twoSites = columns (pos 0 ∷ pos 3 ∷ []) (pos 0 ∷ pos 4 ∷ []) (2 ∷ 3 �
 -- Co-sited cells are no pair: one is left for K = 2, and it is the settled job's pair total.
 coSited : List ℕ
 coSited =
-    answersOf origin twoSites (newCampaign 2 (1 ∷ []) (2 ∷ [])) (results (0 ∷ 0 ∷ []) (0 ∷ 0 ∷ []) (0 ∷ 0 ∷ []))
+    answersOf origin twoSites (newGrid 2 (1 ∷ []) (2 ∷ [])) (results (0 ∷ 0 ∷ []) (0 ∷ 0 ∷ []) (0 ∷ 0 ∷ []))
     (jobOf 0 0 ∷ jobOf 0 0 ∷ [])
 
 -- The same lists with the job settled and K = 1: one entry, at 0, gets 7, and so does none in the place of the pair at 25.
 settledWith : ℕ → List ℕ
 settledWith entries =
-    answersOf origin twoSites (afterJob (newCampaign 1 (1 ∷ []) (2 ∷ [])) entries (jobOf 0 0)) one (jobOf 0 0 ∷ [])
+    answersOf origin twoSites (afterJob 1 (newGrid 1 (1 ∷ []) (2 ∷ [])) entries (jobOf 0 0)) one (jobOf 0 0 ∷ [])
 
 -- Where all sites stand at one position there is no pair: the settled job gets 9, with no entry held.
 onePosition : List ℕ
-onePosition = answersOf origin origin (afterJob (newCampaign 1 (1 ∷ []) (1 ∷ [])) 0 (jobOf 0 0)) one (jobOf 0 0 ∷ [])
+onePosition = answersOf origin origin (afterJob 1 (newGrid 1 (1 ∷ []) (1 ∷ [])) 0 (jobOf 0 0)) one (jobOf 0 0 ∷ [])
+
+-- On the first customer's grid with a job settled, each customer's answers to a repeat and to a strip past the count: 9 and 8,
+-- then 7 before opening, 15 for any other number, and after an opening of the second 100 and 8.
+twoCustomers : List (List ℕ)
+twoCustomers =
+    let g = afterJob 1 (newGrid 1 (1 ∷ []) (1 ∷ [])) 0 (jobOf 0 0) in
+    let ask : ℕ → Grid → List ℕ = λ customer h. answersTo customer origin origin h one (jobOf 0 0 ∷ jobOf 1 0 ∷ []) in
+    map (λ customer. ask customer g) (1 ∷ 2 ∷ 0 ∷ 3 ∷ [])
+    ++ map (λ customer. ask customer (opened 2 g 1)) (1 ∷ 2 ∷ 0 ∷ 3 ∷ [])
 
 answers :
-    equalGap ∷ ownRanges ∷ apartInY ∷ apartInHeight ∷ soundnessFirst ∷ coSited ∷ settledWith 1 ∷ settledWith 0 ∷ onePosition ∷ []
+    equalGap ∷ ownRanges ∷ apartInY ∷ apartInHeight ∷ soundnessFirst ∷ coSited ∷ settledWith 1 ∷ settledWith 0 ∷ onePosition ∷ twoCustomers
     ≡ (100 ∷ 100 ∷ 9 ∷ 8 ∷ 8 ∷ []) ∷ (100 ∷ 200 ∷ 200 ∷ 200 ∷ []) ∷ (100 ∷ 200 ∷ []) ∷ (100 ∷ 200 ∷ []) ∷ (7 ∷ 7 ∷ []) ∷ (100 ∷ 9 ∷ [])
-    ∷ (7 ∷ []) ∷ (7 ∷ []) ∷ (9 ∷ []) ∷ []
+    ∷ (7 ∷ []) ∷ (7 ∷ []) ∷ (9 ∷ []) ∷ (9 ∷ 8 ∷ []) ∷ (7 ∷ 7 ∷ []) ∷ (15 ∷ 15 ∷ []) ∷ (15 ∷ 15 ∷ [])
+    ∷ (9 ∷ 8 ∷ []) ∷ (100 ∷ 8 ∷ []) ∷ (15 ∷ 15 ∷ []) ∷ (15 ∷ 15 ∷ []) ∷ []
 unfolding
-    afterJob afterwards all allWithin answerAs answersOf answerUnless apart apartInHeight apartInY ascending bestK between beyond boxAround
-    boxOf campaignRefusal classicOver contentRefusal coordinateColumns coSited countFrom edges entriesOf equalGap equalLengths firstEnds firstOf
-    flatMap foremost gap gaps heightWithin holding insert jobAnswer
-    jobEntries jobPairs jobRefusal join jobs jobsPairs keep last lastDistance lawfulEnds lawfulK lawfulMarks lawfulSite leads
-    lex listRefusal listsRefusal look markOf newCampaign offer one onePosition orElse origin overwritten ownRanges pair
-    pairs placedFrom product rangeGap rankBefore roomFor scan secondEnds settled settledJobs settledWith siteAt siteBefore sites
+    afterJob afterwards all allWithin answerAs answersOf answersTo answerUnless apart apartInHeight apartInY ascending bestK between beyond boxAround
+    boxOf campaignAs campaignRefusal classicOver cleared contentRefusal coordinateColumns coSited countFrom customerRefusal edges entriesOf equalGap equalLengths firstEnds firstOf
+    flatMap foremost gap gaps heightWithin holding insert isCustomer jobAnswer
+    jobEntries jobPairs jobRefusal join jobs jobsPairs keep last lastDistance lawfulEnds lawfulGrid lawfulK lawfulMark lawfulMarks lawfulSite leads
+    lex listRefusal listsRefusal look markOf newGrid offer one onePosition opened orElse origin overwritten ownMark ownRanges pair
+    pairs placedFrom prepared product rangeGap rankBefore roomFor scan secondEnds settled settledAt settledJobs settledWith siteAt siteBefore sites
     sizeFault skips slots sort sound soundEntry soundnessFirst square squaredBoxGap squaredDistance squaredStripGap strip stripAt
-    stripHolding sum sweep taken twoSites whole withColumns within zipWith
+    stripHolding sum sweep taken twoCustomers twoSites whole withCampaign withColumns within withOwn zipWith
 answers = refl

@@ -30,7 +30,9 @@ use Rattle.join.specs.declared.Joined.{Joined}
 use Rattle.join.specs.Join.{noCounts, join}
 use Rattle.join.specs.Terms.{JoinedTo}
 use Rattle.join.proofs.JoinLaws.{join-best}
-use Rattle.campaign.specs.declared.Campaign.{Campaign}
+use Rattle.customers.specs.declared.Campaign.{Campaign}
+use Rattle.customers.specs.declared.Grid.{Grid}
+use Rattle.customers.specs.Customers.{campaignAs}
 use Rattle.campaign.specs.declared.Outcome.the-variants as outcome
 use Rattle.campaign.specs.declared.JobDone.{JobDone}
 use Rattle.campaign.specs.declared.Strip.{Strip}
@@ -40,7 +42,7 @@ use Rattle.campaign.specs.Calls.{jobRefusal, skips, jobEntries, afterJob
 use Rattle.campaign.specs.Internal.{StripOf}
 use Rattle.site.proofs.Accepted.{accepted-order}
 use Rattle.campaign.proofs.SoundPlan.{strips-are}
-use Rattle.campaign.proofs.SoundCampaign.{campaign-sorted, campaign-length}
+use Rattle.campaign.proofs.SoundCampaign.{SoundCampaign, campaign-sorted, campaign-length}
 use Rattle.campaign.proofs.JobRefusal.{job-sound}
 
 -- ---- the columns that a join is lent
@@ -72,21 +74,27 @@ not-full c a b r s t room most h = simp (length-entries (c .k) (c .entries) r ro
 
 -- ---- what a job leaves
 
-module _ (way : Join) (c : Campaign) (a b : Columns) (r : Results) (s t : ℕ) where
-  -- A job as its answer, its campaign and the result columns tell it.
+module _ (way : Join) (customer : ℕ) (g : Grid) (a b : Columns) (r : Results) (s t : ℕ) where
+  -- A job as its answer, its grid and the result columns tell it.
   abbrev pub Done-as : JobDone → Results → Type 0
   Done-as d r' =
-      let answer = jobAnswer way c a b r (jobOf s t) in
+      let answer = jobAnswer way customer g a b r (jobOf s t) in
       (jobDoneAnswer d r' ≡ answer)
-      × ((d .campaign ≡ afterwards (λ (v : JobValues). v .campaign) answer c)
+      × ((d .grid ≡ afterwards (λ (v : JobValues). v .grid) answer g)
       × (r' ≡ afterwards (λ (v : JobValues). v .results) answer r))
 
-  pub job-refused : {q : ℕ} → q ≡ jobRefusal c a b r (jobOf s t) → (q ≡ 0 → ⊥)
-      → Done-as (record { campaign = c; outcome = outcome.Refused q }) r
+  pub job-refused : {q : ℕ} → q ≡ jobRefusal customer g a b r (jobOf s t) → (q ≡ 0 → ⊥)
+      → Done-as (record { grid = g; outcome = outcome.Refused q }) r
   unfolding jobDoneAnswer jobAnswer
-  job-refused is h = (answer-refused _ is h, (after-refused _ _ c is h, after-refused _ _ r is h))
+  job-refused is h = (answer-refused _ is h, (after-refused _ _ g is h, after-refused _ _ r is h))
 
-  module _ (ok : jobRefusal c a b r (jobOf s t) ≡ 0) where
+  module _ (ok : jobRefusal customer g a b r (jobOf s t) ≡ 0) where
+    abbrev c : Campaign
+    c = campaignAs customer g
+
+    lawful : SoundCampaign c a b r
+    lawful = job-sound customer g a b r s t ok
+
     abbrev entries : List Entry
     entries = entriesOf (c .entries) r
 
@@ -102,19 +110,18 @@ module _ (way : Join) (c : Campaign) (a b : Columns) (r : Results) (s t : ℕ) w
 
     first-sorted : Sorted leftOf firstStrip
     unfolding stripAt
-    first-sorted = strip-sorted _ _ (sites a) (accepted-order a (job-sound c a b r s t ok .lists .0))
+    first-sorted = strip-sorted _ _ (sites a) (accepted-order a (lawful .lists .0))
 
     second-sorted : Sorted leftOf secondStrip
     unfolding stripAt
-    second-sorted = strip-sorted _ _ (sites b) (accepted-order b (job-sound c a b r s t ok .lists .1))
+    second-sorted = strip-sorted _ _ (sites b) (accepted-order b (lawful .lists .1))
 
     -- The entries are the best of themselves.
     own-best : bestK (c .k) entries ≡ entries
     unfolding bestK
     own-best =
-        let w = job-sound c a b r s t ok in
-        best-sorted rank-order (c .k) entries (campaign-sorted c a b r w)
-        ∙ take-all (c .k) entries (omega (arith, campaign-length c a b r w, w .most))
+        best-sorted rank-order (c .k) entries (campaign-sorted c a b r lawful)
+        ∙ take-all (c .k) entries (omega (arith, campaign-length c a b r lawful, lawful .most))
 
     -- A skip leaves out no pair that could enter.
     skipped-entries : skips c (sites a) (sites b) entries (jobOf s t) ≡ true → left ≡ entries
@@ -130,29 +137,36 @@ module _ (way : Join) (c : Campaign) (a b : Columns) (r : Results) (s t : ℕ) w
     unfolding jobEntries jobPairs
     swept-entries = join-best way (c .k) firstStrip secondStrip entries entries first-sorted second-sorted (sym own-best)
 
-    pub job-skipped : skips c (sites a) (sites b) entries (jobOf s t) ≡ true → {c' : Campaign}
-        → c' ≡ afterJob c (c .entries) (jobOf s t) → Done-as (record { campaign = c'; outcome = outcome.Skipped }) r
+    -- `d` is the campaign as it was made.
+    pub job-skipped : {d : Campaign} → d ≡ c → skips d (sites a) (sites b) (entriesOf (d .entries) r) (jobOf s t) ≡ true
+        → {g' : Grid} → g' ≡ afterJob customer g (c .entries) (jobOf s t) → Done-as (record { grid = g'; outcome = outcome.Skipped }) r
     unfolding jobDoneAnswer jobAnswer
-    job-skipped h {c'} e =
-        let w = job-sound c a b r s t ok in
+    job-skipped is w {g'} e =
+        let h : skips c (sites a) (sites b) entries (jobOf s t) ≡ true = rw is at w in
         let same : left ≡ entries = skipped-entries h in
-        let count : length left ≡ c .entries = ap (λ (l : List Entry). length l) same ∙ campaign-length c a b r w in
-        let after : c' ≡ afterJob c (length left) (jobOf s t) = e ∙ ap (λ (n : ℕ). afterJob c n (jobOf s t)) (sym count) in
+        let count : length left ≡ c .entries = ap (λ (l : List Entry). length l) same ∙ campaign-length c a b r lawful in
+        let after : g' ≡ afterJob customer g (length left) (jobOf s t) =
+        e ∙ ap (λ (n : ℕ). afterJob customer g n (jobOf s t)) (sym count) in
         let columns : r ≡ holding left r =
-        sym (holding-self (c .k) (c .entries) r (w .room) (w .most)) ∙ ap (λ (l : List Entry). holding l r) (sym same) in (
-          ap₂ (λ (d : Campaign) (l : Results). answered (jobValues d l 0 noCounts)) after columns ∙ rw h (answer-values ok),
-          (after ∙ after-answered _ _ c ok, columns ∙ after-answered _ _ r ok),
+        sym (holding-self (c .k) (c .entries) r (lawful .room) (lawful .most)) ∙ ap (λ (l : List Entry). holding l r) (sym same) in (
+          ap₂ (λ (d : Grid) (l : Results). answered (jobValues d l 0 noCounts)) after columns ∙ rw h (answer-values ok),
+          (after ∙ after-answered _ _ g ok, columns ∙ after-answered _ _ r ok),
         )
 
-    pub job-swept : skips c (sites a) (sites b) entries (jobOf s t) ≡ false → {r' : Results} {d : Joined}
-        → JoinedTo (join way (c .k) firstStrip secondStrip entries) r r' d
-        → {c' : Campaign} → c' ≡ afterJob c (d .entries) (jobOf s t)
-        → Done-as (record { campaign = c'; outcome = outcome.Swept (d .counters) }) r'
+    pub job-swept : {d : Campaign} → d ≡ c → skips d (sites a) (sites b) (entriesOf (d .entries) r) (jobOf s t) ≡ false
+        → {r' : Results} {joined : Joined}
+        → JoinedTo (join way (d .k) (stripAt (firstEnds d) (sites a) s) (stripAt (secondEnds d) (sites b) t)
+        (entriesOf (d .entries) r)) r r' joined
+        → {g' : Grid} → g' ≡ afterJob customer g (joined .entries) (jobOf s t)
+        → Done-as (record { grid = g'; outcome = outcome.Swept (joined .counters) }) r'
     unfolding jobDoneAnswer jobAnswer
-    job-swept h {r'} {d} w {c'} e =
-        let count : d .entries ≡ length left = w .entries ∙ ap (λ (l : List Entry). length l) swept-entries in
-        let after : c' ≡ afterJob c (length left) (jobOf s t) = e ∙ ap (λ (n : ℕ). afterJob c n (jobOf s t)) count in
+    job-swept is k {r'} {joined} v {g'} e =
+        let h : skips c (sites a) (sites b) entries (jobOf s t) ≡ false = rw is at k in
+        let w : JoinedTo (join way (c .k) firstStrip secondStrip entries) r r' joined = rw is at v in
+        let count : joined .entries ≡ length left = w .entries ∙ ap (λ (l : List Entry). length l) swept-entries in
+        let after : g' ≡ afterJob customer g (length left) (jobOf s t) =
+        e ∙ ap (λ (n : ℕ). afterJob customer g n (jobOf s t)) count in
         let columns : r' ≡ holding left r = w .columns ∙ ap (λ (l : List Entry). holding l r) swept-entries in (
           rw (h, after, columns, w .counts) (answer-values ok),
-          (after ∙ after-answered _ _ c ok, columns ∙ after-answered _ _ r ok),
+          (after ∙ after-answered _ _ g ok, columns ∙ after-answered _ _ r ok),
         )

@@ -3,6 +3,7 @@ pub mod FlatMap
 pub mod LawfulEnds
 pub mod Grid
 pub mod MarkLaws
+pub mod CustomerLaws
 pub mod EndsInvariant
 pub mod MarksInvariant
 pub mod SettledRows
@@ -13,6 +14,7 @@ pub mod SoundPlan
 pub mod EntryCount
 pub mod Sound
 pub mod SoundCampaign
+pub mod PrepareAnswer
 pub mod OpenAnswer
 pub mod StatusAnswer
 pub mod JobRefusal

@@ -1,14 +1,15 @@
--- Laws of a campaign's marks.
+-- Laws of a grid's marks.
 use mathlib.Core.Path.{_≡_, refl}
-use mathlib.Core.Bool.{true, false, and-eq-true-iff}
-use mathlib.Core.List.{List, [], _∷_}
-use Prim.Native.Nat.{ℕ, zero, suc, _+_, _*_, _/_, _%_, _≤_, _<_}
+use mathlib.Core.Bool.{true, false, _&&_, _||_, or-true, and-eq-true-iff}
+use mathlib.Core.List.{List, [], _∷_, map}
+use Prim.Native.Nat.{ℕ, zero, suc, _+_, _/_, _%_, _≤_, _<_}
 use native.Mathlib.Omega.{arith}
-use lib.ListN.{length, getD, set, replicate, length-set}
+use lib.Dec.{leb, ltb, eqb}
+use lib.ListN.{length, getD, set, replicate}
 use lib.Seq.{getD-set-same, getD-set-other}
-use borrow.Author.Tests.{lt-ltb}
-use Rattle.campaign.specs.Grid.{Job, markOf, settled, lawfulMarks}
-use Rattle.campaign.specs.Internal.{lawfulMark}
+use borrow.Author.Tests.{eqb-true, leb-true, lt-ltb, le-leb}
+use Rattle.order.proofs.Order.{byTest}
+use Rattle.campaign.specs.Grid.{Job, markOf, settled, lawfulMark, lawfulMarks}
 use Rattle.campaign.proofs.Grid.{InGrid}
 
 zeros-at : (n i : ℕ) → getD {A = ℕ} (replicate n 0) i 0 ≡ 0
@@ -21,44 +22,87 @@ pub none-settled : (n : ℕ) (j : Job) → settled (replicate n 0) j ≡ false
 unfolding settled
 none-settled n j = rw (zeros-at n (markOf j))
 
-pub lawful-zeros : (rows cols i n : ℕ) → lawfulMarks rows cols i (replicate n 0) ≡ true
-unfolding lawfulMarks lawfulMark
-lawful-zeros rows cols i zero = refl
-lawful-zeros rows cols i (suc n) = lawful-zeros rows cols (suc i) n
+-- ---- marks within 0 to 3 and inside the jobs
 
--- A 1 at a job's mark.
-lawful-one : (rows cols i n : ℕ) (marks : List ℕ) → lawfulMarks rows cols i marks ≡ true → (i + n) / 32 < rows → (i + n) % 32 < cols
-    → lawfulMarks rows cols i (set marks n 1) ≡ true
-unfolding lawfulMarks lawfulMark
-lawful-one rows cols i n [] h r c = refl
-lawful-one rows cols i zero (m ∷ l) h r c =
-    let e : i + 0 ≡ i = omega arith in
-    let p = and-eq-true-iff (lawfulMark rows cols i m) (lawfulMarks rows cols (suc i) l) .0 h in
-    simp (lt-ltb (i / 32) rows (rw e at r), lt-ltb (i % 32) cols (rw e at c), p .1)
-lawful-one rows cols i (suc n) (m ∷ l) h r c =
-    let e : i + suc n ≡ suc i + n = omega arith in
-    let p = and-eq-true-iff (lawfulMark rows cols i m) (lawfulMarks rows cols (suc i) l) .0 h in
-    simp (p .0, lawful-one rows cols (suc i) n l (p .1) (rw e at r) (rw e at c))
+module _ (rows cols : ℕ) where
+  pub mark-most : (i m : ℕ) → lawfulMark rows cols i m ≡ true → m ≤ 3
+  unfolding lawfulMark
+  mark-most i m h =
+      leb-true m 3 (and-eq-true-iff (leb m 3) (eqb m 0 || (ltb (i / 32) rows && ltb (i % 32) cols)) .0 h .0)
 
-module _ (rows cols : ℕ) (few : cols ≤ 32) (j : Job) (g : InGrid rows cols j) where
-  pub lawful-settled : (marks : List ℕ) → lawfulMarks rows cols 0 marks ≡ true → lawfulMarks rows cols 0
-      (set marks (markOf j) 1) ≡ true
-  unfolding markOf
-  lawful-settled marks h = lawful-one rows cols 0 (32 * j .first + j .second) marks h (omega (arith, g .row, g .column)) (omega (arith, g .row, g .column))
+  -- Any number from 0 to 3 at a mark inside the jobs.
+  pub mark-inside : (i m : ℕ) → m ≤ 3 → i / 32 < rows → i % 32 < cols → lawfulMark rows cols i m ≡ true
+  unfolding lawfulMark
+  mark-inside i m h r c = simp (le-leb m 3 h, lt-ltb (i / 32) rows r, lt-ltb (i % 32) cols c, or-true)
 
-  -- A mark for each job.
-  pub mark-below : rows ≤ 32 → markOf j < 1024
-  unfolding markOf
-  mark-below r = omega (arith, g .row, g .column)
+  -- A number from 0 to 3 that is 0 where a lawful mark is.
+  pub mark-instead : (i m v : ℕ) → lawfulMark rows cols i m ≡ true → v ≤ 3 → (m ≡ 0 → v ≡ 0) → lawfulMark rows cols i v ≡ true
+  unfolding lawfulMark
+  mark-instead i m v h most none =
+      let inside = ltb (i / 32) rows && ltb (i % 32) cols in
+      let p = and-eq-true-iff (leb m 3) (eqb m 0 || inside) .0 h in
+      byTest (eqb m 0) (λ t. rw (none (eqb-true m 0 t)))
+      (λ f. let in-jobs : inside ≡ true = rw f at (p .1) in simp (le-leb v 3 most, in-jobs, or-true))
 
-  -- No two jobs share a mark.
-  pub mark-apart : (i : Job) → InGrid rows cols i → markOf i ≡ markOf j → (i .first ≡ j .first) × (i .second ≡ j .second)
-  unfolding markOf
-  mark-apart i h e = (omega (arith, g .column, h .column), omega (arith, g .column, h .column))
+  pub lawful-zeros : (i n : ℕ) → lawfulMarks rows cols i (replicate n 0) ≡ true
+  unfolding lawfulMarks lawfulMark
+  lawful-zeros i zero = refl
+  lawful-zeros i (suc n) = lawful-zeros (suc i) n
 
--- As many marks as before.
-pub length-settle : (marks : List ℕ) (j : Job) → length (set marks (markOf j) 1) ≡ length marks
-length-settle marks j = length-set marks (markOf j) 1
+  parts : (i m : ℕ) (l : List ℕ) → lawfulMarks rows cols i (m ∷ l) ≡ true
+      → (lawfulMark rows cols i m ≡ true) × (lawfulMarks rows cols (suc i) l ≡ true)
+  unfolding lawfulMarks
+  parts i m l h = and-eq-true-iff (lawfulMark rows cols i m) (lawfulMarks rows cols (suc i) l) .0 h
+
+  pub lawful-at : (i n : ℕ) (marks : List ℕ) → lawfulMarks rows cols i marks ≡ true → getD marks n 0 ≤ 3
+  lawful-at i n [] h = omega arith
+  lawful-at i zero (m ∷ l) h = mark-most i m (parts i m l h .0)
+  lawful-at i (suc n) (m ∷ l) h = lawful-at (suc i) n l (parts i m l h .1)
+
+  -- Each mark for another one.
+  pub lawful-map : (f : ℕ → ℕ) → ((i m : ℕ) → lawfulMark rows cols i m ≡ true → lawfulMark rows cols i (f m) ≡ true)
+      → (i : ℕ) (marks : List ℕ) → lawfulMarks rows cols i marks ≡ true → lawfulMarks rows cols i (map f marks) ≡ true
+  unfolding lawfulMarks
+  lawful-map f each i [] h = refl
+  lawful-map f each i (m ∷ l) h =
+      let p = parts i m l h in
+      simp (each i m (p .0), lawful-map f each (suc i) l (p .1))
+
+  -- One mark for another.
+  pub lawful-set : (i n v : ℕ) (marks : List ℕ) → lawfulMarks rows cols i marks ≡ true → lawfulMark rows cols (i + n) v ≡ true
+      → lawfulMarks rows cols i (set marks n v) ≡ true
+  unfolding lawfulMarks
+  lawful-set i n v [] h m = refl
+  lawful-set i zero v (x ∷ l) h m =
+      let e : i + 0 ≡ i = omega arith in
+      simp (rw e at m, parts i x l h .1)
+  lawful-set i (suc n) v (x ∷ l) h m =
+      let e : i + suc n ≡ suc i + n = omega arith in
+      let p = parts i x l h in
+      simp (p .0, lawful-set (suc i) n v l (p .1) (rw e at m))
+
+  -- ---- the mark of a job
+
+  module _ (few : cols ≤ 32) (j : Job) (g : InGrid rows cols j) where
+    -- Any number from 0 to 3 at the mark of a job.
+    pub lawful-job : (v : ℕ) (marks : List ℕ) → v ≤ 3 → lawfulMarks rows cols 0 marks ≡ true
+        → lawfulMarks rows cols 0 (set marks (markOf j) v) ≡ true
+    unfolding markOf
+    lawful-job v marks most h =
+        lawful-set 0 (markOf j) v marks h
+        (mark-inside (0 + markOf j) v most (omega (arith, g .row, g .column)) (omega (arith, g .row, g .column)))
+
+    -- A mark for each job.
+    pub mark-below : rows ≤ 32 → markOf j < 1024
+    unfolding markOf
+    mark-below r = omega (arith, g .row, g .column)
+
+    -- No two jobs share a mark.
+    pub mark-apart : (i : Job) → InGrid rows cols i → markOf i ≡ markOf j → (i .first ≡ j .first) × (i .second ≡ j .second)
+    unfolding markOf
+    mark-apart i h e = (omega (arith, g .column, h .column), omega (arith, g .column, h .column))
+
+-- ---- a customer's own marks with a job settled
 
 -- The job is settled.
 pub settled-same : (marks : List ℕ) (j : Job) → markOf j < length marks → settled (set marks (markOf j) 1) j ≡ true

@@ -7,11 +7,10 @@ use native.Mathlib.Numerals.{add-one}
 use lib.Dec.{eqb}
 use lib.ListN.{length, getD, drop, drop-of-length-le, List·getD-eq-default}
 use lib.Seq.{drop-cons}
-use Rattle.campaign.specs.Grid.{jobOf, markOf, settled, lawfulMarks}
-use Rattle.campaign.specs.Internal.{lawfulMark}
+use Rattle.campaign.specs.Grid.{jobOf, markOf, settled, lawfulMark, lawfulMarks}
 
 marks-cons : (rows cols i m : ℕ) (l : List ℕ) → lawfulMarks rows cols i (m ∷ l) ≡ (lawfulMark rows cols i m && lawfulMarks rows cols (suc i) l)
-unfolding lawfulMarks lawfulMark
+unfolding lawfulMarks
 marks-cons rows cols i m l = refl
 
 marks-nil : (rows cols i : ℕ) → lawfulMarks rows cols i [] ≡ true

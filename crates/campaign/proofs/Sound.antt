@@ -16,26 +16,27 @@ use Rattle.site.specs.Refusal.{listRefusal, listsRefusal}
 use Rattle.site.proofs.Accepted.{accepted-coordinates, accepted-heights}
 use Rattle.site.proofs.SiteList.{sites-length}
 use Rattle.site.proofs.Tests.{and-first, and-second}
+use Rattle.site.specs.Answer.{orElse}
 use Rattle.site.proofs.Answer.{first-refused, next-decides}
 use Rattle.entry.specs.declared.Entry.{Entry}
 use Rattle.entry.specs.Entry.{rankBefore, lawfulK}
 use Rattle.entry.specs.Results.{Results, entriesOf, roomFor}
 use Rattle.entry.proofs.Results.{length-entries}
-use Rattle.campaign.specs.declared.Campaign.{Campaign}
-use Rattle.campaign.specs.Grid.{lawfulMarks}
+use Rattle.customers.specs.declared.Campaign.{Campaign}
+use Rattle.customers.specs.declared.Grid.{Grid}
+use Rattle.customers.specs.Customers.{isCustomer, campaignAs}
+use Rattle.campaign.specs.Soundness.{customerRefusal, firstEnds, secondEnds, soundEntry, sound, lawfulGrid, campaignRefusal}
 use Rattle.campaign.specs.Internal.{LawfulColumns, lawfulSlots, soundPlan, soundEntries}
-use Rattle.campaign.specs.Soundness.{firstEnds, secondEnds, soundEntry, sound, campaignRefusal}
 use Rattle.campaign.proofs.LawfulEnds.{lawful-cut}
 use Rattle.campaign.proofs.SoundPlan.{plan-parts, settled-in-use}
 use Rattle.campaign.proofs.EntryCount.{sound-few, total, rightCount, count-above, count-full, count-decides}
 
 -- ---- the tests
 
-regroup : (k f s m rest : Bool) → (k && (f && (s && (m && rest)))) ≡ ((k && (f && (s && m))) && rest)
-regroup true true true m rest = refl
-regroup true true false m rest = refl
-regroup true false s m rest = refl
-regroup false f s m rest = refl
+regroup : (k f s rest : Bool) → (k && (f && (s && rest))) ≡ ((k && (f && s)) && rest)
+regroup true true s rest = refl
+regroup true false s rest = refl
+regroup false f s rest = refl
 
 module _ (c : Campaign) (a b : List Site) (r : Results) where
   sound-is : sound c a b r ≡ (soundPlan c (length a) (length b) &&
@@ -43,8 +44,7 @@ module _ (c : Campaign) (a b : List Site) (r : Results) where
   unfolding sound soundPlan lawfulSlots firstEnds secondEnds rightCount soundEntries
   sound-is =
       regroup (lawfulK (c .k)) (lawfulSlots (length a) (c .«first_strips») (c .«first_ends»))
-      (lawfulSlots (length b) (c .«second_strips») (c .«second_ends»))
-      (lawfulMarks (c .«first_strips») (c .«second_strips») 0 (c .marks)) _
+      (lawfulSlots (length b) (c .«second_strips») (c .«second_ends»)) _
       ∙ ap (λ (t : Bool). soundPlan c (length a) (length b) && (roomFor (c .k) r && t))
       (sym (and-assoc (ascending rankBefore (entriesOf (c .entries) r))
       (all (soundEntry (c .marks) (firstEnds c) (secondEnds c) a b) (entriesOf (c .entries) r)) (rightCount c a b)))
@@ -121,11 +121,32 @@ pub accepted-columns : (xs ys : List ℤ) (ns : List ℕ) (hs : List ℤ) → li
 accepted-columns xs ys ns hs ok =
     record { plane = accepted-coordinates (raised xs ys ns hs) ok; heights = accepted-heights xs ys ns hs ok }
 
-module _ (c : Campaign) (a b : Columns) (r : Results) {q : ℕ} (is : q ≡ listsRefusal a b) where
-  pub lists-refused : (q ≡ 0 → ⊥) → q ≡ campaignRefusal c a b r
-  unfolding campaignRefusal
-  lists-refused h = first-refused _ is h
+-- Before all else: a number that is no customer's gets 15, and for a customer's what comes next decides.
+module _ (customer : ℕ) where
+  pub stranger-refused : (n : ℕ) → isCustomer customer ≡ false → 15 ≡ orElse (customerRefusal customer) n
+  unfolding customerRefusal orElse
+  stranger-refused n h = simp h
 
-  pub sound-decides : q ≡ 0 → {t : Bool} → sound c (sites a) (sites b) r ≡ t → cond (not t) 7 0 ≡ campaignRefusal c a b r
+  pub customer-passes : {n q : ℕ} → isCustomer customer ≡ true → q ≡ n → q ≡ orElse (customerRefusal customer) n
+  unfolding customerRefusal orElse
+  customer-passes h e = e ∙ simp h
+
+module _ (customer : ℕ) (g : Grid) (a b : Columns) (r : Results) where
+  pub strangers : isCustomer customer ≡ false → 15 ≡ campaignRefusal customer g a b r
   unfolding campaignRefusal
-  sound-decides z h = next-decides is z (simp h)
+  strangers h = stranger-refused customer _ h
+
+  module _ (known : isCustomer customer ≡ true) {q : ℕ} (is : q ≡ listsRefusal a b) where
+    pub lists-refused : (q ≡ 0 → ⊥) → q ≡ campaignRefusal customer g a b r
+    unfolding campaignRefusal
+    lists-refused h = customer-passes customer known (first-refused _ is h)
+
+    module _ (z : q ≡ 0) where
+      pub marks-refused : lawfulGrid g ≡ false → 7 ≡ campaignRefusal customer g a b r
+      unfolding campaignRefusal
+      marks-refused h = customer-passes customer known (next-decides is z (simp h))
+
+      pub sound-decides : lawfulGrid g ≡ true → {c : Campaign} → c ≡ campaignAs customer g → {t : Bool}
+          → sound c (sites a) (sites b) r ≡ t → cond (not t) 7 0 ≡ campaignRefusal customer g a b r
+      unfolding campaignRefusal
+      sound-decides h e w = customer-passes customer known (next-decides is z (simp (h, ← e, w)))

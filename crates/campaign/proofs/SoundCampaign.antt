@@ -1,13 +1,12 @@
 -- What a campaign that is not refused is.
 use mathlib.Core.Path.{_≡_, sym, _∙_}
-use mathlib.Core.Bool.{true, not, cond, _&&_}
+use mathlib.Core.Bool.{true, _&&_}
 use Prim.Native.Nat.{ℕ, _≤_}
 use lib.ListN.{length}
 use Rattle.order.specs.Order.{ascending}
 use Rattle.order.specs.Lists.{all}
 use Rattle.order.specs.Terms.{Sorted}
 use Rattle.order.proofs.Sorted.{ascending-ascends, ascends-sorted}
-use Rattle.site.specs.Answer.{orElse}
 use Rattle.site.specs.SiteList.{Columns, sites}
 use Rattle.site.specs.Refusal.{listRefusal, listsRefusal}
 use Rattle.site.proofs.Tests.{and-first, and-second}
@@ -17,8 +16,10 @@ use Rattle.entry.specs.Results.{Results, entriesOf, roomFor}
 use Rattle.entry.specs.Terms.{Ready}
 use Rattle.entry.proofs.Rank.{rank-order}
 use Rattle.entry.proofs.Results.{length-entries}
-use Rattle.campaign.specs.declared.Campaign.{Campaign}
-use Rattle.campaign.specs.Soundness.{firstEnds, secondEnds, soundEntry, sound, campaignRefusal}
+use Rattle.customers.specs.declared.Campaign.{Campaign}
+use Rattle.customers.specs.declared.Grid.{Grid}
+use Rattle.customers.specs.Customers.{campaignAs}
+use Rattle.campaign.specs.Soundness.{customerRefusal, firstEnds, secondEnds, soundEntry, sound, lawfulGrid, campaignRefusal}
 use Rattle.campaign.specs.Internal.{soundPlan, soundEntries}
 use Rattle.site.proofs.Accepted.{accepted-level, both-accepted}
 use Rattle.campaign.proofs.SoundPlan.{PlanParts, plan-parts}
@@ -54,13 +55,6 @@ module _ (c : Campaign) (a b : Columns) (r : Results) where
         order = and-first o e (and-first (o && e) n v);
       }
 
-  pub sound-campaign : {q : ℕ} → q ≡ campaignRefusal c a b r → q ≡ 0 → SoundCampaign c a b r
-  unfolding campaignRefusal
-  sound-campaign is z =
-      let e : orElse (listsRefusal a b) (cond (not (sound c (sites a) (sites b) r)) 7 0) ≡ 0 = sym is ∙ z in
-      sound-by-tests (both-accepted a b (orElse-first (listsRefusal a b) _ e))
-      (fault-none _ 6 (orElse-second (listsRefusal a b) _ e))
-
   module _ (w : SoundCampaign c a b r) where
     pub campaign-parts : PlanParts c (length (a .x)) (length (b .x))
     campaign-parts = plan-parts c (length (a .x)) (length (b .x)) (w .plan)
@@ -73,3 +67,14 @@ module _ (c : Campaign) (a b : Columns) (r : Results) where
 
     pub campaign-length : length (entriesOf (c .entries) r) ≡ c .entries
     campaign-length = length-entries (c .k) (c .entries) r (w .room) (w .most)
+
+-- The lists are accepted, the grid's marks are lawful, and so is the customer's campaign.
+module _ (customer : ℕ) (g : Grid) (a b : Columns) (r : Results) where
+  pub sound-campaign : {q : ℕ} → q ≡ campaignRefusal customer g a b r → q ≡ 0 → SoundCampaign (campaignAs customer g) a b r
+  unfolding campaignRefusal
+  sound-campaign is z =
+      let c = campaignAs customer g in
+      let e = orElse-second (customerRefusal customer) _ (sym is ∙ z) in
+      let both = fault-none (lawfulGrid g && sound c (sites a) (sites b) r) 6 (orElse-second (listsRefusal a b) _ e) in
+      sound-by-tests c a b r (both-accepted a b (orElse-first (listsRefusal a b) _ e))
+      (and-second (lawfulGrid g) (sound c (sites a) (sites b) r) both)

@@ -1,4 +1,4 @@
--- The tests of a campaign's plan, one after another: K, the ends and the marks; and a job's strips.
+-- The tests of a campaign's plan, one after another: K and the ends; and a job's strips.
 use mathlib.Core.Path.{_≡_, refl, sym, ap₂, _∙_}
 use mathlib.Core.Bool.{Bool, true, false, _&&_}
 use mathlib.Core.List.{List}
@@ -16,9 +16,9 @@ use Rattle.entry.specs.Entry.{lawfulK}
 use Rattle.entry.proofs.Rank.{k-limits}
 use Rattle.sweep.specs.Strip.{strip, pairs}
 use Rattle.halves.specs.Terms.{SomeStrip}
-use Rattle.campaign.specs.declared.Campaign.{Campaign}
+use Rattle.customers.specs.declared.Campaign.{Campaign}
 use Rattle.campaign.specs.declared.Strip.{Strip}
-use Rattle.campaign.specs.Grid.{lawfulEnds, stripAt, jobOf, jobs, lawfulMarks, settled, settledJobs, jobPairs}
+use Rattle.campaign.specs.Grid.{lawfulEnds, stripAt, jobOf, jobs, settled, settledJobs, jobPairs}
 use Rattle.campaign.specs.Soundness.{firstEnds, secondEnds}
 use Rattle.campaign.specs.Internal.{LawfulColumns, stripFrom, stripTo, StripOf, lawfulSlots, JobAsked, soundPlan}
 use Rattle.campaign.proofs.LawfulEnds.{lawful-cut, strip-inside}
@@ -36,14 +36,9 @@ module _ (c : Campaign) (n m : ℕ) where
     unlawful-first h = simp (k, h)
 
     module _ (first : lawfulSlots n (c .«first_strips») (c .«first_ends») ≡ true) where
-      pub unlawful-second : lawfulSlots m (c .«second_strips») (c .«second_ends») ≡ false → false ≡ soundPlan c n m
+      pub second-decides : {r : Bool} → r ≡ lawfulSlots m (c .«second_strips») (c .«second_ends») → r ≡ soundPlan c n m
       unfolding soundPlan
-      unlawful-second h = simp (k, first, h)
-
-      pub marks-decide : {r : Bool} → lawfulSlots m (c .«second_strips») (c .«second_ends») ≡ true
-          → r ≡ lawfulMarks (c .«first_strips») (c .«second_strips») 0 (c .marks) → r ≡ soundPlan c n m
-      unfolding soundPlan
-      marks-decide h w = w ∙ simp (k, first, h)
+      second-decides h = h ∙ simp (k, first)
 
 -- ---- what a plan with no fault is
 
@@ -53,7 +48,6 @@ pub record PlanParts (c : Campaign) (n m : ℕ) : Type 0 where
   pub cols : c .«second_strips» ≤ 32
   pub first : lawfulEnds n (firstEnds c) ≡ true
   pub second : lawfulEnds m (secondEnds c) ≡ true
-  pub marks : lawfulMarks (c .«first_strips») (c .«second_strips») 0 (c .marks) ≡ true
 
 slots-parts : (n used : ℕ) (slots : List ℕ) → lawfulSlots n used slots ≡ true
     → (used ≤ 32) × (lawfulEnds n (take used slots) ≡ true)
@@ -68,18 +62,15 @@ unfolding soundPlan firstEnds secondEnds
 plan-parts c n m h =
     let f = lawfulSlots n (c .«first_strips») (c .«first_ends») in
     let s = lawfulSlots m (c .«second_strips») (c .«second_ends») in
-    let marks = lawfulMarks (c .«first_strips») (c .«second_strips») 0 (c .marks) in
-    let p = and-second (lawfulK (c .k)) (f && (s && marks)) h in
-    let q = and-second f (s && marks) p in
-    let first = slots-parts n (c .«first_strips») (c .«first_ends») (and-first f (s && marks) p) in
-    let second = slots-parts m (c .«second_strips») (c .«second_ends») (and-first s marks q) in
+    let p = and-second (lawfulK (c .k)) (f && s) h in
+    let first = slots-parts n (c .«first_strips») (c .«first_ends») (and-first f s p) in
+    let second = slots-parts m (c .«second_strips») (c .«second_ends») (and-second f s p) in
     record {
-      k = and-first (lawfulK (c .k)) (f && (s && marks)) h;
+      k = and-first (lawfulK (c .k)) (f && s) h;
       rows = first .0;
       cols = second .0;
       first = first .1;
       second = second .1;
-      marks = and-second s marks q;
     }
 
 -- ---- the settled jobs

@@ -1,9 +1,9 @@
 -- Terms that only this crate's functions cite: what the functions on a campaign ask, and what they tell of its parts.
 use mathlib.Core.Path.{_≡_}
-use mathlib.Core.Bool.{true, Bool, _&&_, _||_}
+use mathlib.Core.Bool.{true, Bool, _&&_}
 use mathlib.Core.List.{List, _∷_}
-use Prim.Native.Nat.{ℕ, _/_, _%_, _≤_, _<_}
-use lib.Dec.{leb, ltb, eqb}
+use Prim.Native.Nat.{ℕ, _≤_, _<_}
+use lib.Dec.{leb}
 use lib.ListN.{length, getD, take}
 use lib.IntN.{ℤ}
 use denote.Ref.{RefT}
@@ -13,11 +13,12 @@ use Rattle.site.specs.Site.{Site}
 use Rattle.site.specs.Terms.{Coordinates, Heights}
 use Rattle.entry.specs.Entry.{rankBefore, lawfulK}
 use Rattle.entry.specs.Results.{Results, entriesOf, roomFor}
+use Rattle.customers.specs.declared.Campaign.{Campaign}
+use Rattle.customers.specs.declared.Grid.{Grid}
 use Rattle.campaign.specs.declared.Strip.{Strip}
-use Rattle.campaign.specs.declared.Campaign.{Campaign}
 use Rattle.campaign.specs.declared.Outcome.{Outcome}
 use Rattle.campaign.specs.declared.JobDone.{JobDone}
-use Rattle.campaign.specs.Grid.{lawfulEnds, Job, lawfulMarks}
+use Rattle.campaign.specs.Grid.{lawfulEnds, Job}
 use Rattle.campaign.specs.Soundness.{firstEnds, secondEnds, soundEntry}
 
 -- The coordinate columns of a lawful list, and of two.
@@ -42,21 +43,15 @@ pub record StripOf (ends : List ℕ) (s : ℕ) (r : Strip) : Type 0 where
   pub from : r .from ≡ stripFrom ends s
   pub to : r .to ≡ stripTo ends s
 
--- Mark `i` is 0, or 1 at a job.
-unfoldable pub lawfulMark : ℕ → ℕ → ℕ → ℕ → Bool
-lawfulMark rows cols i m = eqb m 0 || (eqb m 1 && (ltb (i / 32) rows && ltb (i % 32) cols))
-
 -- At most 32 slots are in use, and the ends in them are lawful.
 unfoldable pub lawfulSlots : ℕ → ℕ → List ℕ → Bool
 lawfulSlots n used slots = leb used 32 && lawfulEnds n (take used slots)
 
--- K, the ends and the marks of a campaign have no fault.
+-- K and the ends of a campaign have no fault.
 unfoldable pub soundPlan : Campaign → ℕ → ℕ → Bool
 soundPlan c n m =
     lawfulK (c .k)
-    && (lawfulSlots n (c .«first_strips») (c .«first_ends»)
-    && (lawfulSlots m (c .«second_strips») (c .«second_ends»)
-    && lawfulMarks (c .«first_strips») (c .«second_strips») 0 (c .marks)))
+    && (lawfulSlots n (c .«first_strips») (c .«first_ends») && lawfulSlots m (c .«second_strips») (c .«second_ends»))
 
 -- The columns have room for the entries.
 pub record Room (k count : ℕ) (r : Results) : Type 0 where
@@ -75,6 +70,6 @@ soundEntries c a b r =
     let l = entriesOf (c .entries) r in
     ascending rankBefore l && all (soundEntry (c .marks) (firstEnds c) (secondEnds c) a b) l
 
--- The campaign and how a job ended.
-abbrev pub jobDone : Campaign → Outcome → JobDone
-jobDone c outcome = record { campaign = c; outcome = outcome }
+-- The grid and how a job ended.
+abbrev pub jobDone : Grid → Outcome → JobDone
+jobDone g outcome = record { grid = g; outcome = outcome }

@@ -1,4 +1,4 @@
--- What a reader must believe of campaigns. The laws are in `proofs/`.
+-- What a reader must believe of campaigns on a grid. The laws are in `proofs/`.
 pub mod Grid
 pub mod Soundness
 pub mod Calls

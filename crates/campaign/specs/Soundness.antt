@@ -1,4 +1,4 @@
--- Refusal 7: the faults of a campaign and of the columns that hold its entries.
+-- Refusal 7: the faults of a grid, of a customer's campaign on it and of the columns that hold the campaign's entries.
 use mathlib.Core.Bool.{Bool, not, _&&_}
 use mathlib.Core.List.{List}
 use Prim.Native.Nat.{ℕ, min}
@@ -13,7 +13,9 @@ use Rattle.site.specs.Refusal.{listsRefusal}
 use Rattle.entry.specs.declared.Entry.{Entry}
 use Rattle.entry.specs.Entry.{rankBefore, lawfulK, apart}
 use Rattle.entry.specs.Results.{Results, entriesOf, roomFor}
-use Rattle.campaign.specs.declared.Campaign.{Campaign}
+use Rattle.customers.specs.declared.Campaign.{Campaign}
+use Rattle.customers.specs.declared.Grid.{Grid}
+use Rattle.customers.specs.Customers.{isCustomer, campaignAs}
 use Rattle.campaign.specs.Grid.{lawfulEnds, stripHolding, jobOf, settled, settledJobs, lawfulMarks, jobsPairs}
 
 -- The ends in use of each list.
@@ -32,7 +34,7 @@ soundEntry marks ends ends' a b e =
     && (eqb (e .distance) (squaredDistance (siteAt a (e .first)) (siteAt b (e .second)))
     && settled marks (jobOf (stripHolding ends (e .first)) (stripHolding ends' (e .second))))))
 
--- A campaign and result columns with none of the faults of refusal 7, in the order of 01's words.
+-- A campaign and result columns with none of the faults of refusal 7, in the order of 01's words, but for the grid's marks.
 unfoldable pub sound : Campaign → List Site → List Site → Results → Bool
 sound c a b r =
     let l = entriesOf (c .entries) r in
@@ -40,12 +42,22 @@ sound c a b r =
     lawfulK (c .k)
     && ((leb (c .«first_strips») 32 && lawfulEnds (length a) (firstEnds c))
     && ((leb (c .«second_strips») 32 && lawfulEnds (length b) (secondEnds c))
-    && (lawfulMarks (c .«first_strips») (c .«second_strips») 0 (c .marks)
     && (roomFor (c .k) r
     && (ascending rankBefore l
     && (all (soundEntry (c .marks) (firstEnds c) (secondEnds c) a b) l
-    && eqb (c .entries) (min (c .k) total)))))))
+    && eqb (c .entries) (min (c .k) total))))))
 
--- "every other campaign call, status included, is lent both lists and the columns and tests for 7 as well."
-unfoldable pub campaignRefusal : Campaign → Columns → Columns → Results → ℕ
-campaignRefusal c a b r = orElse (listsRefusal a b) (refuseIf (not (sound c (sites a) (sites b) r)) 7)
+-- 02 e: "all marks are within 0 to 3 and inside the jobs".
+unfoldable pub lawfulGrid : Grid → Bool
+lawfulGrid g = lawfulMarks (g .«first_strips») (g .«second_strips») 0 (g .marks)
+
+-- "15 for a customer number other than 1 or 2, before all else."
+unfoldable pub customerRefusal : ℕ → ℕ
+customerRefusal customer = refuseIf (not (isCustomer customer)) 15
+
+-- "every other campaign call, status included, is lent both lists and the columns and tests for 7 as well", after 15.
+unfoldable pub campaignRefusal : ℕ → Grid → Columns → Columns → Results → ℕ
+campaignRefusal customer g a b r =
+    orElse (customerRefusal customer)
+    (orElse (listsRefusal a b)
+    (refuseIf (not (lawfulGrid g && sound (campaignAs customer g) (sites a) (sites b) r)) 7))

@@ -1,12 +1,13 @@
-// The calls on a campaign.
-use super::Campaign;
+// The calls on a grid and on a customer's campaign.
+use super::Answered;
 use super::JobDone;
-use super::Opened;
 use super::Status;
 use super::jobs;
 use super::marks;
 use super::opening;
+use super::preparing;
 use super::soundness;
+use customers::Grid;
 use join::Join;
 ghost use mathlib.Core.Path.{_≡_};
 ghost use Rattle.site.specs.Answer.{afterwards};
@@ -14,17 +15,52 @@ ghost use Rattle.site.specs.SiteList.{lentList};
 ghost use Rattle.entry.specs.Results.{lentResults};
 ghost use Rattle.campaign.specs.Grid.{jobOf};
 ghost use Rattle.campaign.specs.Calls.{
-  noCampaign,
+  noGrid,
+  prepareAnswer,
   openAnswer,
-  openedAnswer,
+  answeredGrid,
   statusAnswer,
   statusOf,
   jobAnswer,
   jobDoneAnswer,
 };
 
-// Opens a campaign: K, the cut ends of each list, no job settled. No column is touched. (01: opening.)
+// Prepares a grid: the cut ends of each list, no job settled, no customer's campaign open. (02 e: preparing.)
+pub fn prepare(
+    ax: &[i32],
+    ay: &[i32],
+    an: &[u32],
+    ah: &[i32],
+    bx: &[i32],
+    by: &[i32],
+    bn: &[u32],
+    bh: &[i32],
+    first_ends: &[u32],
+    second_ends: &[u32],
+) -> Answered
+    ensures { λ r.
+        let a = lentList ax ay an ah .entry in
+        let b = lentList bx by bn bh .entry in
+        let answer = prepareAnswer a b (now («first_ends» .entry)) (now («second_ends» .entry)) in
+        ⌜ (answeredGrid r ≡ answer) × (r .grid ≡ afterwards (λ h. h) answer noGrid) ⌝ }
+{
+    let refusal = preparing::refusal(ax, ay, an, ah, bx, by, bn, bh, first_ends, second_ends);
+    if refusal != 0 {
+        return Answered {
+            refusal,
+            grid: preparing::none(),
+        };
+    }
+    Answered {
+        refusal,
+        grid: preparing::prepared(first_ends, second_ends),
+    }
+}
+
+// Opens a customer's campaign: K, no job settled, no entry. No column is touched. (01: opening.)
 pub fn open(
+    customer: u32,
+    g: Grid,
     ax: &[i32],
     ay: &[i32],
     an: &[u32],
@@ -39,15 +75,18 @@ pub fn open(
     distance: &[u64],
     first: &[u32],
     second: &[u32],
-) -> Opened
+) -> Answered
     ensures { λ r.
         let a = lentList ax ay an ah .entry in
         let b = lentList bx by bn bh .entry in
         let l = lentResults distance first second .entry in
-        let answer = openAnswer a b k (now («first_ends» .entry)) (now («second_ends» .entry)) l in
-        ⌜ (openedAnswer r ≡ answer) × (r .campaign ≡ afterwards (λ c. c) answer noCampaign) ⌝ }
+        let answer =
+        openAnswer customer g a b k (now («first_ends» .entry)) (now («second_ends» .entry)) l in
+        ⌜ (answeredGrid r ≡ answer) × (r .grid ≡ afterwards (λ h. h) answer g) ⌝ }
 {
     let refusal = opening::refusal(
+        customer,
+        g,
         ax,
         ay,
         an,
@@ -64,20 +103,18 @@ pub fn open(
         second,
     );
     if refusal != 0 {
-        return Opened {
-            refusal,
-            campaign: opening::none(),
-        };
+        return Answered { refusal, grid: g };
     }
-    Opened {
+    Answered {
         refusal,
-        campaign: opening::new(k, first_ends, second_ends),
+        grid: opening::opened(customer, g, k),
     }
 }
 
-// How far a campaign is: jobs settled, jobs in all, entries and K. (01: status.)
+// How far a customer's campaign is: jobs settled, jobs in all, entries and K. (01: status.)
 pub fn status(
-    c: Campaign,
+    customer: u32,
+    g: Grid,
     ax: &[i32],
     ay: &[i32],
     an: &[u32],
@@ -94,12 +131,27 @@ pub fn status(
         let a = lentList ax ay an ah .entry in
         let b = lentList bx by bn bh .entry in
         let l = lentResults distance first second .entry in
-        ⌜ statusOf r ≡ statusAnswer c a b l ⌝ }
+        ⌜ statusOf r ≡ statusAnswer customer g a b l ⌝ }
 {
-    let refused = soundness::refusal(c, ax, ay, an, ah, bx, by, bn, bh, distance, first, second);
+    let refused = soundness::refusal(
+        customer,
+        g,
+        ax,
+        ay,
+        an,
+        ah,
+        bx,
+        by,
+        bn,
+        bh,
+        distance,
+        first,
+        second,
+    );
     if refused != 0 {
         return Status::Refused(refused);
     }
+    let c = customers::campaign_as(customer, g);
     let marks = c.marks;
     Status::Counts {
         settled: marks::settled_jobs(&marks, c.first_strips as usize, c.second_strips as usize),
@@ -109,9 +161,10 @@ pub fn status(
     }
 }
 
-// Settles job (s, t), swept or skipped: the list becomes the first K of its entries and the job's pairs. (01: job.)
+// Settles a customer's job (s, t), swept or skipped: their list becomes the first K of its entries and the job's pairs. (01: job.)
 pub fn job(
-    c: Campaign,
+    customer: u32,
+    g: Grid,
     ax: &[i32],
     ay: &[i32],
     an: &[u32],
@@ -131,12 +184,13 @@ pub fn job(
         let a = lentList ax ay an ah .entry in
         let b = lentList bx by bn bh .entry in
         let l = lentResults distance first second in
-        let answer = jobAnswer way c a b (l .entry) (jobOf s t) in
-        ⌜ (jobDoneAnswer r (l .exit) ≡ answer) × ((r .campaign ≡ afterwards (λ v. v .campaign) answer c)
+        let answer = jobAnswer way customer g a b (l .entry) (jobOf s t) in
+        ⌜ (jobDoneAnswer r (l .exit) ≡ answer) × ((r .grid ≡ afterwards (λ v. v .grid) answer g)
         × (l .exit ≡ afterwards (λ v. v .results) answer (l .entry))) ⌝ }
 {
     let refused = jobs::refusal(
-        c,
+        customer,
+        g,
         ax,
         ay,
         an,
@@ -152,10 +206,11 @@ pub fn job(
         t,
     );
     if refused != 0 {
-        return jobs::refused(c, refused);
+        return jobs::refused(g, refused);
     }
+    let c = customers::campaign_as(customer, g);
     if jobs::skips(c, ax, ay, ah, bx, by, bh, distance, s, t) {
-        return jobs::skipped(c, s, t);
+        return jobs::skipped(customer, g, s, t);
     }
     let joined = jobs::swept(
         c,
@@ -172,5 +227,5 @@ pub fn job(
         t,
         way,
     );
-    jobs::done(c, s, t, joined)
+    jobs::done(customer, g, s, t, joined)
 }

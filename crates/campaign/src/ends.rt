@@ -1,9 +1,10 @@
-// Cut ends of a list: whether they are lawful, the strip that holds a place, and the slots that keep them.
+// Cut ends of a list: whether they are lawful, or those of a grid, the strip that holds a place, and the slots that keep them.
 use super::Strip;
 ghost use mathlib.Core.Path.{_≡_};
 ghost use Prim.Native.Nat.{_≤_, _<_};
 ghost use lib.ListN.{length, take};
-ghost use Rattle.campaign.specs.Grid.{lawfulEnds, stripHolding};
+ghost use mathlib.Core.Bool.{_&&_};
+ghost use Rattle.campaign.specs.Grid.{lawfulEnds, sameEnds, stripHolding};
 ghost use Rattle.campaign.specs.Calls.{slots};
 ghost use Rattle.campaign.specs.Internal.{lawfulSlots, stripFrom, stripTo, StripOf};
 
@@ -24,6 +25,34 @@ pub(super) fn lawful(n: usize, ends: &[u32]) -> bool
         i += 1;
     }
     last as usize == n
+}
+
+// Whether the cut ends of two lists of `n` and `m` sites are lawful.
+pub(super) fn lawful_cuts(n: usize, m: usize, first_ends: &[u32], second_ends: &[u32]) -> bool
+    ensures { λ r. ⌜ r ≡ (lawfulEnds n (now («first_ends» .entry)) && lawfulEnds m (now («second_ends» .entry))) ⌝ }
+{
+    if !lawful(n, first_ends) {
+        return false;
+    }
+    lawful(m, second_ends)
+}
+
+// Whether cut ends are those in the slots in use.
+pub(super) fn same(used: u32, slots: [u32; 32], ends: &[u32]) -> bool
+    requires { ⌜ length (now ends) ≤ 32 ⌝ }
+    ensures { λ r. ⌜ r ≡ sameEnds used slots (now (ends .entry)) ⌝ }
+{
+    if used as usize != ends.len() {
+        return false;
+    }
+    let mut i = 0;
+    while i < ends.len() {
+        if slots[i] != ends[i] {
+            return false;
+        }
+        i += 1;
+    }
+    true
 }
 
 // Whether at most 32 slots are in use, and the ends in them are lawful.

@@ -1,10 +1,11 @@
 // One job: its refusal, whether it is skipped, its join, its mark.
-use super::Campaign;
 use super::JobDone;
 use super::Outcome;
 use super::ends;
 use super::marks;
 use super::soundness;
+use customers::Campaign;
+use customers::Grid;
 use join::Join;
 use join::Joined;
 ghost use mathlib.Core.Path.{_≡_};
@@ -18,6 +19,7 @@ ghost use Rattle.entry.specs.Terms.{Ready};
 ghost use Rattle.entry.specs.Results.{results, entriesOf, roomFor, lentResults};
 ghost use Rattle.join.specs.Join.{join};
 ghost use Rattle.join.specs.Terms.{JoinedTo};
+ghost use Rattle.customers.specs.Customers.{campaignAs};
 ghost use Rattle.campaign.specs.Grid.{stripAt, jobOf};
 ghost use Rattle.campaign.specs.Soundness.{firstEnds, secondEnds};
 ghost use Rattle.campaign.specs.Internal.{BothCoordinates, JobAsked, jobDone};
@@ -25,7 +27,8 @@ ghost use Rattle.campaign.specs.Calls.{jobRefusal, skips, afterJob};
 
 // The refusal of a job; 0 for none.
 pub(super) fn refusal(
-    c: Campaign,
+    customer: u32,
+    g: Grid,
     ax: &[i32],
     ay: &[i32],
     an: &[u32],
@@ -44,18 +47,33 @@ pub(super) fn refusal(
         let a = lentList ax ay an ah .entry in
         let b = lentList bx by bn bh .entry in
         let l = lentResults distance first second .entry in
-        ⌜ r ≡ jobRefusal c a b l (jobOf s t) ⌝ }
+        ⌜ r ≡ jobRefusal customer g a b l (jobOf s t) ⌝ }
 {
-    let refused = soundness::refusal(c, ax, ay, an, ah, bx, by, bn, bh, distance, first, second);
+    let refused = soundness::refusal(
+        customer,
+        g,
+        ax,
+        ay,
+        an,
+        ah,
+        bx,
+        by,
+        bn,
+        bh,
+        distance,
+        first,
+        second,
+    );
     if refused != 0 {
         return refused;
     }
-    if c.first_strips <= s {
+    if g.first_strips <= s {
         return 8;
     }
-    if c.second_strips <= t {
+    if g.second_strips <= t {
         return 8;
     }
+    let c = customers::campaign_as(customer, g);
     let marks = c.marks;
     if marks::is_settled(&marks, s as usize, t as usize) {
         9
@@ -148,50 +166,51 @@ pub(super) fn swept(
     )
 }
 
-// The campaign with a job settled and `count` entries.
-pub(super) fn settle(c: Campaign, s: u32, t: u32, count: u32) -> Campaign
+// The grid with a customer's job settled, and `count` entries of theirs.
+pub(super) fn settle(customer: u32, g: Grid, s: u32, t: u32, count: u32) -> Grid
     requires { ⌜ (s < 32) × (t < 32) ⌝ }
-    ensures { λ r. ⌜ r ≡ afterJob c count (jobOf s t) ⌝ }
+    ensures { λ r. ⌜ r ≡ afterJob customer g count (jobOf s t) ⌝ }
 {
-    let mut settled = c;
-    settled.entries = count;
-    let before = c.marks;
-    let after = marks::settle(before, s as usize, t as usize);
-    settled.marks = after;
-    settled
+    let c = customers::campaign_as(customer, g);
+    let before = g.marks;
+    let after = marks::settle(customer, before, s as usize, t as usize);
+    customers::with_campaign(customer, c.k, count, after, g)
 }
 
-// A job that is refused: the campaign as it was.
-pub(super) fn refused(c: Campaign, number: u32) -> JobDone
-    ensures { λ r. ⌜ r ≡ jobDone c (Outcome.Refused number) ⌝ }
+// A job that is refused: the grid as it was.
+pub(super) fn refused(g: Grid, number: u32) -> JobDone
+    ensures { λ r. ⌜ r ≡ jobDone g (Outcome.Refused number) ⌝ }
 {
     JobDone {
-        campaign: c,
+        grid: g,
         outcome: Outcome::Refused(number),
     }
 }
 
 // A job that is skipped: settled, with as many entries.
-pub(super) fn skipped(c: Campaign, s: u32, t: u32) -> JobDone
+pub(super) fn skipped(customer: u32, g: Grid, s: u32, t: u32) -> JobDone
     requires { ⌜ (s < 32) × (t < 32) ⌝ }
-    ensures { λ r. ⌜ r ≡ jobDone (afterJob c (c .entries) (jobOf s t)) Outcome.Skipped ⌝ }
+    ensures { λ r. ⌜
+        r ≡ jobDone (afterJob customer g (campaignAs customer g .entries) (jobOf s t)) Outcome.Skipped
+        ⌝ }
 {
+    let c = customers::campaign_as(customer, g);
     JobDone {
-        campaign: settle(c, s, t, c.entries),
+        grid: settle(customer, g, s, t, c.entries),
         outcome: Outcome::Skipped,
     }
 }
 
 // A job that was swept: settled, with the entries and the counters of the join.
-pub(super) fn done(c: Campaign, s: u32, t: u32, joined: Joined) -> JobDone
+pub(super) fn done(customer: u32, g: Grid, s: u32, t: u32, joined: Joined) -> JobDone
     requires { ⌜ (s < 32) × (t < 32) ⌝ }
     ensures { λ r. ⌜
-        r ≡ jobDone (afterJob c (joined .entries) (jobOf s t)) (Outcome.Swept (joined .counters))
+        r ≡ jobDone (afterJob customer g (joined .entries) (jobOf s t)) (Outcome.Swept (joined .counters))
         ⌝ }
 {
     let counters = joined.counters;
     JobDone {
-        campaign: settle(c, s, t, joined.entries),
+        grid: settle(customer, g, s, t, joined.entries),
         outcome: Outcome::Swept(counters),
     }
 }

@@ -1,24 +1,15 @@
-// A campaign of strip jobs: opening, a job, status.
+// Campaigns of strip jobs, one of each customer, on one grid: preparing, opening, a job, status.
 pub mod calls;
 mod ends;
 mod jobs;
 mod marks;
 mod opening;
+mod preparing;
 mod soundness;
 mod totals;
 
+use customers::Grid;
 use join::Counters;
-
-// K, the entry count, the cut ends of both lists and a mark for each job. (01: campaign.)
-pub struct Campaign {
-    pub k: u32,
-    pub entries: u32,
-    pub first_strips: u32,
-    pub second_strips: u32,
-    pub first_ends: [u32; 32],
-    pub second_ends: [u32; 32],
-    pub marks: [u8; 1024],
-}
 
 // Where a strip starts and ends.
 struct Strip {
@@ -26,10 +17,10 @@ struct Strip {
     to: usize,
 }
 
-// What opening answers: the refusal's number, 0 for none, and the campaign.
-pub struct Opened {
+// What preparing and opening answer: the refusal's number, 0 for none, and the grid.
+pub struct Answered {
     pub refusal: u32,
-    pub campaign: Campaign,
+    pub grid: Grid,
 }
 
 // How a job ended.
@@ -39,9 +30,9 @@ pub enum Outcome {
     Refused(u32),
 }
 
-// What a job answers: the campaign, and how the job ended.
+// What a job answers: the grid, and how the job ended.
 pub struct JobDone {
-    pub campaign: Campaign,
+    pub grid: Grid,
     pub outcome: Outcome,
 }
 

@@ -1,20 +1,19 @@
-// Marks: whether they are lawful, reading and setting one, and how many jobs are settled.
+// Marks: whether a grid's are lawful, settling one, and, of a customer's own, reading one and how many jobs are settled.
 ghost use mathlib.Core.Path.{_≡_};
 ghost use mathlib.Core.List.{map};
 ghost use Prim.Native.Nat.{_≤_, _<_};
 ghost use lib.ListN.{length};
 ghost use Rattle.order.specs.Lists.{keep};
-ghost use Rattle.campaign.specs.Grid.{jobOf, countFrom, jobs, lawfulMarks, settled, settle};
-ghost use Rattle.campaign.specs.Internal.{lawfulMark};
+ghost use Rattle.campaign.specs.Grid.{jobOf, countFrom, jobs, lawfulMark, lawfulMarks, settled, settle};
 
-// Whether mark `i` is 0, or 1 at a job.
+// Whether mark `i` is within 0 to 3, and 0 where there is no job.
 fn lawful_at(mark: u8, i: usize, rows: usize, cols: usize) -> bool
     ensures { λ r. ⌜ r ≡ lawfulMark rows cols i mark ⌝ }
 {
     if mark == 0 {
         return true;
     }
-    if mark != 1 {
+    if 3 < mark {
         return false;
     }
     if rows <= i / 32 {
@@ -50,14 +49,12 @@ pub(super) fn is_settled(marks: &[u8], a: usize, b: usize) -> bool
     }
 }
 
-// The marks with a job settled.
-pub(super) fn settle(marks: [u8; 1024], a: usize, b: usize) -> [u8; 1024]
+// The marks with a customer's job settled.
+pub(super) fn settle(customer: u32, marks: [u8; 1024], a: usize, b: usize) -> [u8; 1024]
     requires { ⌜ (a < 32) × (b < 32) ⌝ }
-    ensures { λ r. ⌜ r ≡ settle marks (jobOf a b) ⌝ }
+    ensures { λ r. ⌜ r ≡ settle customer marks (jobOf a b) ⌝ }
 {
-    let mut settled = marks;
-    settled[32 * a + b] = 1;
-    settled
+    customers::settled_at(customer, marks, 32 * a + b)
 }
 
 // How many jobs of a strip of the first list are settled.

@@ -1,8 +1,9 @@
-// Refusal 7: whether a campaign and the columns that hold its entries have a fault.
-use super::Campaign;
+// Refusal 7: whether a grid, a customer's campaign on it and the columns that hold its entries have a fault.
 use super::ends;
 use super::marks;
 use super::totals;
+use customers::Campaign;
+use customers::Grid;
 use entry::Entry;
 ghost use mathlib.Core.Path.{_≡_};
 ghost use mathlib.Core.Bool.{true};
@@ -16,7 +17,7 @@ ghost use Rattle.site.specs.Terms.{NumberedLent};
 ghost use Rattle.entry.specs.Entry.{rankBefore};
 ghost use Rattle.entry.specs.Results.{results, entriesOf, roomFor, lentResults};
 ghost use Rattle.campaign.specs.Internal.{BothCoordinates, Room, soundPlan, soundEntries};
-ghost use Rattle.campaign.specs.Soundness.{soundEntry, sound, campaignRefusal};
+ghost use Rattle.campaign.specs.Soundness.{soundEntry, sound, lawfulGrid, campaignRefusal};
 
 // The squared distance of the sites at two places.
 fn distance_at(
@@ -131,7 +132,7 @@ fn all_sound(
     true
 }
 
-// Whether K, the ends and the marks of a campaign have no fault, for lists of `n` and `m` sites.
+// Whether K and the ends of a campaign have no fault, for lists of `n` and `m` sites.
 fn sound_plan(c: Campaign, n: usize, m: usize) -> bool
     ensures { λ r. ⌜ r ≡ soundPlan c n m ⌝ }
 {
@@ -140,14 +141,10 @@ fn sound_plan(c: Campaign, n: usize, m: usize) -> bool
     }
     let first_ends = c.first_ends;
     let second_ends = c.second_ends;
-    let marks = c.marks;
     if !ends::lawful_slots(n, first_ends, c.first_strips) {
         return false;
     }
-    if !ends::lawful_slots(m, second_ends, c.second_strips) {
-        return false;
-    }
-    marks::lawful(c.first_strips as usize, c.second_strips as usize, &marks)
+    ends::lawful_slots(m, second_ends, c.second_strips)
 }
 
 // Whether the entries stand in order and have no fault.
@@ -236,9 +233,18 @@ fn sound(
     c.entries as u64 == totals::settled_pairs(c, ax, ay, ah, bx, by, bh)
 }
 
-// The refusal of a campaign, its lists and its columns; 0 for none.
+// Whether the marks of a grid have no fault.
+pub(super) fn lawful_grid(g: Grid) -> bool
+    ensures { λ r. ⌜ r ≡ lawfulGrid g ⌝ }
+{
+    let marks = g.marks;
+    marks::lawful(g.first_strips as usize, g.second_strips as usize, &marks)
+}
+
+// The refusal of a customer's campaign, its lists and its columns; 0 for none.
 pub(super) fn refusal(
-    c: Campaign,
+    customer: u32,
+    g: Grid,
     ax: &[i32],
     ay: &[i32],
     an: &[u32],
@@ -255,12 +261,19 @@ pub(super) fn refusal(
         let a = lentList ax ay an ah .entry in
         let b = lentList bx by bn bh .entry in
         let l = lentResults distance first second .entry in
-        ⌜ r ≡ campaignRefusal c a b l ⌝ }
+        ⌜ r ≡ campaignRefusal customer g a b l ⌝ }
 {
+    if !customers::is_customer(customer) {
+        return 15;
+    }
     let refused = site::lists_refusal(ax, ay, an, ah, bx, by, bn, bh);
     if refused != 0 {
         return refused;
     }
+    if !lawful_grid(g) {
+        return 7;
+    }
+    let c = customers::campaign_as(customer, g);
     if sound(c, ax, ay, ah, bx, by, bh, distance, first, second) {
         0
     } else {

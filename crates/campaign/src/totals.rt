@@ -1,7 +1,7 @@
 // The settled jobs' pair total.
-use super::Campaign;
 use super::ends;
 use super::marks;
+use customers::Campaign;
 ghost use mathlib.Core.Path.{_≡_};
 ghost use mathlib.Core.Bool.{true};
 ghost use mathlib.Core.List.{map};

@@ -1,12 +1,11 @@
--- What holds of B and the book after the opening and after each call.
+-- What holds of the grid, B and the book after the opening and after each call.
 use mathlib.Core.Path.{_≡_, refl, sym, ap, _∙_}
-use mathlib.Core.Bool.{false, not, cond, _&&_, and-eq-true-iff}
+use mathlib.Core.Bool.{false, not, cond, _&&_}
 use mathlib.Core.List.{List, [], _∷_, _++_, flatMap, List·Memᴰ·head, List·Memᴰ·eq-of-singleton, Memᴰ·append-right}
-use Prim.Native.Nat.{ℕ, zero, suc, _-_, _≤_, _<_}
+use Prim.Native.Nat.{ℕ, zero, suc, _≤_, _<_}
 use native.Mathlib.Omega.{arith}
 use lib.Dec.{ltb, eqb}
-use lib.ListN.{length, replicate, length-replicate}
-use lib.Seq.{take-append-seam}
+use lib.ListN.{length, set, length-replicate, length-set}
 use borrow.Author.Tests.{ne-eqb}
 use Rattle.order.specs.Lists.{Distinct}
 use Rattle.order.proofs.Best.{best, best-nil}
@@ -15,34 +14,41 @@ use Rattle.order.proofs.Lists.{all-nil}
 use Rattle.order.proofs.Sorted.{best-of-best}
 use Rattle.site.specs.Answer.{answerUnless, afterwards, refuseIf}
 use Rattle.site.specs.SiteList.{Columns, sites}
-use Rattle.site.specs.Refusal.{listsRefusal}
 use Rattle.site.proofs.Answer.{after-refused, orElse-first, orElse-second, no-fault, fault-none}
 use Rattle.site.proofs.Accepted.{both-accepted, accepted-length}
 use Rattle.entry.specs.declared.Entry.{Entry}
-use Rattle.entry.specs.Entry.{rankBefore, bestK, lawfulK}
-use Rattle.entry.specs.Results.{Results, entriesOf, holding, roomFor}
+use Rattle.entry.specs.Entry.{rankBefore, bestK}
+use Rattle.entry.specs.Results.{Results, entriesOf, holding}
 use Rattle.entry.proofs.Rank.{rank-order}
 use Rattle.entry.proofs.Results.{entries-holding, room-holding}
 use Rattle.join.specs.declared.Join.{Join}
 use Rattle.join.specs.Join.{Counts}
-use Rattle.campaign.specs.Grid.{lawfulEnds, Job, markOf, settled, settle, jobPairs, jobsPairs}
+use Rattle.customers.specs.declared.Campaign.{Campaign}
+use Rattle.customers.specs.declared.Grid.{Grid}
+use Rattle.customers.specs.Customers.{campaignAs}
+use Rattle.campaign.specs.Grid.{Job, markOf, settled, jobPairs, jobsPairs}
 use Rattle.campaign.specs.Soundness.{firstEnds, secondEnds}
-use Rattle.campaign.specs.Calls.{slots, newCampaign, openRefusal, jobEntries, afterJob, JobValues, jobValues, jobAnswer}
+use Rattle.campaign.specs.Calls.{opened, jobRefusal, jobEntries, afterJob, jobValues, jobAnswer}
+use Rattle.customers.proofs.CustomerLaws.{own-size}
 use Rattle.campaign.proofs.Grid.{InGrid, same-job, jobs-pairs-snoc}
-use Rattle.campaign.proofs.MarkLaws.{none-settled, lawful-zeros, lawful-settled, mark-below, mark-apart, length-settle, settled-same, settled-other}
+use Rattle.campaign.proofs.MarkLaws.{none-settled, mark-below, mark-apart, settled-same, settled-other}
+use Rattle.campaign.proofs.CustomerLaws.{openedCampaign, doneCampaign, opened-own, job-own, opened-lawful, job-lawful}
 use Rattle.demands.specs.Book.{Book, openBook, isDone, bookRefusal, bookEntries}
+use Rattle.demands.specs.Customers.{Act, gridAfter}
 use Rattle.demands.specs.History.{own, job, Bench, benchOf, benchAfter, bookAfter}
+use Rattle.demands.proofs.Accepted.{in-grid, OpeningAccepted, accepted-job}
+use Rattle.demands.proofs.GridAfter.{grid-lawful, campaign-kept}
 use Rattle.demands.proofs.Book.{mem-done, done-mem, done-other, once-more, inside-more, bookPairs, length-book, InBook}
-use Rattle.demands.proofs.Invariant.{Invariant, in-grid, lawful-book, job-refusal}
+use Rattle.demands.proofs.Invariant.{Invariant, Standing, lawful-book, job-refusal}
 
 -- The book with one job more.
 abbrev withJob : Book → Job → Book
 withJob book j = record { k = book .k; ends = book .ends; ends' = book .ends'; done = book .done ++ (j ∷ []) }
 
-module _ (a b : Columns) (bench : Bench) (book : Book) (i : Invariant a b bench book) (j : Job) where
+module _ {a b : Columns} {c : Campaign} {r : Results} {book : Book} (i : Invariant a b c r book) (j : Job) where
   -- The list after the job is the book's with the job.
-  job-entries : (let old = entriesOf (bench .campaign .entries) (bench .results) in
-      jobEntries (bench .campaign) (sites a) (sites b) old j ≡ bookEntries (sites a) (sites b) (withJob book j))
+  job-entries : (let old = entriesOf (c .entries) r in
+      jobEntries c (sites a) (sites b) old j ≡ bookEntries (sites a) (sites b) (withJob book j))
   unfolding jobEntries bookEntries bestK
   job-entries =
       let pairs = jobPairs (book .ends) (book .ends') (sites a) (sites b) j in
@@ -53,35 +59,35 @@ module _ (a b : Columns) (bench : Bench) (book : Book) (i : Invariant a b bench 
 
   module _ (g : InBook book j) where
     few : length (book .ends) ≤ 32
-    few = lawful-book a b bench book i .cut .few
+    few = lawful-book i .cut .few
 
     few' : length (book .ends') ≤ 32
-    few' = lawful-book a b bench book i .cut' .few
+    few' = lawful-book i .cut' .few
 
     -- The marks tell the settled jobs and this one.
     job-settles : (x : Job) → InBook book x
-        → settled (settle (bench .campaign .marks) j) x ≡ isDone x (book .done ++ (j ∷ []))
+        → settled (set (c .marks) (markOf j) 1) x ≡ isDone x (book .done ++ (j ∷ []))
     job-settles x h =
         byTest (isDone x (j ∷ []))
         (λ t.
         let e : x ≡ j = List·Memᴰ·eq-of-singleton (done-mem x (j ∷ []) t) in
-        let mark : markOf j < length (bench .campaign .marks) =
+        let mark : markOf j < length (c .marks) =
         omega (arith, mark-below (length (book .ends)) (length (book .ends')) few' j g few, i .size) in
         rw e
-        (settled-same (bench .campaign .marks) j mark
+        (settled-same (c .marks) j mark
         ∙ sym (mem-done j (book .done ++ (j ∷ [])) (Memᴰ·append-right (book .done) (List·Memᴰ·head refl)))))
         (λ f.
         let apart : markOf x ≡ markOf j → ⊥ =
         λ e.
         let same = same-job x j (mark-apart (length (book .ends)) (length (book .ends')) few' j g x h e) in
         never-both (mem-done x (j ∷ []) (List·Memᴰ·head same)) f in
-        settled-other (bench .campaign .marks) x j apart ∙ i .settles x h ∙ sym (done-other x j (book .done) f))
+        settled-other (c .marks) x j apart ∙ i .settles x h ∙ sym (done-other x j (book .done) f))
 
     -- An accepted job.
     after-accepted : isDone j (book .done) ≡ false
         → (let l = bookEntries (sites a) (sites b) (withJob book j) in
-        Invariant a b (benchOf (afterJob (bench .campaign) (length l) j) (holding l (bench .results))) (withJob book j))
-    unfolding afterJob firstEnds secondEnds
+        Invariant a b (doneCampaign c (length l) j) (holding l r) (withJob book j))
+    unfolding firstEnds secondEnds
     after-accepted new =
         let rows = length (book .ends) in
         let cols = length (book .ends') in
@@ -98,18 +104,17 @@ module _ (a b : Columns) (bench : Bench) (book : Book) (i : Invariant a b bench 
           columns = i .columns;
           firsts = i .firsts;
           seconds = i .seconds;
-          size = length-settle (bench .campaign .marks) j ∙ i .size;
-          marks = lawful-settled rows cols few' j g (bench .campaign .marks) (i .marks);
+          size = length-set (c .marks) (markOf j) 1 ∙ i .size;
           settles = job-settles;
-          room = room-holding (book .k) l (bench .results) (i .room) (length-book (sites a) (sites b) (withJob book j));
+          room = room-holding (book .k) l r (i .room) (length-book (sites a) (sites b) (withJob book j));
           count = refl;
-          entries = entries-holding l (bench .results);
+          entries = entries-holding l r;
         }
 
 -- What the book does not refuse is a job of the grid that is not settled.
-accepted-job : (book : Book) (j : Job) → bookRefusal book j ≡ 0 → InBook book j × (isDone j (book .done) ≡ false)
+unsettled-job : (book : Book) (j : Job) → bookRefusal book j ≡ 0 → InBook book j × (isDone j (book .done) ≡ false)
 unfolding bookRefusal
-accepted-job book j h =
+unsettled-job book j h =
     let below = ltb (j .first) (length (book .ends)) && ltb (j .second) (length (book .ends')) in
     let outside = refuseIf (not below) 8 in
     let again = refuseIf (isDone j (book .done)) 9 in (
@@ -117,65 +122,83 @@ accepted-job book j h =
       no-fault (isDone j (book .done)) 8 (orElse-second outside again h),
     )
 
-module _ (a b : Columns) (bench : Bench) (book : Book) (i : Invariant a b bench book) where
+module _ {customer : ℕ} {a b : Columns} {bench : Bench} {book : Book} (s : Standing customer a b bench book) where
   -- A job lent B's own lists and columns, by the book's refusal number.
-  after-number : (j : Job) (n swept : ℕ) (counts : Counts) → bookRefusal book j ≡ n
-      → (let c = bench .campaign in
+  after-number : (j : Job) (n swept : ℕ) (counts : Counts) → jobRefusal customer (bench .grid) a b (bench .results) j ≡ n
+      → bookRefusal book j ≡ n
+      → (let g = bench .grid in
       let r = bench .results in
+      let c = campaignAs customer g in
       let l = jobEntries c (sites a) (sites b) (entriesOf (c .entries) r) j in
-      Invariant a b
-      (afterwards (λ v. benchOf (v .campaign) (v .results))
-      (answerUnless n (jobValues (afterJob c (length l) j) (holding l r) swept counts)) bench)
+      Standing customer a b
+      (afterwards (λ v. benchOf (v .grid) (v .results))
+      (answerUnless n (jobValues (afterJob customer g (length l) j) (holding l r) swept counts)) bench)
       (cond (eqb n 0) (withJob book j) book))
   unfolding afterwards answerUnless
-  after-number j zero swept counts e =
-      let w = accepted-job book j e in
-      rw (job-entries a b bench book i j) (after-accepted a b bench book i j (w .0) (w .1))
-  after-number j (suc n) swept counts e = rw (ne-eqb (suc n) 0 (λ z. omega arith)) i
+  after-number j zero swept counts accepted e =
+      let g = bench .grid in
+      let i = s .campaign in
+      let u = unsettled-job book j e in
+      let w = accepted-job customer g a b (bench .results) j accepted in
+      let l = bookEntries (sites a) (sites b) (withJob book j) in
+      rw (job-entries i j) (record {
+        number = s .number;
+        lawful = job-lawful customer g (length l) j (w .few) (w .inside) (s .lawful);
+        campaign = rw (job-own customer g (length l) j) (after-accepted i j (u .0) (u .1));
+      })
+  after-number j (suc n) swept counts refused e = rw (ne-eqb (suc n) 0 (λ z. omega arith)) s
 
   pub after-job : (j : Job) (way : Join)
-      → Invariant a b (benchAfter a b bench (job own j way)) (bookAfter book (job own j way))
+      → Standing customer a b (benchAfter customer a b bench (job own j way)) (bookAfter book (job own j way))
   unfolding benchAfter bookAfter jobAnswer
-  after-job j way = rw (job-refusal a b bench book i j) (after-number j (bookRefusal book j) _ _ refl)
+  after-job j way =
+      let same = job-refusal s j in
+      rw same (after-number j (bookRefusal book j) _ _ same refl)
 
-  -- A refused job: nothing of B's changes.
-  pub after-refusal : (value : JobValues → Bench) {n : ℕ} (values : JobValues) → (n ≡ 0 → ⊥)
-      → Invariant a b (afterwards value (answerUnless n values) bench) book
-  after-refusal value values h = rw (← after-refused value values bench refl h) i
+  -- A refused call: nothing of the grid or of B's changes.
+  pub after-refusal : {A : Type 0} (value : A → Bench) {n : ℕ} (values : A) → (n ≡ 0 → ⊥)
+      → Standing customer a b (afterwards value (answerUnless n values) bench) book
+  after-refusal value values h = rw (← after-refused value values bench refl h) s
+
+  -- Any call by another number: B's campaign stays.
+  pub after-others : (n : ℕ) (a' b' : Columns) (r : Results) (act : Act) → (n ≡ customer → ⊥)
+      → Standing customer a b (benchOf (gridAfter n (bench .grid) a' b' r act) (bench .results)) book
+  after-others n a' b' r act apart = record {
+    number = s .number;
+    lawful = grid-lawful n (bench .grid) a' b' r act ∙ s .lawful;
+    campaign = rw (campaign-kept customer n (bench .grid) a' b' r act (s .number) apart) (s .campaign);
+  }
 
 -- ---- the opening
 
-module _ (a b : Columns) (k : ℕ) (ends ends' : List ℕ) (r : Results) (ok : openRefusal a b k ends ends' r ≡ 0) where
-  pub after-opening : Invariant a b (benchOf (newCampaign k ends ends') r) (openBook k ends ends')
-  unfolding
-      openRefusal newCampaign firstEnds secondEnds slots bookEntries jobsPairs flatMap bestK Distinct isDone entriesOf
-  after-opening =
-      let first = lawfulEnds (length (a .x)) ends in
-      let second = lawfulEnds (length (b .x)) ends' in
-      let later = orElse-second (listsRefusal a b) _ ok in
-      let lists = orElse-first (listsRefusal a b) _ ok in
-      let kLawful = fault-none (lawfulK k) 3 (orElse-first (refuseIf (not (lawfulK k)) 4) _ later) in
-      let later' = orElse-second (refuseIf (not (lawfulK k)) 4) _ later in
-      let uncut = refuseIf (not (first && second)) 5 in
-      let both = and-eq-true-iff first second .0 (fault-none (first && second) 4 (orElse-first uncut _ later')) in
-      let room = fault-none (roomFor k r) 5 (orElse-second uncut _ later') in
-      let accepted = both-accepted a b lists in
+module _ {customer : ℕ} {g : Grid} {a b : Columns} {k : ℕ} {ends ends' : List ℕ} {r : Results}
+    (size : length (g .marks) ≡ 1_024) (o : OpeningAccepted customer g a b k ends ends' r) where
+  opened-campaign : Invariant a b (openedCampaign (campaignAs customer g) k) r (openBook k ends ends')
+  unfolding firstEnds secondEnds campaignAs bookEntries jobsPairs flatMap bestK Distinct isDone entriesOf
+  opened-campaign =
+      let accepted = both-accepted a b (o .lists) in
       record {
-        lists = lists;
-        lawful = kLawful;
-        ends = rw (accepted-length a (accepted .0)) (both .0);
-        ends' = rw (accepted-length b (accepted .1)) (both .1);
+        lists = o .lists;
+        lawful = o .lawful-k;
+        ends = rw (accepted-length a (accepted .0)) (o .cut);
+        ends' = rw (accepted-length b (accepted .1)) (o .cut');
         once = tt;
         inside = all-nil (InGrid (length ends) (length ends'));
         k = refl;
-        rows = refl;
-        columns = refl;
-        firsts = take-append-seam ends (replicate (32 - length ends) 0);
-        seconds = take-append-seam ends' (replicate (32 - length ends') 0);
-        size = length-replicate {A = ℕ} 1024 0;
-        marks = lawful-zeros (length ends) (length ends') 0 1024;
-        settles = λ j g. none-settled 1024 j;
-        room = room;
+        rows = o .grid-ends .0;
+        columns = o .grid-ends' .0;
+        firsts = o .grid-ends .1;
+        seconds = o .grid-ends' .1;
+        size = length-replicate {A = ℕ} (length (campaignAs customer g .marks)) 0 ∙ own-size customer g ∙ size;
+        settles = λ j h. none-settled (length (campaignAs customer g .marks)) j;
+        room = o .room;
         count = ap (λ (l : List Entry). length l) (sym (best-nil rankBefore k));
         entries = sym (best-nil rankBefore k);
       }
+
+  pub after-opening : Standing customer a b (benchOf (opened customer g k) r) (openBook k ends ends')
+  after-opening = record {
+    number = o .number;
+    lawful = opened-lawful customer g k (o .lawful);
+    campaign = rw (opened-own customer g k) opened-campaign;
+  }

@@ -1,11 +1,11 @@
--- What holds of B and the book between any two calls, and what follows from it: B's campaign passes every test for 7.
+-- What holds of the grid, B and the book between any two calls, and what follows from it: B passes every test for 7.
 use mathlib.Core.Path.{_≡_, sym, ap, _∙_}
-use mathlib.Core.Bool.{Bool, true, cond, _&&_, and-eq-true-iff}
+use mathlib.Core.Bool.{Bool, true, cond, _&&_}
 use mathlib.Core.List.{List·Memᴰ, List·Permᴰ}
 use Prim.Native.Nat.{ℕ, min}
 use lib.Dec.{ltb}
 use lib.ListN.{length}
-use borrow.Author.Tests.{le-leb, lt-ltb, eq-eqb, ltb-true}
+use borrow.Author.Tests.{le-leb, lt-ltb, eq-eqb}
 use Rattle.order.specs.Order.{ascending}
 use Rattle.order.specs.Lists.{all, keep, All, Distinct}
 use Rattle.order.proofs.Order.{byTest}
@@ -18,47 +18,43 @@ use Rattle.site.specs.Refusal.{listsRefusal}
 use Rattle.site.proofs.Answer.{answer-values, or-none}
 use Rattle.entry.specs.declared.Entry.{Entry}
 use Rattle.entry.specs.Entry.{rankBefore, bestK, lawfulK}
-use Rattle.entry.specs.Results.{entriesOf, roomFor}
+use Rattle.entry.specs.Results.{Results, entriesOf, roomFor}
 use Rattle.entry.proofs.Rank.{rank-order}
-use Rattle.campaign.specs.Grid.{lawfulEnds, Job, jobs, settled, settledJobs, lawfulMarks, jobsPairs}
-use Rattle.campaign.specs.Soundness.{firstEnds, secondEnds, soundEntry, sound, campaignRefusal}
+use Rattle.customers.specs.declared.Campaign.{Campaign}
+use Rattle.customers.specs.Customers.{isCustomer, campaignAs}
+use Rattle.campaign.specs.Grid.{lawfulEnds, Job, jobs, settled, settledJobs, jobsPairs}
+use Rattle.campaign.specs.Soundness.{customerRefusal, firstEnds, secondEnds, soundEntry, sound, lawfulGrid, campaignRefusal}
 use Rattle.campaign.specs.Calls.{jobRefusal, statusAnswer}
 use Rattle.campaign.proofs.LawfulEnds.{lawful-cut}
-use Rattle.campaign.proofs.Grid.{InGrid, jobs-in-grid, jobs-entry, jobs-pairs-perm}
+use Rattle.campaign.proofs.Grid.{jobs-in-grid, jobs-entry, jobs-pairs-perm}
 use Rattle.demands.specs.Book.{Book, isDone, bookRefusal, bookEntries, bookStatus}
 use Rattle.demands.specs.History.{Bench}
+use Rattle.demands.proofs.Accepted.{in-grid}
 use Rattle.demands.proofs.Book.{mem-done, done-kept, bookPairs, InBook, LawfulBook, settled-pairs-distinct}
 
--- Both strip numbers are below the strip counts.
-pub in-grid : (rows cols : ℕ) (j : Job) → (ltb (j .first) rows && ltb (j .second) cols) ≡ true → InGrid rows cols j
-in-grid rows cols j h =
-    let w = and-eq-true-iff (ltb (j .first) rows) (ltb (j .second) cols) .0 h in
-    record { row = ltb-true (j .first) rows (w .0); column = ltb-true (j .second) cols (w .1) }
-
 -- B's lists, campaign and result columns beside the book.
-pub record Invariant (a b : Columns) (bench : Bench) (book : Book) : Type 0 where
+pub record Invariant (a b : Columns) (c : Campaign) (r : Results) (book : Book) : Type 0 where
   pub lists : listsRefusal a b ≡ 0
   pub lawful : lawfulK (book .k) ≡ true
   pub ends : lawfulEnds (length (sites a)) (book .ends) ≡ true
   pub ends' : lawfulEnds (length (sites b)) (book .ends') ≡ true
   pub once : Distinct (book .done)
   pub inside : All (InBook book) (book .done)
-  pub k : bench .campaign .k ≡ book .k
-  pub rows : bench .campaign .«first_strips» ≡ length (book .ends)
-  pub columns : bench .campaign .«second_strips» ≡ length (book .ends')
-  pub firsts : firstEnds (bench .campaign) ≡ book .ends
-  pub seconds : secondEnds (bench .campaign) ≡ book .ends'
-  pub size : length (bench .campaign .marks) ≡ 1024
-  pub marks : lawfulMarks (length (book .ends)) (length (book .ends')) 0 (bench .campaign .marks) ≡ true
+  pub k : c .k ≡ book .k
+  pub rows : c .«first_strips» ≡ length (book .ends)
+  pub columns : c .«second_strips» ≡ length (book .ends')
+  pub firsts : firstEnds c ≡ book .ends
+  pub seconds : secondEnds c ≡ book .ends'
+  pub size : length (c .marks) ≡ 1024
   pub settles :
       (j : Job)
       → InBook book j
-      → settled (bench .campaign .marks) j ≡ isDone j (book .done)
-  pub room : roomFor (book .k) (bench .results) ≡ true
-  pub count : bench .campaign .entries ≡ length (bookEntries (sites a) (sites b) book)
-  pub entries : entriesOf (bench .campaign .entries) (bench .results) ≡ bookEntries (sites a) (sites b) book
+      → settled (c .marks) j ≡ isDone j (book .done)
+  pub room : roomFor (book .k) r ≡ true
+  pub count : c .entries ≡ length (bookEntries (sites a) (sites b) book)
+  pub entries : entriesOf (c .entries) r ≡ bookEntries (sites a) (sites b) book
 
-module _ (a b : Columns) (bench : Bench) (book : Book) (i : Invariant a b bench book) where
+module _ {a b : Columns} {c : Campaign} {r : Results} {book : Book} (i : Invariant a b c r book) where
   pub lawful-book : LawfulBook (sites a) (sites b) book
   lawful-book = record {
     cut = lawful-cut (length (sites a)) (book .ends) (i .ends);
@@ -68,26 +64,26 @@ module _ (a b : Columns) (bench : Bench) (book : Book) (i : Invariant a b bench 
   }
 
   -- The marks tell the settled jobs of the book.
-  pub settled-done : List·Permᴰ (book .done) (settledJobs (bench .campaign))
+  pub settled-done : List·Permᴰ (book .done) (settledJobs c)
   unfolding settledJobs
   settled-done =
       let rows = length (book .ends) in
       let cols = length (book .ends') in
       let done : Job → Bool = λ j. isDone j (book .done) in
-      let same : keep (settled (bench .campaign .marks)) (jobs rows cols) ≡ keep done (jobs rows cols) =
-      keep-same (settled (bench .campaign .marks)) done (jobs rows cols)
+      let same : keep (settled (c .marks)) (jobs rows cols) ≡ keep done (jobs rows cols) =
+      keep-same (settled (c .marks)) done (jobs rows cols)
       (λ j m. i .settles j (jobs-in-grid rows cols j m)) in
       rw (i .rows, i .columns, same) (done-kept rows cols (book .done) (i .once) (i .inside))
 
-  sound-order : ascending rankBefore (entriesOf (bench .campaign .entries) (bench .results)) ≡ true
+  sound-order : ascending rankBefore (entriesOf (c .entries) r) ≡ true
   unfolding bookEntries bestK
   sound-order =
       let distinct = settled-pairs-distinct (sites a) (sites b) book lawful-book in
       rw (i .entries) (ascends-ascending rankBefore _ (ascends-best rank-order (book .k) _ distinct))
 
   -- An entry is of a settled job.
-  sound-entry : (e : Entry) → List·Memᴰ e (entriesOf (bench .campaign .entries) (bench .results))
-      → soundEntry (bench .campaign .marks) (book .ends) (book .ends') (sites a) (sites b) e ≡ true
+  sound-entry : (e : Entry) → List·Memᴰ e (entriesOf (c .entries) r)
+      → soundEntry (c .marks) (book .ends) (book .ends') (sites a) (sites b) e ≡ true
   unfolding soundEntry bookEntries bestK
   sound-entry e m =
       let pairs = bookPairs (sites a) (sites b) book in
@@ -97,7 +93,7 @@ module _ (a b : Columns) (bench : Bench) (book : Book) (i : Invariant a b bench 
       let w = jobs-entry (book .ends) (book .ends') (sites a) (sites b) cut cut' (book .done) (i .inside) e n in
       let j = w .0 in
       let o = w .2 in
-      let done : settled (bench .campaign .marks) j ≡ true =
+      let done : settled (c .marks) j ≡ true =
       i .settles j (all-mem (InBook book) (i .inside) (w .1)) ∙ mem-done j (book .done) (w .1) in
       simp (
         lt-ltb (e .first) (length (sites a)) (o .first),
@@ -109,19 +105,19 @@ module _ (a b : Columns) (bench : Bench) (book : Book) (i : Invariant a b bench 
       ) done
 
   -- The entries are as many as K or the settled jobs' pair total, the lesser.
-  right-count : (let pairs = jobsPairs (book .ends) (book .ends') (sites a) (sites b) (settledJobs (bench .campaign)) in
-      bench .campaign .entries ≡ min (book .k) (length pairs))
+  right-count : (let pairs = jobsPairs (book .ends) (book .ends') (sites a) (sites b) (settledJobs c) in
+      c .entries ≡ min (book .k) (length pairs))
   unfolding bookEntries bestK
   right-count =
       i .count
       ∙ length-best rankBefore (book .k) (bookPairs (sites a) (sites b) book)
       ∙ ap (min (book .k)) (perm-length (jobs-pairs-perm (book .ends) (book .ends') (sites a) (sites b) settled-done))
 
-  pub campaign-sound : sound (bench .campaign) (sites a) (sites b) (bench .results) ≡ true
+  pub campaign-sound : sound c (sites a) (sites b) r ≡ true
   unfolding sound
   campaign-sound =
-      let l = entriesOf (bench .campaign .entries) (bench .results) in
-      let test = soundEntry (bench .campaign .marks) (book .ends) (book .ends') (sites a) (sites b) in
+      let l = entriesOf (c .entries) r in
+      let test = soundEntry (c .marks) (book .ends) (book .ends') (sites a) (sites b) in
       let entries : all test l ≡ true = holds-all test l (mem-all (λ e. test e ≡ true) l sound-entry) in
       let few = le-leb (length (book .ends)) 32 (lawful-book .cut .few) in
       let few' = le-leb (length (book .ends')) 32 (lawful-book .cut' .few) in
@@ -136,33 +132,44 @@ module _ (a b : Columns) (bench : Bench) (book : Book) (i : Invariant a b bench 
         few',
         i .ends,
         i .ends',
-        i .marks,
         i .room,
         sound-order,
         entries,
         eq-eqb _ _ right-count,
       )
 
-  -- Never 7, and never 1, 2 or 3.
-  pub campaign-accepted : campaignRefusal (bench .campaign) a b (bench .results) ≡ 0
-  unfolding campaignRefusal
-  campaign-accepted = or-none (listsRefusal a b) _ (i .lists) ∙ rw campaign-sound
+-- What holds of the grid and of B beside the book: B's customer is one, and no mark is out of place.
+pub record Standing (customer : ℕ) (a b : Columns) (bench : Bench) (book : Book) : Type 0 where
+  pub number : isCustomer customer ≡ true
+  pub lawful : lawfulGrid (bench .grid) ≡ true
+  pub campaign : Invariant a b (campaignAs customer (bench .grid)) (bench .results) book
+
+module _ {customer : ℕ} {a b : Columns} {bench : Bench} {book : Book} (s : Standing customer a b bench book) where
+  -- Never 7, and never 15, 1, 2 or 3.
+  pub campaign-accepted : campaignRefusal customer (bench .grid) a b (bench .results) ≡ 0
+  unfolding campaignRefusal customerRefusal orElse
+  campaign-accepted =
+      let i = s .campaign in
+      simp (s .number, i .lists, s .lawful, campaign-sound i)
 
   -- "its job refusals .. are those of document 01's book".
-  pub job-refusal : (j : Job) → jobRefusal (bench .campaign) a b (bench .results) j ≡ bookRefusal book j
-  unfolding jobRefusal bookRefusal orElse
+  pub job-refusal : (j : Job) → jobRefusal customer (bench .grid) a b (bench .results) j ≡ bookRefusal book j
+  unfolding jobRefusal bookRefusal orElse campaignAs
   job-refusal j =
-      or-none (campaignRefusal (bench .campaign) a b (bench .results)) _ campaign-accepted
+      let i = s .campaign in
+      or-none (campaignRefusal customer (bench .grid) a b (bench .results)) _ campaign-accepted
       ∙ rw (i .rows, i .columns)
       (byTest (ltb (j .first) (length (book .ends)) && ltb (j .second) (length (book .ends')))
       (λ t.
       let inside = in-grid (length (book .ends)) (length (book .ends')) j t in
-      rw t (ap (λ (s : Bool). cond s 9 0) (i .settles j inside)))
+      rw t (ap (λ (x : Bool). cond x 9 0) (i .settles j inside)))
       (λ f. rw f))
 
   -- "and status answers".
-  pub status-answer : statusAnswer (bench .campaign) a b (bench .results)
+  pub status-answer : statusAnswer customer (bench .grid) a b (bench .results)
       ≡ answered (bookStatus (sites a) (sites b) book)
   unfolding statusAnswer bookStatus
   status-answer =
-      sym (answer-values campaign-accepted) ∙ rw (← perm-length settled-done, i .rows, i .columns, i .count, i .k)
+      let i = s .campaign in
+      sym (answer-values campaign-accepted)
+      ∙ rw (← perm-length (settled-done i), i .rows, i .columns, i .count, i .k)

@@ -16,11 +16,13 @@ use Rattle.sweep.specs.declared.Way.the-variants.{Classic}
 use Rattle.sweep.specs.Strip.{allPairs}
 use Rattle.join.specs.declared.Join.the-variants.{Sweep}
 use Rattle.pairs.specs.KList.{KListValues, kListAnswer}
-use Rattle.campaign.specs.declared.Campaign.{Campaign}
+use Rattle.customers.specs.declared.Campaign.{Campaign}
+use Rattle.customers.specs.declared.Grid.{Grid}
+use Rattle.customers.specs.Customers.{campaignAs}
 use Rattle.campaign.specs.Soundness.{campaignRefusal}
-use Rattle.campaign.specs.Calls.{openRefusal, openAnswer, jobRefusal, jobAnswer, statusAnswer}
+use Rattle.campaign.specs.Calls.{prepareRefusal, openRefusal, openAnswer, jobRefusal, jobAnswer, statusAnswer}
 use Rattle.demands.specs.Book.{Book, openBook, bookRefusal, bookEntries, bookStatus, noneOpen}
-use Rattle.demands.specs.History.{own, otherLists, otherColumns, Call, job, status, opening}
+use Rattle.demands.specs.History.{own, otherLists, otherColumns, Call, job, status, opening, others, preparing}
 use Rattle.demands.specs.History.{Bench, benchOf, benchAfter, bookAfter}
 
 -- "For every other choice of as many distinct pairs, its i-th smallest distance is no smaller than theirs, for each i."
@@ -35,46 +37,55 @@ abbrev pub below : ℕ → Results → Results
 below count r = results (take count (r .distance)) (take count (r .first)) (take count (r .second))
 
 -- Beside bench A, "an accepted K list by the classic sweep": both counts are the same, and all columns below them.
-unfoldable pub LikeBenchA : Columns → Columns → ℕ → Bench → Type 0
-LikeBenchA a b k bench =
-    (r : Results) (v : KListValues) → kListAnswer (Sweep Classic) a b k r ≡ answered v
-    → (bench .campaign .entries ≡ v .count)
-    × (below (bench .campaign .entries) (bench .results) ≡ below (v .count) (v .results))
+unfoldable pub LikeBenchA : Columns → Columns → ℕ → Campaign → Results → Type 0
+LikeBenchA a b k c r =
+    (r' : Results) (v : KListValues) → kListAnswer (Sweep Classic) a b k r' ≡ answered v
+    → (c .entries ≡ v .count)
+    × (below (c .entries) r ≡ below (v .count) (v .results))
 
--- "after the opening and after each call".
-pub record Agrees (a b : Columns) (bench : Bench) (book : Book) : Type 0 where
+-- "after the opening and after each call": B's campaign and result columns beside the book.
+pub record Agrees (a b : Columns) (c : Campaign) (r : Results) (book : Book) : Type 0 where
   -- "B's entries are exactly the best K of its settled jobs' pairs."
-  pub count : bench .campaign .entries ≡ length (bookEntries (sites a) (sites b) book)
-  pub entries : entriesOf (bench .campaign .entries) (bench .results) ≡ bookEntries (sites a) (sites b) book
+  pub count : c .entries ≡ length (bookEntries (sites a) (sites b) book)
+  pub entries : entriesOf (c .entries) r ≡ bookEntries (sites a) (sites b) book
   -- "Whenever B has no open job, both benches hold equally many entries and the same ones in the same order."
-  pub finished : noneOpen book ≡ true → LikeBenchA a b (book .k) bench
-  pub noneBetter :
-      noneOpen book ≡ true → NoChoiceBetter (sites a) (sites b) (entriesOf (bench .campaign .entries) (bench .results))
+  pub finished : noneOpen book ≡ true → LikeBenchA a b (book .k) c r
+  pub noneBetter : noneOpen book ≡ true → NoChoiceBetter (sites a) (sites b) (entriesOf (c .entries) r)
 
-module _ (a b : Columns) (bench : Bench) (book : Book) where
+module _ (customer : ℕ) (a b : Columns) (bench : Bench) (book : Book) where
   -- "its job refusals and status answers are those of document 01's book", lent B's lists and columns; "only one that
-  -- is refused may get other lists or columns"; of openings, the refused ones. `Next` is what holds then.
+  -- is refused may get other lists or columns"; of B's customer's openings, the refused ones; "the other's calls may stand
+  -- between, and an accepted preparing ends both". `Next` is what holds then.
   unfoldable pub AtCall : Call → Type 0 → Type 0
   AtCall (job own j way) Next =
-      (numberOf (jobAnswer way (bench .campaign) a b (bench .results) j) ≡ bookRefusal book j) × Next
-  AtCall (job (otherLists a' b') j way) Next = (jobRefusal (bench .campaign) a' b' (bench .results) j ≡ 0 → ⊥) → Next
-  AtCall (job (otherColumns a' b' r) j way) Next = (jobRefusal (bench .campaign) a' b' r j ≡ 0 → ⊥) → Next
+      (numberOf (jobAnswer way customer (bench .grid) a b (bench .results) j) ≡ bookRefusal book j) × Next
+  AtCall (job (otherLists a' b') j way) Next =
+      (jobRefusal customer (bench .grid) a' b' (bench .results) j ≡ 0 → ⊥) → Next
+  AtCall (job (otherColumns a' b' r) j way) Next = (jobRefusal customer (bench .grid) a' b' r j ≡ 0 → ⊥) → Next
   AtCall (status own) Next =
-      (statusAnswer (bench .campaign) a b (bench .results) ≡ answered (bookStatus (sites a) (sites b) book)) × Next
-  AtCall (status (otherLists a' b')) Next = (campaignRefusal (bench .campaign) a' b' (bench .results) ≡ 0 → ⊥) → Next
-  AtCall (status (otherColumns a' b' r)) Next = (campaignRefusal (bench .campaign) a' b' r ≡ 0 → ⊥) → Next
-  AtCall (opening a' b' k ends ends' r) Next = (openRefusal a' b' k ends ends' r ≡ 0 → ⊥) → Next
+      (statusAnswer customer (bench .grid) a b (bench .results) ≡ answered (bookStatus (sites a) (sites b) book)) × Next
+  AtCall (status (otherLists a' b')) Next =
+      (campaignRefusal customer (bench .grid) a' b' (bench .results) ≡ 0 → ⊥) → Next
+  AtCall (status (otherColumns a' b' r)) Next = (campaignRefusal customer (bench .grid) a' b' r ≡ 0 → ⊥) → Next
+  AtCall (opening a' b' k ends ends' r) Next =
+      (openRefusal customer (bench .grid) a' b' k ends ends' r ≡ 0 → ⊥) → Next
+  AtCall (others n a' b' r act) Next = (n ≡ customer → ⊥) → Next
+  AtCall (preparing a' b' ends ends') Next = (prepareRefusal a' b' ends ends' ≡ 0 → ⊥) → Next
 
 -- Along a whole list of calls: before the first, at each, and after each.
-unfoldable pub Throughout : Columns → Columns → Bench → Book → List Call → Type 0
-Throughout a b bench book [] = Agrees a b bench book
-Throughout a b bench book (c ∷ l) =
-    Agrees a b bench book × AtCall a b bench book c (Throughout a b (benchAfter a b bench c) (bookAfter book c) l)
+unfoldable pub Throughout : ℕ → Columns → Columns → Bench → Book → List Call → Type 0
+Throughout customer a b bench book [] = Agrees a b (campaignAs customer (bench .grid)) (bench .results) book
+Throughout customer a b bench book (c ∷ l) =
+    Agrees a b (campaignAs customer (bench .grid)) (bench .results) book
+    × AtCall customer a b bench book c
+    (Throughout customer a b (benchAfter customer a b bench c) (bookAfter book c) l)
 
--- Demand 3, whole: for all lists, K, lawful cuts and calls; "the result columns may hold anything".
+-- Demand 3, whole, of either customer: for all grids (which have 1,024 marks), lists, K, lawful cuts and calls; "the result
+-- columns may hold anything".
 unfoldable pub Demand3 : Type 0
 Demand3 =
-    (a b : Columns) (k : ℕ) (ends ends' : List ℕ) (r : Results) (c : Campaign)
-    → openAnswer a b k ends ends' r ≡ answered c
+    (customer : ℕ) (g : Grid) → length (g .marks) ≡ 1_024
+    → (a b : Columns) (k : ℕ) (ends ends' : List ℕ) (r : Results) (g' : Grid)
+    → openAnswer customer g a b k ends ends' r ≡ answered g'
     → (calls : List Call)
-    → Throughout a b (benchOf c r) (openBook k ends ends') calls
+    → Throughout customer a b (benchOf g' r) (openBook k ends ends') calls

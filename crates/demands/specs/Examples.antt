@@ -17,9 +17,9 @@ use Rattle.sweep.specs.Sweep.{sweep}
 use Rattle.join.specs.declared.Join.the-variants.{Sweep}
 use Rattle.pairs.specs.KList.{kList}
 use Rattle.pairs.specs.DistanceList.{distanceList}
-use Rattle.campaign.specs.declared.Campaign.{Campaign}
+use Rattle.customers.specs.declared.Grid.{Grid}
 use Rattle.campaign.specs.Grid.{Job, jobOf}
-use Rattle.campaign.specs.Calls.{openAnswer, jobAnswer, statusAnswer}
+use Rattle.campaign.specs.Calls.{prepareAnswer, openAnswer, jobAnswer, statusAnswer}
 
 -- The two places of each entry.
 unfoldable pub places : List Entry → List ℕ
@@ -30,19 +30,21 @@ unfoldable pub figures : State → List ℕ
 figures s = s .looks ∷ s .distances ∷ places (s .entries)
 
 -- Jobs by the classic sweep, a swept one as 1, a skipped one as 0; then status's jobs and entries, and the places.
-unfoldable pub steps : Columns → Columns → List Job → Campaign → Results → List ℕ
-steps a b [] c r =
-    afterwards (λ v. v .jobs ∷ v .entries ∷ places (entriesOf (c .entries) r)) (statusAnswer c a b r) []
-steps a b (j ∷ l) c r =
-    afterwards (λ v. v .swept ∷ steps a b l (v .campaign) (v .results)) (jobAnswer (Sweep Classic) c a b r j) []
+unfoldable pub steps : Columns → Columns → List Job → Grid → Results → List ℕ
+steps a b [] g r =
+    afterwards (λ v. v .jobs ∷ v .entries ∷ places (entriesOf (v .entries) r)) (statusAnswer 1 g a b r) []
+steps a b (j ∷ l) g r =
+    afterwards (λ v. v .swept ∷ steps a b l (v .grid) (v .results)) (jobAnswer (Sweep Classic) 1 g a b r j) []
 
--- The same of a campaign from its opening on.
+-- The same of the first customer's campaign, from the preparing of its grid and its opening on.
 unfoldable pub run : List Site → List Site → ℕ → List ℕ → List ℕ → List Job → List ℕ
 run a b k ends ends' l =
     let r = results (replicate k 0) (replicate k 0) (replicate k 0) in
     let first = onGround (columnsOf a) in
     let second = onGround (columnsOf b) in
-    afterwards (λ c. steps first second l c r) (openAnswer first second k ends ends' r) []
+    let opened : Grid → List ℕ = λ g.
+    afterwards (λ g'. steps first second l g' r) (openAnswer 1 g first second k ends ends' r) [] in
+    afterwards opened (prepareAnswer first second ends ends') []
 
 -- A site on the ground.
 abbrev site : ℤ → ℤ → ℕ → Site

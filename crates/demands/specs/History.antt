@@ -1,4 +1,4 @@
--- A list of calls on bench B: what each call is lent, and what B and the book hold after it.
+-- A list of calls around bench B, one customer's: what each call is lent, and what B and the book hold after it.
 use mathlib.Core.Bool.{cond}
 use mathlib.Core.List.{List, [], _∷_, _++_}
 use Prim.Native.Nat.{ℕ}
@@ -7,44 +7,53 @@ use Rattle.site.specs.Answer.{afterwards}
 use Rattle.site.specs.SiteList.{Columns}
 use Rattle.entry.specs.Results.{Results}
 use Rattle.join.specs.declared.Join.{Join}
-use Rattle.campaign.specs.declared.Campaign.{Campaign}
+use Rattle.customers.specs.declared.Grid.{Grid}
 use Rattle.campaign.specs.Grid.{Job}
-use Rattle.campaign.specs.Calls.{jobAnswer}
+use Rattle.campaign.specs.Calls.{prepareAnswer, openAnswer, jobAnswer}
 use Rattle.demands.specs.Book.{Book, bookRefusal}
+use Rattle.demands.specs.Customers.{Act, gridAfter}
 
--- What a job or a status is lent beside B's campaign: B's two lists and columns, other lists, or other columns.
+-- What a job or a status of B's is lent beside the grid: B's two lists and columns, other lists, or other columns.
 pub data Lending : Type 0 where
   own : Lending
   otherLists : Columns → Columns → Lending
   otherColumns : Columns → Columns → Results → Lending
 
--- A call. A job, by any of the three ways, and a status get B's campaign as the last call left it.
+-- A call, on the grid as the last call left it: a job, by any of the three ways, a status or an opening by B's customer; any
+-- call by another number, as "the other's calls may stand between"; or a preparing.
 pub data Call : Type 0 where
   job : Lending → Job → Join → Call
   status : Lending → Call
   opening : Columns → Columns → ℕ → List ℕ → List ℕ → Results → Call
+  others : ℕ → Columns → Columns → Results → Act → Call
+  preparing : Columns → Columns → List ℕ → List ℕ → Call
 
--- What B holds: its campaign and its result columns.
+-- What B holds: the grid with its customer's campaign, and its result columns.
 pub record Bench : Type 0 where
-  pub campaign : Campaign
+  pub grid : Grid
   pub results : Results
 
-abbrev pub benchOf : Campaign → Results → Bench
-benchOf c r = record { campaign = c; results = r }
+abbrev pub benchOf : Grid → Results → Bench
+benchOf g r = record { grid = g; results = r }
 
--- What B holds after a call, by the job's own answer. Status and openings write nothing of B's.
-unfoldable pub benchAfter : Columns → Columns → Bench → Call → Bench
-benchAfter a b bench (job own j way) =
-    afterwards (λ v. benchOf (v .campaign) (v .results)) (jobAnswer way (bench .campaign) a b (bench .results) j) bench
-benchAfter a b bench (job (otherLists a' b') j way) =
-    afterwards (λ v. benchOf (v .campaign) (v .results))
-    (jobAnswer way (bench .campaign) a' b' (bench .results) j) bench
-benchAfter a b bench (job (otherColumns a' b' r) j way) =
-    afterwards (λ v. benchOf (v .campaign) (bench .results)) (jobAnswer way (bench .campaign) a' b' r j) bench
-benchAfter a b bench (status lent) = bench
-benchAfter a b bench (opening a' b' k ends ends' r) = bench
+-- What B holds after a call, by the call's own answer. Only a job lent B's columns writes them.
+unfoldable pub benchAfter : ℕ → Columns → Columns → Bench → Call → Bench
+benchAfter customer a b bench (job own j way) =
+    afterwards (λ v. benchOf (v .grid) (v .results)) (jobAnswer way customer (bench .grid) a b (bench .results) j) bench
+benchAfter customer a b bench (job (otherLists a' b') j way) =
+    afterwards (λ v. benchOf (v .grid) (v .results))
+    (jobAnswer way customer (bench .grid) a' b' (bench .results) j) bench
+benchAfter customer a b bench (job (otherColumns a' b' r) j way) =
+    afterwards (λ v. benchOf (v .grid) (bench .results)) (jobAnswer way customer (bench .grid) a' b' r j) bench
+benchAfter customer a b bench (status lent) = bench
+benchAfter customer a b bench (opening a' b' k ends ends' r) =
+    afterwards (λ g. benchOf g (bench .results)) (openAnswer customer (bench .grid) a' b' k ends ends' r) bench
+benchAfter customer a b bench (others n a' b' r act) = benchOf (gridAfter n (bench .grid) a' b' r act) (bench .results)
+benchAfter customer a b bench (preparing a' b' ends ends') =
+    afterwards (λ g. benchOf g (bench .results)) (prepareAnswer a' b' ends ends') bench
 
--- The book after a call: a job that the book does not refuse is settled. "Status and refused calls change nothing."
+-- The book after a call, "kept from that customer's calls alone": a job that the book does not refuse is settled. "Status
+-- and refused calls change nothing."
 unfoldable pub bookAfter : Book → Call → Book
 bookAfter book (job own j way) =
     cond (eqb (bookRefusal book j) 0)
@@ -53,3 +62,5 @@ bookAfter book (job (otherLists a' b') j way) = book
 bookAfter book (job (otherColumns a' b' r) j way) = book
 bookAfter book (status lent) = book
 bookAfter book (opening a' b' k ends ends' r) = book
+bookAfter book (others n a' b' r act) = book
+bookAfter book (preparing a' b' ends ends') = book

@@ -1,5 +1,7 @@
--- The users' demands 2 and 3, the forecast and the prices beside demand 2, the book, and the fixed examples. The proofs are in `proofs/`.
+-- The users' demands 2 and 3, the forecast and the prices beside demand 2, the two customers apart, the book, and the fixed
+-- examples. The proofs are in `proofs/`.
 pub mod Book
+pub mod Customers
 pub mod History
 pub mod Demand2
 pub mod Forecast

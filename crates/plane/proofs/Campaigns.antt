@@ -1,5 +1,5 @@
--- Every height 0: opening, jobs and status.
-use mathlib.Core.Path.{_≡_, sym, ap, ap₂, _∙_}
+-- Every height 0: preparing, opening, jobs and status.
+use mathlib.Core.Path.{_≡_, ap, ap₂, _∙_}
 use mathlib.Core.Bool.{_&&_}
 use mathlib.Core.List.{List, map, flatMap}
 use Prim.Native.Nat.{ℕ}
@@ -18,10 +18,12 @@ use Rattle.halves.specs.Gap.{squaredStripGap}
 use Rattle.halves.proofs.Alike.{gap-alike}
 use Rattle.join.specs.declared.Join.{Join}
 use Rattle.join.specs.Join.{join}
-use Rattle.campaign.specs.declared.Campaign.{Campaign}
+use Rattle.customers.specs.declared.Campaign.{Campaign}
+use Rattle.customers.specs.declared.Grid.{Grid}
+use Rattle.customers.specs.Customers.{campaignAs}
 use Rattle.campaign.specs.Grid.{Job, jobOf, stripAt, stripHolding, settled, settledJobs, jobPairs, jobsPairs}
 use Rattle.campaign.specs.Soundness.{firstEnds, secondEnds, soundEntry, sound, campaignRefusal}
-use Rattle.campaign.specs.Calls.{openRefusal, openAnswer, jobRefusal, skips, jobEntries, jobAnswer, statusAnswer}
+use Rattle.campaign.specs.Calls.{lawfulCuts, prepareRefusal, prepareAnswer, openRefusal, openAnswer, jobRefusal, skips, jobEntries, jobAnswer, statusAnswer}
 use Rattle.plane.proofs.PairLists.{ground-join, ground-pairs}
 
 -- ---- strips of any sites
@@ -85,27 +87,35 @@ module _ (a b : List Site) where
 -- ---- lists of the plane
 
 module _ (a b : Columns) (pa : Plane a) (pb : Plane b) where
-  pub open-same : (k : ℕ) (ends ends' : List ℕ) (r : Results)
-      → openAnswer (onGround a) (onGround b) k ends ends' r ≡ openAnswer a b k ends ends' r
-  unfolding openAnswer openRefusal
-  open-same k ends ends' r = rw (ground-lists a b pa pb)
+  pub prepare-same : (ends ends' : List ℕ) → prepareAnswer (onGround a) (onGround b) ends ends' ≡ prepareAnswer a b ends ends'
+  unfolding prepareAnswer prepareRefusal lawfulCuts
+  prepare-same ends ends' = rw (ground-lists a b pa pb)
 
-  refusal-same : (c : Campaign) (r : Results) → campaignRefusal c (onGround a) (onGround b) r ≡ campaignRefusal c a b r
-  unfolding campaignRefusal
-  refusal-same c r = rw (ground-lists a b pa pb, ground-sites a pa, ground-sites b pb, sound-same (sites a) (sites b) c r)
+  module _ (customer : ℕ) (g : Grid) where
+    pub open-same : (k : ℕ) (ends ends' : List ℕ) (r : Results)
+        → openAnswer customer g (onGround a) (onGround b) k ends ends' r ≡ openAnswer customer g a b k ends ends' r
+    unfolding openAnswer openRefusal lawfulCuts
+    open-same k ends ends' r = rw (ground-lists a b pa pb)
 
-  pub status-same : (c : Campaign) (r : Results) → statusAnswer c (onGround a) (onGround b) r ≡ statusAnswer c a b r
-  unfolding statusAnswer
-  status-same c r = rw (refusal-same c r)
+    refusal-same : (r : Results) → campaignRefusal customer g (onGround a) (onGround b) r ≡ campaignRefusal customer g a b r
+    unfolding campaignRefusal
+    refusal-same r =
+        rw (ground-lists a b pa pb, ground-sites a pa, ground-sites b pb, sound-same (sites a) (sites b) (campaignAs customer g) r)
 
-  pub job-same : (way : Join) (c : Campaign) (r : Results) (j : Job) → jobAnswer way c (onGround a) (onGround b) r j ≡ jobAnswer way c a b r j
+    pub status-same : (r : Results) → statusAnswer customer g (onGround a) (onGround b) r ≡ statusAnswer customer g a b r
+    unfolding statusAnswer
+    status-same r = rw (refusal-same r)
+
+  pub job-same : (way : Join) (customer : ℕ) (g : Grid) (r : Results) (j : Job)
+      → jobAnswer way customer g (onGround a) (onGround b) r j ≡ jobAnswer way customer g a b r j
   unfolding jobAnswer jobRefusal
-  job-same way c r j =
+  job-same way customer g r j =
+      let c = campaignAs customer g in
       let old = entriesOf (c .entries) r in
       let l = sites a in
       let m = sites b in
       rw (
-        refusal-same c r,
+        refusal-same customer g r,
         ground-sites a pa,
         ground-sites b pb,
         job-entries-same l m c old j,

@@ -1,7 +1,7 @@
 -- Two lists with every height 0 give the answers of the plane.
 use Rattle.plane.specs.Plane.{HeightsOfZero}
 use Rattle.plane.proofs.PairLists.{k-list-same, distance-list-same, forecast-same}
-use Rattle.plane.proofs.Campaigns.{open-same, job-same, status-same}
+use Rattle.plane.proofs.Campaigns.{prepare-same, open-same, job-same, status-same}
 
 pub heights-of-zero : HeightsOfZero
 unfolding HeightsOfZero
@@ -9,6 +9,7 @@ heights-of-zero a b p q = record {
   kLists = k-list-same a b p q;
   distanceLists = distance-list-same a b p q;
   forecasts = forecast-same a b p q;
+  preparings = prepare-same a b p q;
   openings = open-same a b p q;
   jobs = job-same a b p q;
   statuses = status-same a b p q;

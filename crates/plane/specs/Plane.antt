@@ -8,9 +8,9 @@ use Rattle.join.specs.declared.Join.{Join}
 use Rattle.pairs.specs.KList.{kListAnswer}
 use Rattle.pairs.specs.DistanceList.{distanceAnswer}
 use Rattle.pairs.specs.Forecast.{forecastAnswer}
-use Rattle.campaign.specs.declared.Campaign.{Campaign}
+use Rattle.customers.specs.declared.Grid.{Grid}
 use Rattle.campaign.specs.Grid.{Job}
-use Rattle.campaign.specs.Calls.{openAnswer, jobAnswer, statusAnswer}
+use Rattle.campaign.specs.Calls.{prepareAnswer, openAnswer, jobAnswer, statusAnswer}
 
 -- What two lists of the plane are answered, they are answered with every height 0: refusals, counts and columns too.
 pub record PlaneAnswers (a b : Columns) : Type 0 where
@@ -21,14 +21,17 @@ pub record PlaneAnswers (a b : Columns) : Type 0 where
       → distanceAnswer (onGround a) (onGround b) e first second ≡ distanceAnswer a b e first second
   pub forecasts :
       (e : ℕ) (column : List ℕ) → forecastAnswer (onGround a) (onGround b) e column ≡ forecastAnswer a b e column
+  pub preparings :
+      (ends ends' : List ℕ) → prepareAnswer (onGround a) (onGround b) ends ends' ≡ prepareAnswer a b ends ends'
   pub openings :
-      (k : ℕ) (ends ends' : List ℕ) (r : Results)
-      → openAnswer (onGround a) (onGround b) k ends ends' r ≡ openAnswer a b k ends ends' r
+      (customer : ℕ) (g : Grid) (k : ℕ) (ends ends' : List ℕ) (r : Results)
+      → openAnswer customer g (onGround a) (onGround b) k ends ends' r ≡ openAnswer customer g a b k ends ends' r
   pub jobs :
-      (way : Join) (c : Campaign) (r : Results) (j : Job)
-      → jobAnswer way c (onGround a) (onGround b) r j ≡ jobAnswer way c a b r j
+      (way : Join) (customer : ℕ) (g : Grid) (r : Results) (j : Job)
+      → jobAnswer way customer g (onGround a) (onGround b) r j ≡ jobAnswer way customer g a b r j
   pub statuses :
-      (c : Campaign) (r : Results) → statusAnswer c (onGround a) (onGround b) r ≡ statusAnswer c a b r
+      (customer : ℕ) (g : Grid) (r : Results)
+      → statusAnswer customer g (onGround a) (onGround b) r ≡ statusAnswer customer g a b r
 
 -- For all lists of the plane.
 unfoldable pub HeightsOfZero : Type 0

@@ -10,7 +10,9 @@ use Rattle.join.specs.declared.Join.{Join}
 use Rattle.join.specs.declared.Join.the-variants.{Sweep, Halves}
 use Rattle.join.specs.Join.{Counts, counts, bySweep, byHalves, noCounts, join}
 use Rattle.pairs.specs.KList.{kListValues, kListAnswer}
-use Rattle.campaign.specs.declared.Campaign.{Campaign}
+use Rattle.customers.specs.declared.Campaign.{Campaign}
+use Rattle.customers.specs.declared.Grid.{Grid}
+use Rattle.customers.specs.Customers.{campaignAs}
 use Rattle.campaign.specs.Grid.{Job, stripAt}
 use Rattle.campaign.specs.Soundness.{firstEnds, secondEnds}
 use Rattle.campaign.specs.Calls.{skips, jobValues, jobAnswer}
@@ -63,7 +65,10 @@ skipped-own : (own : Counts → Counts) (skip : Bool) (c : Counts) → own noCou
 skipped-own own true c h g = h
 skipped-own own false c h g = g
 
-module _ (c : Campaign) (a b : Columns) (r : Results) (j : Job) where
+module _ (customer : ℕ) (g : Grid) (a b : Columns) (r : Results) (j : Job) where
+  abbrev c : Campaign
+  c = campaignAs customer g
+
   -- Whether the job is skipped, and what it counts where it is not.
   abbrev skip : Bool
   skip = skips c (sites a) (sites b) (entriesOf (c .entries) r) j
@@ -74,20 +79,20 @@ module _ (c : Campaign) (a b : Columns) (r : Results) (j : Job) where
       let second = stripAt (secondEnds c) (sites b) (j .second) in
       join way (c .k) first second (entriesOf (c .entries) r) .counts
 
-  module _ {d d' : Campaign} {l l' : Results} {s s' x' y' z' told : ℕ} where
+  module _ {d d' : Grid} {l l' : Results} {s s' x' y' z' told : ℕ} where
     pub job-by-sweep : (way : Way) {x y : ℕ}
-        → Crosses (jobAnswer (Sweep way) c a b r j) told
+        → Crosses (jobAnswer (Sweep way) customer g a b r j) told
         (record { entry = jobValues d l s (counts x y 0); exit = jobValues d' l' s' (counts x' y' z') })
-        → Crosses (jobAnswer (Sweep way) c a b r j) told
+        → Crosses (jobAnswer (Sweep way) customer g a b r j) told
         (record { entry = jobValues d l s (bySweep x y); exit = jobValues d' l' s' (bySweep x' y') })
     unfolding jobAnswer join
     job-by-sweep way crossed =
         crossed-own (λ v. v .counts) ofSweep (jobValues d' l' s') (λ c. refl) _ _ _
         (skipped-own ofSweep skip (counted (Sweep way)) refl refl) refl crossed
 
-    pub job-by-halves : {z : ℕ} → Crosses (jobAnswer Halves c a b r j) told
+    pub job-by-halves : {z : ℕ} → Crosses (jobAnswer Halves customer g a b r j) told
         (record { entry = jobValues d l s (counts 0 0 z); exit = jobValues d' l' s' (counts x' y' z') })
-        → Crosses (jobAnswer Halves c a b r j) told
+        → Crosses (jobAnswer Halves customer g a b r j) told
         (record { entry = jobValues d l s (byHalves z); exit = jobValues d' l' s' (byHalves z') })
     unfolding jobAnswer join
     job-by-halves crossed =

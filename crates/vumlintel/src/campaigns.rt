@@ -1,4 +1,5 @@
-// Opening a campaign, its jobs and its status. A campaign crosses in its parts, each behind a reference.
+// Preparing a grid, opening a customer's campaign on it, its jobs and its status. A grid crosses in its parts, each behind a
+// reference.
 ghost use mathlib.Core.Path.{_≡_};
 ghost use Rattle.column.specs.Lent.{the, _of_, _with_};
 ghost use Rattle.site.specs.SiteList.{lentList};
@@ -7,45 +8,88 @@ ghost use Rattle.sweep.specs.declared.Way.the-variants.{Classic, ReverseRun};
 ghost use Rattle.join.specs.declared.Join.the-variants.{Sweep, Halves};
 ghost use Rattle.join.specs.Join.{counts, bySweep, byHalves};
 ghost use Rattle.campaign.specs.Grid.{jobOf};
-ghost use Rattle.campaign.specs.Calls.{openAnswer, jobValues, jobAnswer, jobDoneAnswer, statusValues, statusAnswer};
+ghost use Rattle.campaign.specs.Calls.{
+  prepareAnswer,
+  openAnswer,
+  jobValues,
+  jobAnswer,
+  jobDoneAnswer,
+  statusValues,
+  statusAnswer,
+};
 ghost use Rattle.vumlintel.specs.Crosses.{Crosses};
-ghost use Rattle.vumlintel.specs.Lent.{lentCampaign};
-use campaign::Campaign;
+ghost use Rattle.vumlintel.specs.Lent.{lentGrid};
 use campaign::JobDone;
 use campaign::Outcome;
 use campaign::Status;
+use customers::Grid;
 use join::Join;
 use sweep::Way;
 
-// A campaign into its parts.
+// A grid of its parts.
+fn get(
+    first_strips: &u32,
+    second_strips: &u32,
+    first_ends: &[u32; 32],
+    second_ends: &[u32; 32],
+    marks: &[u8; 1024],
+    k1: &u32,
+    entries1: &u32,
+    k2: &u32,
+    entries2: &u32,
+) -> Grid
+    ensures { λ r.
+        let parts = lentGrid «first_strips» «second_strips» «first_ends» «second_ends» marks k1 entries1 k2 entries2 in
+        ⌜ r ≡ parts .entry ⌝ }
+{
+    let first_cut = *first_ends;
+    let second_cut = *second_ends;
+    let marked = *marks;
+    Grid {
+        first_strips: *first_strips,
+        second_strips: *second_strips,
+        first_ends: first_cut,
+        second_ends: second_cut,
+        marks: marked,
+        k1: *k1,
+        entries1: *entries1,
+        k2: *k2,
+        entries2: *entries2,
+    }
+}
+
+// A grid into its parts.
 fn put(
-    c: Campaign,
-    campaign_k: &mut u32,
-    campaign_entries: &mut u32,
+    g: Grid,
     first_strips: &mut u32,
     second_strips: &mut u32,
     first_ends: &mut [u32; 32],
     second_ends: &mut [u32; 32],
     marks: &mut [u8; 1024],
+    k1: &mut u32,
+    entries1: &mut u32,
+    k2: &mut u32,
+    entries2: &mut u32,
 )
     ensures { λ _.
-        let parts =
-        lentCampaign «campaign_k» «campaign_entries» «first_strips» «second_strips» «first_ends» «second_ends» marks in
-        ⌜ parts .exit ≡ c ⌝ }
+        let parts = lentGrid «first_strips» «second_strips» «first_ends» «second_ends» marks k1 entries1 k2 entries2 in
+        ⌜ parts .exit ≡ g ⌝ }
 {
-    let first_cut = c.first_ends;
-    let second_cut = c.second_ends;
-    let marked = c.marks;
-    *campaign_k = c.k;
-    *campaign_entries = c.entries;
-    *first_strips = c.first_strips;
-    *second_strips = c.second_strips;
+    let first_cut = g.first_ends;
+    let second_cut = g.second_ends;
+    let marked = g.marks;
+    *first_strips = g.first_strips;
+    *second_strips = g.second_strips;
     *first_ends = first_cut;
     *second_ends = second_cut;
     *marks = marked;
+    *k1 = g.k1;
+    *entries1 = g.entries1;
+    *k2 = g.k2;
+    *entries2 = g.entries2;
 }
 
-// What a job answers beside the campaign, across the boundary: 1 for swept and 0 for skipped.
+// What a job answers beside the grid, across the boundary: 1 for swept and 0 for skipped.
 fn cross_done(
     done: JobDone,
     swept: &mut u32,
@@ -56,7 +100,7 @@ fn cross_done(
     ensures { λ r.
         let counters = the counts of looks of distances of «range_pairs» in
         ⌜ ((l : Results) →
-        Crosses (jobDoneAnswer done l) r (the (jobValues (done .campaign) l) of swept with counters)) ⌝ }
+        Crosses (jobDoneAnswer done l) r (the (jobValues (done .grid) l) of swept with counters)) ⌝ }
 {
     let outcome = done.outcome;
     match outcome {
@@ -78,9 +122,80 @@ fn cross_done(
     }
 }
 
-// Opening: the campaign.
+// Preparing: the grid.
+#[no_mangle]
+pub extern "C" fn vumlintel_prepare(
+    ax: &[i32],
+    ay: &[i32],
+    an: &[u32],
+    ah: &[i32],
+    bx: &[i32],
+    by: &[i32],
+    bn: &[u32],
+    bh: &[i32],
+    first_cuts: &[u32],
+    second_cuts: &[u32],
+    first_strips: &mut u32,
+    second_strips: &mut u32,
+    first_ends: &mut [u32; 32],
+    second_ends: &mut [u32; 32],
+    marks: &mut [u8; 1024],
+    k1: &mut u32,
+    entries1: &mut u32,
+    k2: &mut u32,
+    entries2: &mut u32,
+) -> u32
+    ensures { λ r.
+        let g = lentGrid «first_strips» «second_strips» «first_ends» «second_ends» marks k1 entries1 k2 entries2 in
+        let a = lentList ax ay an ah .entry in
+        let b = lentList bx by bn bh .entry in
+        ⌜ Crosses (prepareAnswer a b (now («first_cuts» .entry)) (now («second_cuts» .entry))) r g ⌝ }
+{
+    let answered = campaign::calls::prepare(
+        ax,
+        ay,
+        an,
+        ah,
+        bx,
+        by,
+        bn,
+        bh,
+        first_cuts,
+        second_cuts,
+    );
+    let refusal = answered.refusal;
+    if refusal != 0 {
+        return refusal;
+    }
+    let prepared = answered.grid;
+    put(
+        prepared,
+        first_strips,
+        second_strips,
+        first_ends,
+        second_ends,
+        marks,
+        k1,
+        entries1,
+        k2,
+        entries2,
+    );
+    0
+}
+
+// Opening: the grid with the customer's campaign.
 #[no_mangle]
 pub extern "C" fn vumlintel_open(
+    first_strips: &mut u32,
+    second_strips: &mut u32,
+    first_ends: &mut [u32; 32],
+    second_ends: &mut [u32; 32],
+    marks: &mut [u8; 1024],
+    k1: &mut u32,
+    entries1: &mut u32,
+    k2: &mut u32,
+    entries2: &mut u32,
+    customer: u32,
     ax: &[i32],
     ay: &[i32],
     an: &[u32],
@@ -95,23 +210,29 @@ pub extern "C" fn vumlintel_open(
     distance: &[u64],
     first: &[u32],
     second: &[u32],
-    campaign_k: &mut u32,
-    campaign_entries: &mut u32,
-    first_strips: &mut u32,
-    second_strips: &mut u32,
-    first_ends: &mut [u32; 32],
-    second_ends: &mut [u32; 32],
-    marks: &mut [u8; 1024],
 ) -> u32
     ensures { λ r.
-        let c =
-        lentCampaign «campaign_k» «campaign_entries» «first_strips» «second_strips» «first_ends» «second_ends» marks in
+        let g = lentGrid «first_strips» «second_strips» «first_ends» «second_ends» marks k1 entries1 k2 entries2 in
         let a = lentList ax ay an ah .entry in
         let b = lentList bx by bn bh .entry in
         let l = lentResults distance first second .entry in
-        ⌜ Crosses (openAnswer a b k (now («first_cuts» .entry)) (now («second_cuts» .entry)) l) r c ⌝ }
+        let answer = openAnswer customer (g .entry) a b k (now («first_cuts» .entry)) (now («second_cuts» .entry)) l in
+        ⌜ Crosses answer r g ⌝ }
 {
-    let opened = campaign::calls::open(
+    let g = get(
+        first_strips,
+        second_strips,
+        first_ends,
+        second_ends,
+        marks,
+        k1,
+        entries1,
+        k2,
+        entries2,
+    );
+    let answered = campaign::calls::open(
+        customer,
+        g,
         ax,
         ay,
         an,
@@ -127,33 +248,38 @@ pub extern "C" fn vumlintel_open(
         first,
         second,
     );
-    let refusal = opened.refusal;
-    if refusal != 0 {
-        return refusal;
+    let refused = answered.refusal;
+    if refused != 0 {
+        return refused;
     }
-    let c = opened.campaign;
+    let opened = answered.grid;
     put(
-        c,
-        campaign_k,
-        campaign_entries,
+        opened,
         first_strips,
         second_strips,
         first_ends,
         second_ends,
         marks,
+        k1,
+        entries1,
+        k2,
+        entries2,
     );
     0
 }
 
-// A job by any of the three ways: the campaign, whether it was swept, and the counters. A refused one stores nothing.
+// A customer's job by any of the three ways: the grid, whether it was swept, and the counters. A refused one stores nothing.
 fn job(
-    campaign_k: &mut u32,
-    campaign_entries: &mut u32,
     first_strips: &mut u32,
     second_strips: &mut u32,
     first_ends: &mut [u32; 32],
     second_ends: &mut [u32; 32],
     marks: &mut [u8; 1024],
+    k1: &mut u32,
+    entries1: &mut u32,
+    k2: &mut u32,
+    entries2: &mut u32,
+    customer: u32,
     ax: &[i32],
     ay: &[i32],
     an: &[u32],
@@ -174,29 +300,28 @@ fn job(
     range_pairs: &mut u64,
 ) -> u32
     ensures { λ r.
-        let c =
-        lentCampaign «campaign_k» «campaign_entries» «first_strips» «second_strips» «first_ends» «second_ends» marks in
+        let g = lentGrid «first_strips» «second_strips» «first_ends» «second_ends» marks k1 entries1 k2 entries2 in
         let a = lentList ax ay an ah .entry in
         let b = lentList bx by bn bh .entry in
         let l = lentResults distance first second in
-        let answer = jobAnswer way (c .entry) a b (l .entry) (jobOf «first_strip» «second_strip») in
+        let answer = jobAnswer way customer (g .entry) a b (l .entry) (jobOf «first_strip» «second_strip») in
         let counters = the counts of looks of distances of «range_pairs» in
-        ⌜ Crosses answer r (the jobValues with c with l of swept with counters) ⌝ }
+        ⌜ Crosses answer r (the jobValues with g with l of swept with counters) ⌝ }
 {
-    let first_cut = *first_ends;
-    let second_cut = *second_ends;
-    let marked = *marks;
-    let c = Campaign {
-        k: *campaign_k,
-        entries: *campaign_entries,
-        first_strips: *first_strips,
-        second_strips: *second_strips,
-        first_ends: first_cut,
-        second_ends: second_cut,
-        marks: marked,
-    };
+    let g = get(
+        first_strips,
+        second_strips,
+        first_ends,
+        second_ends,
+        marks,
+        k1,
+        entries1,
+        k2,
+        entries2,
+    );
     let done = campaign::calls::job(
-        c,
+        customer,
+        g,
         ax,
         ay,
         an,
@@ -212,34 +337,39 @@ fn job(
         second_strip,
         way,
     );
-    let after = done.campaign;
+    let after = done.grid;
     let number = cross_done(done, swept, looks, distances, range_pairs);
     if number != 0 {
         return number;
     }
     put(
         after,
-        campaign_k,
-        campaign_entries,
         first_strips,
         second_strips,
         first_ends,
         second_ends,
         marks,
+        k1,
+        entries1,
+        k2,
+        entries2,
     );
     0
 }
 
-// A job by the classic sweep: the campaign, whether it was swept, the looks and the distances.
+// A job by the classic sweep: the grid, whether it was swept, the looks and the distances.
 #[no_mangle]
 pub extern "C" fn vumlintel_job_classic(
-    campaign_k: &mut u32,
-    campaign_entries: &mut u32,
     first_strips: &mut u32,
     second_strips: &mut u32,
     first_ends: &mut [u32; 32],
     second_ends: &mut [u32; 32],
     marks: &mut [u8; 1024],
+    k1: &mut u32,
+    entries1: &mut u32,
+    k2: &mut u32,
+    entries2: &mut u32,
+    customer: u32,
     ax: &[i32],
     ay: &[i32],
     an: &[u32],
@@ -258,24 +388,26 @@ pub extern "C" fn vumlintel_job_classic(
     distances: &mut u64,
 ) -> u32
     ensures { λ r.
-        let c =
-        lentCampaign «campaign_k» «campaign_entries» «first_strips» «second_strips» «first_ends» «second_ends» marks in
+        let g = lentGrid «first_strips» «second_strips» «first_ends» «second_ends» marks k1 entries1 k2 entries2 in
         let a = lentList ax ay an ah .entry in
         let b = lentList bx by bn bh .entry in
         let l = lentResults distance first second in
-        let answer = jobAnswer (Sweep Classic) (c .entry) a b (l .entry) (jobOf «first_strip» «second_strip») in
+        let answer = jobAnswer (Sweep Classic) customer (g .entry) a b (l .entry) (jobOf «first_strip» «second_strip») in
         let counters = the bySweep of looks of distances in
-        ⌜ Crosses answer r (the jobValues with c with l of swept with counters) ⌝ }
+        ⌜ Crosses answer r (the jobValues with g with l of swept with counters) ⌝ }
 {
     let mut range_pairs: u64 = 0;
     job(
-        campaign_k,
-        campaign_entries,
         first_strips,
         second_strips,
         first_ends,
         second_ends,
         marks,
+        k1,
+        entries1,
+        k2,
+        entries2,
+        customer,
         ax,
         ay,
         an,
@@ -297,16 +429,19 @@ pub extern "C" fn vumlintel_job_classic(
     )
 }
 
-// A job by Reverse Run: the campaign, whether it was swept, the looks and the distances.
+// A job by Reverse Run: the grid, whether it was swept, the looks and the distances.
 #[no_mangle]
 pub extern "C" fn vumlintel_job_reverse_run(
-    campaign_k: &mut u32,
-    campaign_entries: &mut u32,
     first_strips: &mut u32,
     second_strips: &mut u32,
     first_ends: &mut [u32; 32],
     second_ends: &mut [u32; 32],
     marks: &mut [u8; 1024],
+    k1: &mut u32,
+    entries1: &mut u32,
+    k2: &mut u32,
+    entries2: &mut u32,
+    customer: u32,
     ax: &[i32],
     ay: &[i32],
     an: &[u32],
@@ -325,24 +460,26 @@ pub extern "C" fn vumlintel_job_reverse_run(
     distances: &mut u64,
 ) -> u32
     ensures { λ r.
-        let c =
-        lentCampaign «campaign_k» «campaign_entries» «first_strips» «second_strips» «first_ends» «second_ends» marks in
+        let g = lentGrid «first_strips» «second_strips» «first_ends» «second_ends» marks k1 entries1 k2 entries2 in
         let a = lentList ax ay an ah .entry in
         let b = lentList bx by bn bh .entry in
         let l = lentResults distance first second in
-        let answer = jobAnswer (Sweep ReverseRun) (c .entry) a b (l .entry) (jobOf «first_strip» «second_strip») in
+        let answer = jobAnswer (Sweep ReverseRun) customer (g .entry) a b (l .entry) (jobOf «first_strip» «second_strip») in
         let counters = the bySweep of looks of distances in
-        ⌜ Crosses answer r (the jobValues with c with l of swept with counters) ⌝ }
+        ⌜ Crosses answer r (the jobValues with g with l of swept with counters) ⌝ }
 {
     let mut range_pairs: u64 = 0;
     job(
-        campaign_k,
-        campaign_entries,
         first_strips,
         second_strips,
         first_ends,
         second_ends,
         marks,
+        k1,
+        entries1,
+        k2,
+        entries2,
+        customer,
         ax,
         ay,
         an,
@@ -364,16 +501,19 @@ pub extern "C" fn vumlintel_job_reverse_run(
     )
 }
 
-// A job by halves: the campaign, whether it was swept, and the range pairs.
+// A job by halves: the grid, whether it was swept, and the range pairs.
 #[no_mangle]
 pub extern "C" fn vumlintel_job_halves(
-    campaign_k: &mut u32,
-    campaign_entries: &mut u32,
     first_strips: &mut u32,
     second_strips: &mut u32,
     first_ends: &mut [u32; 32],
     second_ends: &mut [u32; 32],
     marks: &mut [u8; 1024],
+    k1: &mut u32,
+    entries1: &mut u32,
+    k2: &mut u32,
+    entries2: &mut u32,
+    customer: u32,
     ax: &[i32],
     ay: &[i32],
     an: &[u32],
@@ -391,25 +531,27 @@ pub extern "C" fn vumlintel_job_halves(
     range_pairs: &mut u64,
 ) -> u32
     ensures { λ r.
-        let c =
-        lentCampaign «campaign_k» «campaign_entries» «first_strips» «second_strips» «first_ends» «second_ends» marks in
+        let g = lentGrid «first_strips» «second_strips» «first_ends» «second_ends» marks k1 entries1 k2 entries2 in
         let a = lentList ax ay an ah .entry in
         let b = lentList bx by bn bh .entry in
         let l = lentResults distance first second in
-        let answer = jobAnswer Halves (c .entry) a b (l .entry) (jobOf «first_strip» «second_strip») in
+        let answer = jobAnswer Halves customer (g .entry) a b (l .entry) (jobOf «first_strip» «second_strip») in
         let counters = the byHalves of «range_pairs» in
-        ⌜ Crosses answer r (the jobValues with c with l of swept with counters) ⌝ }
+        ⌜ Crosses answer r (the jobValues with g with l of swept with counters) ⌝ }
 {
     let mut looks: u64 = 0;
     let mut distances: u64 = 0;
     job(
-        campaign_k,
-        campaign_entries,
         first_strips,
         second_strips,
         first_ends,
         second_ends,
         marks,
+        k1,
+        entries1,
+        k2,
+        entries2,
+        customer,
         ax,
         ay,
         an,
@@ -431,16 +573,19 @@ pub extern "C" fn vumlintel_job_halves(
     )
 }
 
-// Status: the jobs settled, the jobs in all, the entries and K.
+// Status: a customer's jobs settled, the jobs in all, the entries and K.
 #[no_mangle]
 pub extern "C" fn vumlintel_status(
-    campaign_k: &u32,
-    campaign_entries: &u32,
     first_strips: &u32,
     second_strips: &u32,
     first_ends: &[u32; 32],
     second_ends: &[u32; 32],
     marks: &[u8; 1024],
+    k1: &u32,
+    entries1: &u32,
+    k2: &u32,
+    entries2: &u32,
+    customer: u32,
     ax: &[i32],
     ay: &[i32],
     an: &[u32],
@@ -458,28 +603,27 @@ pub extern "C" fn vumlintel_status(
     k: &mut u32,
 ) -> u32
     ensures { λ r.
-        let c =
-        lentCampaign «campaign_k» «campaign_entries» «first_strips» «second_strips» «first_ends» «second_ends» marks in
+        let g = lentGrid «first_strips» «second_strips» «first_ends» «second_ends» marks k1 entries1 k2 entries2 in
         let a = lentList ax ay an ah .entry in
         let b = lentList bx by bn bh .entry in
         let l = lentResults distance first second .entry in
         let places = the statusValues of settled of jobs of entries of k in
-        ⌜ Crosses (statusAnswer (c .entry) a b l) r places ⌝ }
+        ⌜ Crosses (statusAnswer customer (g .entry) a b l) r places ⌝ }
 {
-    let first_cut = *first_ends;
-    let second_cut = *second_ends;
-    let marked = *marks;
-    let c = Campaign {
-        k: *campaign_k,
-        entries: *campaign_entries,
-        first_strips: *first_strips,
-        second_strips: *second_strips,
-        first_ends: first_cut,
-        second_ends: second_cut,
-        marks: marked,
-    };
+    let g = get(
+        first_strips,
+        second_strips,
+        first_ends,
+        second_ends,
+        marks,
+        k1,
+        entries1,
+        k2,
+        entries2,
+    );
     let answer = campaign::calls::status(
-        c,
+        customer,
+        g,
         ax,
         ay,
         an,

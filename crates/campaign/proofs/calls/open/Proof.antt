@@ -1,18 +1,18 @@
 -- `campaign::calls::open` meets its contract.
 use borrow.Author.Needs.{needs}
-use mathlib.Core.Path.{sym, _∙_}
-use Rattle.campaign.proofs.OpenAnswer.{opened-few, open-refused, open-done}
+use mathlib.Core.Path.{refl}
+use Rattle.campaign.specs.Calls.{openAnswer}
+use Rattle.campaign.proofs.PrepareAnswer.{grid-refused, grid-answered}
 use Rattle.campaign.proofs.calls.open.Statement.{statement}
 use Rattle.campaign.proofs.calls.open.Tie as tie
 
 returns : tie.Need-returns
-returns c = open-refused _ _ _ _ _ _ (c .before .before .refusal .ensures) (c .before .if1 .taken) (c .none .ensures)
-
-new-requires : tie.Need-new-requires
-new-requires c κs = opened-few _ _ _ _ _ _ (sym (c .before .refusal .ensures) ∙ c .if1 .left)
+unfolding openAnswer
+returns c = grid-refused (c .before .refusal .ensures) _ _ (c .if1 .taken) refl
 
 returns-2 : tie.Need-returns-2
-returns-2 c = open-done _ _ _ _ _ _ (c .before .before .refusal .ensures) (c .before .if1 .left) (c .new .ensures)
+unfolding openAnswer
+returns-2 c = grid-answered (c .before .before .refusal .ensures) _ _ (c .before .if1 .left) (c .opened .ensures)
 
 pub open-spec : {M : Type 1} → statement M
-open-spec = tie.close (tie.spec (λ c κs. search needs) (λ c κs. search needs) returns new-requires returns-2)
+open-spec = tie.close (tie.spec (λ c κs. search needs) returns (λ c κs. search needs) returns-2)

@@ -6,7 +6,7 @@ use Rattle.vumlintel.proofs.campaigns.vumlintel_job_classic.Statement.{
 use Rattle.vumlintel.proofs.campaigns.vumlintel_job_classic.Tie as tie
 
 returns : tie.Need-returns
-returns c = job-by-sweep _ _ _ _ _ Classic (c .before .before .before .before .before .before .job .ensures)
+returns c = job-by-sweep _ _ _ _ _ _ Classic (c .before .before .before .before .before .before .job .ensures)
 
 pub vumlintel-job-classic-spec : {M : Type 1} → statement M
 vumlintel-job-classic-spec =

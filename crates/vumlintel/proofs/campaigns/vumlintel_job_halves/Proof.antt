@@ -5,7 +5,7 @@ use Rattle.vumlintel.proofs.campaigns.vumlintel_job_halves.Statement.{s
 use Rattle.vumlintel.proofs.campaigns.vumlintel_job_halves.Tie as tie
 
 returns : tie.Need-returns
-returns c = job-by-halves _ _ _ _ _ (c .before .before .before .before .before .before .job .ensures)
+returns c = job-by-halves _ _ _ _ _ _ (c .before .before .before .before .before .before .job .ensures)
 
 pub vumlintel-job-halves-spec : {M : Type 1} → statement M
 vumlintel-job-halves-spec =

@@ -6,7 +6,7 @@ use Rattle.vumlintel.proofs.campaigns.vumlintel_job_reverse_run.Stateme
 use Rattle.vumlintel.proofs.campaigns.vumlintel_job_reverse_run.Tie as tie
 
 returns : tie.Need-returns
-returns c = job-by-sweep _ _ _ _ _ ReverseRun (c .before .before .before .before .before .before .job .ensures)
+returns c = job-by-sweep _ _ _ _ _ _ ReverseRun (c .before .before .before .before .before .before .job .ensures)
 
 pub vumlintel-job-reverse-run-spec : {M : Type 1} → statement M
 vumlintel-job-reverse-run-spec =

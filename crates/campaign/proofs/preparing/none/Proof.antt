@@ -1,12 +1,12 @@
--- `campaign::opening::none` meets its contract.
+-- `campaign::preparing::none` meets its contract.
 use borrow.Author.Needs.{needs}
-use Rattle.campaign.specs.Calls.{noCampaign}
-use Rattle.campaign.proofs.opening.none.Statement.{statement}
-use Rattle.campaign.proofs.opening.none.Tie as tie
+use Rattle.campaign.specs.Calls.{noGrid}
+use Rattle.campaign.proofs.preparing.none.Statement.{statement}
+use Rattle.campaign.proofs.preparing.none.Tie as tie
 
 returns : tie.Need-returns
-unfolding noCampaign
-returns c = c .new .ensures
+unfolding noGrid
+returns c = c .prepared .ensures
 
 pub none-spec : {M : Type 1} → statement M
 none-spec =

@@ -1,0 +1,118 @@
+-- What an accepted call says of its customer, its lists and the grid.
+use mathlib.Core.Path.{_≡_, refl, ap₂}
+use mathlib.Core.Bool.{true, not, _&&_, and-eq-true-iff}
+use mathlib.Core.List.{List, [], _∷_}
+use Prim.Native.Nat.{ℕ, _≤_}
+use lib.Dec.{ltb, eqb}
+use lib.ListN.{length, take}
+use borrow.Author.Tests.{ltb-true, eqb-true}
+use Rattle.order.proofs.Order.{never-both}
+use Rattle.site.specs.Answer.{refuseIf}
+use Rattle.site.specs.SiteList.{Columns, sites}
+use Rattle.site.specs.Refusal.{listsRefusal}
+use Rattle.site.proofs.Answer.{orElse-first, orElse-second, fault-none}
+use Rattle.entry.specs.Entry.{lawfulK}
+use Rattle.entry.specs.Results.{Results, roomFor}
+use Rattle.customers.specs.declared.Grid.{Grid}
+use Rattle.customers.specs.Customers.{isCustomer, campaignAs}
+use Rattle.campaign.specs.Grid.{lawfulEnds, sameNumbers, sameEnds, Job}
+use Rattle.campaign.specs.Soundness.{customerRefusal, sound, lawfulGrid, campaignRefusal}
+use Rattle.campaign.specs.Calls.{lawfulCuts, gridCuts, openRefusal, jobRefusal}
+use Rattle.campaign.proofs.Grid.{InGrid}
+use Rattle.campaign.proofs.SoundPlan.{asked-parts}
+use Rattle.campaign.proofs.JobRefusal.{job-asked}
+
+-- Both strip numbers are below the strip counts.
+pub in-grid : (rows cols : ℕ) (j : Job) → (ltb (j .first) rows && ltb (j .second) cols) ≡ true → InGrid rows cols j
+in-grid rows cols j h =
+    let w = and-eq-true-iff (ltb (j .first) rows) (ltb (j .second) cols) .0 h in
+    record { row = ltb-true (j .first) rows (w .0); column = ltb-true (j .second) cols (w .1) }
+
+-- ---- the ends of a grid
+
+same-numbers : (l m : List ℕ) → sameNumbers l m ≡ true → l ≡ m
+unfolding sameNumbers
+same-numbers [] [] h = refl
+same-numbers [] (y ∷ m) h = never-both h refl
+same-numbers (x ∷ l) [] h = never-both h refl
+same-numbers (x ∷ l) (y ∷ m) h =
+    let w = and-eq-true-iff (eqb x y) (sameNumbers l m) .0 h in
+    ap₂ (λ (n : ℕ) (r : List ℕ). n ∷ r) (eqb-true x y (w .0)) (same-numbers l m (w .1))
+
+same-ends : (strips : ℕ) (slots ends : List ℕ) → sameEnds strips slots ends ≡ true
+    → (strips ≡ length ends) × (take strips slots ≡ ends)
+unfolding sameEnds
+same-ends strips slots ends h =
+    let w = and-eq-true-iff (eqb strips (length ends)) (sameNumbers (take strips slots) ends) .0 h in
+    (eqb-true strips (length ends) (w .0), same-numbers (take strips slots) ends (w .1))
+
+-- ---- an accepted opening
+
+pub record OpeningAccepted (customer : ℕ) (g : Grid) (a b : Columns) (k : ℕ) (ends ends' : List ℕ) (r : Results) : Type 0 where
+  pub number : isCustomer customer ≡ true
+  pub lists : listsRefusal a b ≡ 0
+  pub lawful-k : lawfulK k ≡ true
+  pub cut : lawfulEnds (length (a .x)) ends ≡ true
+  pub cut' : lawfulEnds (length (b .x)) ends' ≡ true
+  pub grid-ends : (g .«first_strips» ≡ length ends) × (take (g .«first_strips») (g .«first_ends») ≡ ends)
+  pub grid-ends' : (g .«second_strips» ≡ length ends') × (take (g .«second_strips») (g .«second_ends») ≡ ends')
+  pub room : roomFor k r ≡ true
+  pub lawful : lawfulGrid g ≡ true
+
+pub accepted-opening : (customer : ℕ) (g : Grid) (a b : Columns) (k : ℕ) (ends ends' : List ℕ) (r : Results)
+    → openRefusal customer g a b k ends ends' r ≡ 0 → OpeningAccepted customer g a b k ends ends' r
+unfolding openRefusal customerRefusal lawfulCuts gridCuts
+accepted-opening customer g a b k ends ends' r ok =
+    let first = lawfulEnds (length (a .x)) ends in
+    let second = lawfulEnds (length (b .x)) ends' in
+    let same = sameEnds (g .«first_strips») (g .«first_ends») ends in
+    let same' = sameEnds (g .«second_strips») (g .«second_ends») ends' in
+    let other = refuseIf (not (isCustomer customer)) 15 in
+    let badK = refuseIf (not (lawfulK k)) 4 in
+    let badEnds = refuseIf (not ((first && second) && (same && same'))) 5 in
+    let short = refuseIf (not (roomFor k r)) 6 in
+    let ok1 = orElse-second other _ ok in
+    let ok2 = orElse-second (listsRefusal a b) _ ok1 in
+    let ok3 = orElse-second badK _ ok2 in
+    let ok4 = orElse-second badEnds _ ok3 in
+    let cuts = and-eq-true-iff (first && second) (same && same') .0 (fault-none _ 4 (orElse-first badEnds _ ok3)) in
+    let lawful = and-eq-true-iff first second .0 (cuts .0) in
+    let own = and-eq-true-iff same same' .0 (cuts .1) in
+    record {
+      number = fault-none (isCustomer customer) 14 (orElse-first other _ ok);
+      lists = orElse-first (listsRefusal a b) _ ok1;
+      lawful-k = fault-none (lawfulK k) 3 (orElse-first badK _ ok2);
+      cut = lawful .0;
+      cut' = lawful .1;
+      grid-ends = same-ends _ _ ends (own .0);
+      grid-ends' = same-ends _ _ ends' (own .1);
+      room = fault-none (roomFor k r) 5 (orElse-first short _ ok4);
+      lawful = fault-none (lawfulGrid g) 6 (orElse-second short _ ok4);
+    }
+
+-- ---- an accepted job
+
+pub record JobAccepted (customer : ℕ) (g : Grid) (j : Job) : Type 0 where
+  pub number : isCustomer customer ≡ true
+  pub lawful : lawfulGrid g ≡ true
+  pub few : g .«second_strips» ≤ 32
+  pub inside : InGrid (g .«first_strips») (g .«second_strips») j
+
+pub accepted-job : (customer : ℕ) (g : Grid) (a b : Columns) (r : Results) (j : Job) → jobRefusal customer g a b r j ≡ 0
+    → JobAccepted customer g j
+unfolding jobRefusal campaignRefusal customerRefusal campaignAs
+accepted-job customer g a b r j ok =
+    let c = campaignAs customer g in
+    let asked = job-asked customer g a b r (j .first) (j .second) ok in
+    let other = refuseIf (not (isCustomer customer)) 15 in
+    let unsound = refuseIf (not (lawfulGrid g && sound c (sites a) (sites b) r)) 7 in
+    let campaign = campaignRefusal customer g a b r in
+    let ok1 = orElse-first campaign _ ok in
+    let sevens = orElse-second (listsRefusal a b) unsound (orElse-second other _ ok1) in
+    let both = and-eq-true-iff (lawfulGrid g) (sound c (sites a) (sites b) r) .0 (fault-none _ 6 sevens) in
+    record {
+      number = fault-none (isCustomer customer) 14 (orElse-first other _ ok1);
+      lawful = both .0;
+      few = asked-parts asked .cols;
+      inside = record { row = asked .row; column = asked .column };
+    }

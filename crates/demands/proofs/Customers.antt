@@ -1,0 +1,170 @@
+-- The customers apart: what each is told, and two histories.
+use mathlib.Core.Path.{_≡_, refl, sym, ap, ap₂, _∙_}
+use mathlib.Core.Bool.{true, false, and-false}
+use mathlib.Core.List.{List, [], _∷_}
+use Prim.Native.Nat.{ℕ, zero, suc}
+use lib.Dec.{eqb}
+use borrow.Author.Tests.{eqb-true, eqb-false, eq-eqb, ne-eqb}
+use Rattle.order.specs.Lists.{keep}
+use Rattle.order.proofs.Order.{byTest, never-both}
+use Rattle.site.specs.Answer.{Answer, refused, answered, answerUnless, afterwards, orElse}
+use Rattle.site.specs.Site.{Site}
+use Rattle.site.specs.SiteList.{Columns, sites}
+use Rattle.site.proofs.Answer.{answered-values}
+use Rattle.entry.specs.Entry.{lawfulK}
+use Rattle.entry.specs.Results.{Results}
+use Rattle.customers.specs.declared.Campaign.{Campaign}
+use Rattle.customers.specs.declared.Grid.{Grid}
+use Rattle.customers.specs.Customers.{isCustomer, campaignAs}
+use Rattle.campaign.specs.Soundness.{customerRefusal, sound, campaignRefusal}
+use Rattle.campaign.specs.Calls.{prepareRefusal, prepared, prepareAnswer, openAnswer, jobRefusal, jobAnswer, statusAnswer}
+use Rattle.campaign.proofs.CustomerLaws.{prepared-lawful}
+use Rattle.demands.specs.Customers.{readingOf, reading, Act, opening, job, status, Told, grid, Success, mapAnswer, answerTo, told, gridAfter, columnsAfter, Alike, ToldByOwn, OtherStays, BeforeOpening, MarksStay, PreparedGrid}
+use Rattle.demands.specs.Customers.{Call, preparing, by, State, stateOf, stateAfter, concerns, toldBy, heard, HistoriesAgree, CustomersApart}
+use Rattle.demands.proofs.GridAfter.{grid-lawful, campaign-kept}
+use Rattle.demands.proofs.Readings.{skips-read, job-entries-read, joined-read, same, opening-read, campaign-read, job-read, opened-reading, done-reading, status-read}
+
+-- ---- what a customer is told
+
+module _ {customer : ℕ} {g h : Grid} (alike : Alike customer g h) where
+  -- Two answers after which the customer is told the same, and has the same columns and the same to read.
+  Same : Results → Answer Success → Answer Success → Type 0
+  Same r p q =
+      (mapAnswer (λ v. v .told) p ≡ mapAnswer (λ v. v .told) q)
+      × (afterwards (λ v. v .columns) p r ≡ afterwards (λ v. v .columns) q r)
+      × (reading customer (afterwards (λ v. v .grid) p g) ≡ reading customer (afterwards (λ v. v .grid) q h))
+
+  same-answers : {A : Type 0} (r : Results) (f f' : A → Success) {n m : ℕ} (v w : A) → n ≡ m → f v .told ≡ f' w .told
+      → f v .columns ≡ f' w .columns → reading customer (f v .grid) ≡ reading customer (f' w .grid)
+      → Same r (mapAnswer f (answerUnless n v)) (mapAnswer f' (answerUnless m w))
+  unfolding Same mapAnswer afterwards answerUnless
+  same-answers r f f' {m = zero} v w e tells columns reads = rw e (ap answered tells, columns, reads)
+  same-answers r f f' {m = suc m} v w e tells columns reads = rw e (refl, refl, alike .read)
+
+  same-act : (a b : Columns) (r : Results) (act : Act) → Same r (answerTo customer g a b r act) (answerTo customer h a b r act)
+  unfolding answerTo openAnswer jobAnswer statusAnswer
+  same-act a b r (opening k ends ends') =
+      let reads = opened-reading alike k in
+      same-answers r _ _ _ _ (opening-read alike a b k ends ends' r) (ap grid reads) refl reads
+  same-act a b r (job j way) =
+      let l = sites a in
+      let m = sites b in
+      let parts = same alike in
+      let entries = job-entries-read parts l m r j in
+      let after = done-reading alike _ j in
+      same-answers r _ _ _ _ (job-read alike a b r j)
+      (rw (entries, skips-read parts l m r j, joined-read parts l m r j way, after)) (rw entries) (rw entries after)
+  same-act a b r status = same-answers r _ _ _ _ (campaign-read alike a b r) (status-read alike) refl (alike .read)
+
+-- What a customer is told depends on what is the same on grids alike.
+told-by-own : ToldByOwn
+unfolding ToldByOwn told columnsAfter gridAfter Same
+told-by-own customer g h alike a b r act =
+    let same = same-act alike a b r act in
+    let lawful = grid-lawful customer g a b r act ∙ alike .lawful ∙ sym (grid-lawful customer h a b r act) in
+    (same .0, same .1, record { read = same .2; lawful = lawful })
+
+other-stays : OtherStays
+unfolding OtherStays reading
+other-stays customer other known apart g a b r act = ap readingOf (campaign-kept customer other g a b r act known apart)
+
+-- ---- before opening
+
+-- With a K of 0 a campaign is never without fault.
+not-sound : (c : Campaign) (a b : List Site) (r : Results) → c .k ≡ 0 → sound c a b r ≡ false
+unfolding sound lawfulK
+not-sound c a b r h = rw h
+
+before-opening : BeforeOpening
+unfolding BeforeOpening reading readingOf told answerTo jobAnswer statusAnswer jobRefusal campaignRefusal customerRefusal mapAnswer answerUnless orElse
+before-opening customer known g none a b lists r =
+    let unsound = not-sound (campaignAs customer g) (sites a) (sites b) r none in
+    (λ j way. simp (known, lists, unsound, and-false), simp (known, lists, unsound, and-false))
+
+prepared-grid : PreparedGrid
+unfolding PreparedGrid prepareAnswer reading readingOf campaignAs prepared
+prepared-grid a b ends ends' g ok =
+    rw (← answered-values (prepareRefusal a b ends ends') (prepared ends ends') g ok .1)
+    (prepared-lawful ends ends', λ customer. byTest (eqb customer 1) (λ t. rw t) (λ f. rw f))
+
+-- ---- two histories
+
+module _ (customer : ℕ) (known : isCustomer customer ≡ true) where
+  -- Two states in which the customer reads the same and has the same columns.
+  record Even (s t : State) : Type 0 where
+    grids : Alike customer (s .grid) (t .grid)
+    mine : s .columns customer ≡ t .columns customer
+
+  even-start : (g : Grid) (columns columns' : ℕ → Results) → columns customer ≡ columns' customer
+      → Even (stateOf g columns) (stateOf g columns')
+  even-start g columns columns' mine = record { grids = record { read = refl; lawful = refl }; mine = mine }
+
+  -- A preparing leaves two grids alike.
+  alike-prepared : {g h : Grid} → Alike customer g h → (answer : Answer Grid)
+      → Alike customer (afterwards (λ x. x) answer g) (afterwards (λ x. x) answer h)
+  unfolding afterwards
+  alike-prepared alike (refused number) = alike
+  alike-prepared alike (answered g) = record { read = refl; lawful = refl }
+
+  -- The customer's own call tells the same in both, and leaves them even.
+  even-own : {s t : State} → Even s t → (a b : Columns) (act : Act)
+      → (told customer (s .grid) a b (s .columns customer) act ≡ told customer (t .grid) a b (t .columns customer) act)
+      × Even (stateAfter s (by customer a b act)) (stateAfter t (by customer a b act))
+  unfolding stateAfter ToldByOwn
+  even-own {s} {t} e a b act =
+      let w = told-by-own customer (s .grid) (t .grid) (e .grids) a b (t .columns customer) act in
+      rw (e .mine) (w .0, record { grids = w .2; mine = rw (eq-eqb customer customer refl) (w .1) })
+
+  -- So does any call that concerns them.
+  even-told : {s t : State} → Even s t → (c : Call) → concerns customer c ≡ true
+      → (toldBy customer s c ≡ toldBy customer t c) × Even (stateAfter s c) (stateAfter t c)
+  unfolding concerns toldBy stateAfter
+  even-told e (preparing a b ends ends') h =
+      (refl, record { grids = alike-prepared (e .grids) (prepareAnswer a b ends ends'); mine = e .mine })
+  even-told e (by n a b act) h = rw (eqb-true n customer h) (even-own e a b act)
+
+  -- Any other leaves its state even with what it was even with.
+  even-after : {s t : State} → Even s t → (c : Call) → concerns customer c ≡ false → Even (stateAfter s c) t
+  unfolding concerns stateAfter reading
+  even-after e (preparing a b ends ends') h = never-both refl h
+  even-after {s} e (by n a b act) h =
+      let apart = eqb-false n customer h in
+      let r = s .columns n in
+      record {
+        grids = record {
+          read = rw (campaign-kept customer n (s .grid) a b r act known apart) (e .grids .read);
+          lawful = grid-lawful n (s .grid) a b r act ∙ e .grids .lawful;
+        };
+        mine = rw (ne-eqb customer n (λ z. apart (sym z))) (e .mine);
+      }
+
+  -- What the customer hears is what they hear of the calls that concern them.
+  heard-kept : {s t : State} → Even s t → (calls : List Call)
+      → heard customer s calls ≡ heard customer t (keep (concerns customer) calls)
+  unfolding heard keep
+  heard-kept e [] = refl
+  heard-kept e (c ∷ l) =
+      byTest (concerns customer c)
+      (λ yes.
+      let w = even-told e c yes in
+      simp yes (ap₂ (λ (x : Answer Told) (r : List (Answer Told)). x ∷ r) (w .0) (heard-kept (w .1) l)))
+      (λ no. simp no (heard-kept (even-after e c no) l))
+
+histories-agree : HistoriesAgree
+unfolding HistoriesAgree
+histories-agree customer known a b ends ends' g ok columns columns' mine calls calls' same =
+    heard-kept customer known (even-start customer known g columns columns' mine) calls
+    ∙ ap (heard customer (stateOf g columns')) same
+    ∙ sym (heard-kept customer known (even-start customer known g columns' columns' refl) calls')
+
+pub customers-apart : CustomersApart
+unfolding MarksStay
+customers-apart =
+    record {
+      beforeOpening = before-opening;
+      otherStays = other-stays;
+      toldByOwn = told-by-own;
+      marksStay = grid-lawful;
+      preparedGrid = prepared-grid;
+      histories = histories-agree;
+    }
