@@ -1,9 +1,9 @@
 // Cut ends of a list: whether they are lawful, or those of a grid, the strip that holds a place, and the slots that keep them.
 use super::Strip;
 ghost use mathlib.Core.Path.{_≡_};
+ghost use mathlib.Core.Bool.{_&&_};
 ghost use Prim.Native.Nat.{_≤_, _<_};
 ghost use lib.ListN.{length, take};
-ghost use mathlib.Core.Bool.{_&&_};
 ghost use Rattle.campaign.specs.Grid.{lawfulEnds, sameEnds, stripHolding};
 ghost use Rattle.campaign.specs.Calls.{slots};
 ghost use Rattle.campaign.specs.Internal.{lawfulSlots, stripFrom, stripTo, StripOf};
