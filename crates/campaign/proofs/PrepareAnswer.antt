@@ -11,7 +11,7 @@ use Rattle.site.proofs.Tests.{and-first, and-second}
 use Rattle.site.proofs.Answer.{answer-refused, after-refused, after-answered, first-refused, next-decides, orElse-second, fault-none}
 use Rattle.customers.specs.declared.Grid.{Grid}
 use Rattle.campaign.specs.Grid.{lawfulEnds}
-use Rattle.campaign.specs.Calls.{lawfulCuts, prepareRefusal, prepared, answeredGrid}
+use Rattle.campaign.specs.Calls.{lawfulCuts, prepareRefusal, answeredGrid}
 use Rattle.campaign.proofs.LawfulEnds.{lawful-cut}
 
 -- ---- an answered grid

@@ -22,7 +22,7 @@ map-set {B = B} f (x ∷ l) (suc i) a = ap (λ (r : List B). f x ∷ r) (map-set
 
 -- ---- two customers
 
--- The one is the first customer and the other is not.
+-- Of the two numbers exactly one is the first customer's.
 abbrev pub Other : ℕ → ℕ → Type 0
 Other customer other = eqb other 1 ≡ not (eqb customer 1)
 
