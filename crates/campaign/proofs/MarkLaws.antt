@@ -54,10 +54,16 @@ module _ (rows cols : ℕ) where
   unfolding lawfulMarks
   parts i m l h = and-eq-true-iff (lawfulMark rows cols i m) (lawfulMarks rows cols (suc i) l) .0 h
 
+  -- Mark number `p`, where the marks begin with number `i`.
+  pub mark-at : (i n p : ℕ) → p ≡ i + n → (marks : List ℕ) → lawfulMarks rows cols i marks ≡ true
+      → lawfulMark rows cols p (getD marks n 0) ≡ true
+  unfolding lawfulMark
+  mark-at i n p e [] h = refl
+  mark-at i zero p e (m ∷ l) h = let here : p ≡ i = omega arith in rw here (parts i m l h .0)
+  mark-at i (suc n) p e (m ∷ l) h = mark-at (suc i) n p (omega arith) l (parts i m l h .1)
+
   pub lawful-at : (i n : ℕ) (marks : List ℕ) → lawfulMarks rows cols i marks ≡ true → getD marks n 0 ≤ 3
-  lawful-at i n [] h = omega arith
-  lawful-at i zero (m ∷ l) h = mark-most i m (parts i m l h .0)
-  lawful-at i (suc n) (m ∷ l) h = lawful-at (suc i) n l (parts i m l h .1)
+  lawful-at i n marks h = mark-most (i + n) _ (mark-at i n (i + n) refl marks h)
 
   -- Each mark for another one.
   pub lawful-map : (f : ℕ → ℕ) → ((i m : ℕ) → lawfulMark rows cols i m ≡ true → lawfulMark rows cols i (f m) ≡ true)

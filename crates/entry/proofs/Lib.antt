@@ -3,6 +3,7 @@ pub mod Examples
 pub mod Rank
 pub mod RankCompare
 pub mod Results
+pub mod Below
 pub mod PutAt
 pub mod Within
 pub mod Queueing

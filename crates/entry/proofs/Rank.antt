@@ -6,7 +6,7 @@ use Prim.Native.Nat.{ℕ, zero, suc, _≤_, _<_}
 use native.Mathlib.Omega.{arith}
 use lib.Dec.{leb}
 use lib.ListN.{length, getD}
-use borrow.Author.Tests.{lt-ltb, le-ltb, leb-true}
+use borrow.Author.Tests.{lt-ltb, le-ltb, leb-true, le-leb}
 use Rattle.order.specs.Terms.{Sorted}
 use Rattle.order.proofs.Order.{StrictOrder, strict, by-number, lex-order, lex-more}
 use Rattle.order.specs.Lists.{last}
@@ -31,6 +31,13 @@ unfolding lawfulK
 k-limits k h =
     let both = and-eq-true-iff (leb 1 k) (leb k 4_096) .0 h in
     (leb-true 1 k (both .0), leb-true k 4_096 (both .1))
+
+-- A K from 1 to a lawful one.
+pub lawful-lower : (present k : ℕ) → lawfulK present ≡ true → 1 ≤ k → k ≤ present → lawfulK k ≡ true
+unfolding lawfulK
+lawful-lower present k h low most =
+    let limit = k-limits present h .1 in
+    simp (le-leb 1 k low, le-leb k 4_096 (omega arith))
 
 -- One that is farther does not come first.
 pub rank-farther : (a b : Entry) → b .distance < a .distance → rankBefore a b ≡ false

@@ -14,7 +14,7 @@ use Rattle.column.proofs.Overwritten.{length-overwritten, overwritten-again, ov
 use Rattle.entry.specs.declared.Entry.{Entry}
 use Rattle.entry.specs.Entry.{entry, lastDistance}
 use Rattle.entry.specs.Terms.{entryAt}
-use Rattle.entry.specs.Results.{Results, results, entriesOf, holding, roomFor}
+use Rattle.entry.specs.Results.{Results, below, entriesOf, holding, roomFor}
 use Rattle.entry.proofs.Rank.{last-distance}
 
 -- ---- room
@@ -129,25 +129,22 @@ zip-columns (suc n) (d ∷ ds) (i ∷ is) (j ∷ js) p q t =
     let h = zip-columns n ds is js (omega arith) (omega arith) (omega arith) in
     (ap (λ (r : List ℕ). d ∷ r) (h .0), ap (λ (r : List ℕ). i ∷ r) (h .1), ap (λ (r : List ℕ). j ∷ r) (h .2))
 
-abbrev pub firstOf : ℕ → Results → Results
-firstOf n r = results (take n (r .distance)) (take n (r .first)) (take n (r .second))
-
-pub entries-first : (n : ℕ) (r : Results) → entriesOf n (firstOf n r) ≡ entriesOf n r
+pub entries-below : (n : ℕ) (r : Results) → entriesOf n (below n r) ≡ entriesOf n r
 unfolding entriesOf
-entries-first n r =
+entries-below n r =
     let pairs = zipWith entry (r .distance) (r .first) in
     ap (λ (l : List (ℕ → Entry)). take n (zipWith (λ make j. make j) l (take n (r .second))))
     (zip-take entry n (r .distance) (r .first))
     ∙ ap (take n) (zip-take (λ make j. make j) n pairs (r .second))
     ∙ take-take n n (zipEntries (r .distance) (r .first) (r .second)) (omega arith)
 
-pub room-first : (k n : ℕ) (r : Results) → roomFor k r ≡ true → n ≤ k → roomFor n (firstOf n r) ≡ true
-room-first k n r room h =
+pub room-below : (k n : ℕ) (r : Results) → roomFor k r ≡ true → n ≤ k → roomFor n (below n r) ≡ true
+room-below k n r room h =
     let m = room-lengths k r room in
     let a = length-take-le n (r .distance) (omega arith) in
     let b = length-take-le n (r .first) (omega arith) in
     let c = length-take-le n (r .second) (omega arith) in
-    lengths-room n (firstOf n r) (omega arith) (omega arith) (omega arith)
+    lengths-room n (below n r) (omega arith) (omega arith) (omega arith)
 
 -- `count` entries within the room of the columns.
 module _ (k count : ℕ) (r : Results) (room : roomFor k r ≡ true) (most : count ≤ k) where

@@ -22,6 +22,10 @@ results distance first second = record { distance = distance; first = first; sec
 abbrev pub lentResults : Lent (List ℕ) → Lent (List ℕ) → Lent (List ℕ) → Held Results
 lentResults distance first second = the results of distance of first of second
 
+-- All three columns below a count.
+abbrev pub below : ℕ → Results → Results
+below count r = results (take count (r .distance)) (take count (r .first)) (take count (r .second))
+
 -- The first `count` entries of the columns.
 unfoldable pub entriesOf : ℕ → Results → List Entry
 entriesOf count r = take count (zipWith (λ make j. make j) (zipWith entry (r .distance) (r .first)) (r .second))

@@ -6,8 +6,8 @@ use mathlib.Core.List.{List, [], _∷_, _++_, map, zipWith, append-assoc, List·
 use Prim.Native.Nat.{ℕ, zero, suc, _+_, _-_, _≤_, _<_, min}
 use native.Mathlib.Nat.{add-zero, sub-zero, zero-sub, suc-sub-suc}
 use native.Mathlib.Omega.{arith}
-use lib.ListN.{length, take, drop, getD, set, length-map, take-append-drop, drop-of-length-le}
-use lib.Seq.{getD-drop, drop-cons}
+use lib.ListN.{length, take, drop, getD, set, length-map, length-take, take-append-drop, drop-of-length-le}
+use lib.Seq.{getD-drop, drop-cons, take-append-seam}
 use Rattle.order.specs.Lists.{all, keep, All, Distinct, last, sum}
 use Rattle.order.proofs.Order.{byTest, never-both}
 
@@ -367,6 +367,12 @@ map-drop f (suc n) (a ∷ l) = map-drop f n l
 take-nil : {A : Type 0} (n : ℕ) → _≡_ {A = List A} (take n []) []
 take-nil zero = refl
 take-nil (suc n) = refl
+
+pub take-min : {A : Type 0} (n : ℕ) (l : List A) → take (min n (length l)) l ≡ take n l
+take-min {A} n l =
+    rw (← length-take n l)
+    (ap (λ (m : List A). take (length (take n l)) m) (sym (take-append-drop n l))
+    ∙ take-append-seam (take n l) (drop n l))
 
 pub drop-take : {A : Type 0} (n m : ℕ) (l : List A) → drop n (take m l) ≡ take (m - n) (drop n l)
 drop-take zero m l = rw (sub-zero m)

@@ -9,7 +9,7 @@ use lib.Seq.{length-take-le}
 use Rattle.order.specs.Order.{ascending}
 use Rattle.entry.specs.Entry.{rankBefore}
 use Rattle.entry.specs.Results.{Results, results, entriesOf}
-use Rattle.entry.proofs.Results.{room-lengths, room-first, entries-first}
+use Rattle.entry.proofs.Results.{room-lengths, room-below, entries-below}
 use Rattle.campaign.proofs.SoundPlan.{in-use}
 use Rattle.campaign.proofs.Sound.{order-fails, entries-decide}
 use Rattle.campaign.proofs.soundness.sound_entries.Statement.{statement}
@@ -45,14 +45,14 @@ slice-aggregate-seconds c = sym (length-take-le _ _ (enough (start (c .before .b
 in-order-requires : tie.Need-in-order-requires
 in-order-requires c κs =
     let s = start (c .before .before .before) in
-    room-first (s .args .c .k) (s .args .c .entries) (lent s) (s .pre .1 .1 .room) (s .pre .1 .1 .most)
+    room-below (s .args .c .k) (s .args .c .entries) (lent s) (s .pre .1 .1 .room) (s .pre .1 .1 .most)
 
 -- What `in_order` told, of the whole columns.
 learnt : (c : tie.After-in-order) → let s = start (c .before .before .before .before) in
     c .in-order .result ≡ ascending rankBefore (entriesOf (s .args .c .entries) (lent s))
 learnt c =
     let s = start (c .before .before .before .before) in
-    c .in-order .ensures ∙ ap (ascending rankBefore) (entries-first (s .args .c .entries) (lent s))
+    c .in-order .ensures ∙ ap (ascending rankBefore) (entries-below (s .args .c .entries) (lent s))
 
 returns : tie.Need-returns
 returns c = record { numbered = λ an bn la lb. order-fails _ _ _ _ (sym (learnt (c .before)) ∙ not-true _ (c .if1 .taken)) }
@@ -81,7 +81,7 @@ all-sound-requires c κs =
     let p = s .pre .1 .0 in
     let rows = in-use (s .args .c .«first_ends») (s .args .c .«first_strips») (long s .0) (p .0) in
     let cols = in-use (s .args .c .«second_ends») (s .args .c .«second_strips») (long s .1) (p .1) in
-    let room = room-first (s .args .c .k) (s .args .c .entries) (lent s) (s .pre .1 .1 .room) (s .pre .1 .1 .most) in
+    let room = room-below (s .args .c .k) (s .args .c .entries) (lent s) (s .pre .1 .1 .room) (s .pre .1 .1 .most) in
     (room, (s .pre .0, (omega (arith, rows, p .0), omega (arith, cols, p .1))))
 
 returns-2 : tie.Need-returns-2
@@ -90,7 +90,7 @@ returns-2 c =
     let s = begun e in
     record {
       numbered = λ an bn la lb.
-          entries-decide _ _ _ _ (entries-first (s .args .c .entries) (lent s)) (sym (learnt (e .before)) ∙ not-false _ (e .if1 .left))
+          entries-decide _ _ _ _ (entries-below (s .args .c .entries) (lent s)) (sym (learnt (e .before)) ∙ not-false _ (e .if1 .left))
           (c .all-sound .ensures .numbered an bn la lb);
     }
 
