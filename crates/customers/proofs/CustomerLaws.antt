@@ -2,7 +2,7 @@
 use mathlib.Core.Path.{_≡_, refl, sym, ap, ap₂, _∙_}
 use mathlib.Core.Bool.{true, not}
 use mathlib.Core.List.{List, [], _∷_, map}
-use Prim.Native.Nat.{ℕ, zero, suc, _≤_}
+use Prim.Native.Nat.{ℕ, zero, suc, _≤_, min}
 use native.Mathlib.Omega.{arith}
 use lib.Dec.{eqb}
 use lib.ListN.{length, getD, set, replicate, length-map}
@@ -11,7 +11,7 @@ use borrow.Author.Tests.{eqb-true}
 use Rattle.order.proofs.Order.{byTest}
 use Rattle.customers.specs.declared.Campaign.{Campaign}
 use Rattle.customers.specs.declared.Grid.{Grid}
-use Rattle.customers.specs.Customers.{isCustomer, own, ownMark, withOwn, cleared, settledAt, campaignOf, campaignAs, withCampaign}
+use Rattle.customers.specs.Customers.{isCustomer, own, ownMark, withOwn, cleared, settledAt, campaignOf, campaignAs, withCampaign, lowered}
 
 -- ---- any list
 
@@ -52,6 +52,10 @@ module _ {A : Type 0} (customer : ℕ) where
 abbrev pub renewed : Campaign → ℕ → ℕ → List ℕ → Campaign
 renewed c k entries marks = campaignOf k entries (c .«first_strips») (c .«second_strips») (c .«first_ends») (c .«second_ends») marks
 
+-- Lowered to K.
+abbrev pub loweredCampaign : Campaign → ℕ → Campaign
+loweredCampaign c k = renewed c k (min k (c .entries)) (c .marks)
+
 -- ---- one mark
 
 module _ (customer : ℕ) where
@@ -63,6 +67,15 @@ module _ (customer : ℕ) where
       → ownMark other (withOwn customer mine mark) ≡ ownMark other mark
   unfolding ownMark withOwn
   other-mark other mine mark o h = rw o (byTest (eqb customer 1) (λ t. rw t (omega arith)) (λ f. rw f (omega arith)))
+
+  -- A customer's own of a mark from 0 to 3 is 0 or 1, and of 0 it is 0.
+  pub own-bit : (mark : ℕ) → mark ≤ 3 → ownMark customer mark ≤ 1
+  unfolding ownMark
+  own-bit mark h = byTest (eqb customer 1) (λ t. rw t (omega arith)) (λ f. rw f (omega arith))
+
+  pub own-none : ownMark customer 0 ≡ 0
+  unfolding ownMark
+  own-none = byTest (eqb customer 1) (λ t. rw t) (λ f. rw f)
 
   pub own-most : (mine mark : ℕ) → mine ≤ 1 → mark ≤ 3 → withOwn customer mine mark ≤ 3
   unfolding withOwn
@@ -116,3 +129,13 @@ module _ (customer : ℕ) where
     unfolding campaignAs withCampaign
     with-other other k entries marks o e =
         rw (e, own-kept customer other o k (g .k1) (g .k2), own-kept customer other o entries (g .entries1) (g .entries2))
+
+    -- Lowered, ..
+    pub lowered-own : (k : ℕ) → campaignAs customer (lowered customer g k) ≡ loweredCampaign (campaignAs customer g) k
+    unfolding lowered campaignAs
+    lowered-own k = with-own k _ (g .marks)
+
+    -- .. and the other's.
+    pub lowered-other : (other k : ℕ) → Other customer other → campaignAs other (lowered customer g k) ≡ campaignAs other g
+    unfolding lowered
+    lowered-other other k o = with-other other k _ (g .marks) o refl

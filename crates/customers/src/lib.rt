@@ -1,7 +1,7 @@
 // The two customers of a grid: which numbers are customers', and what each one's own of the grid is.
 ghost use mathlib.Core.Path.{_≡_};
 ghost use mathlib.Core.List.{map};
-ghost use Prim.Native.Nat.{_≤_};
+ghost use Prim.Native.Nat.{_≤_, min};
 ghost use Rattle.customers.specs.Customers.{
   isCustomer,
   own,
@@ -11,6 +11,8 @@ ghost use Rattle.customers.specs.Customers.{
   settledAt,
   campaignAs,
   withCampaign,
+  lowersTo,
+  lowered,
 };
 
 // Both customers' campaigns: the cut ends of both lists, a mark from 0 to 3 for each job, and the K and the entry count of
@@ -146,4 +148,27 @@ pub fn with_campaign(customer: u32, k: u32, entries: u32, marks: [u8; 1024], g: 
         k2: own(customer, g.k2, k),
         entries2: own(customer, g.entries2, entries),
     }
+}
+
+// Whether K can be lowered from the present one.
+pub fn lowers_to(present: u32, k: u32) -> bool
+    ensures { λ r. ⌜ r ≡ lowersTo present k ⌝ }
+{
+    1 <= k && k <= present
+}
+
+// As many entries as a smaller K leaves.
+fn cut(k: u32, entries: u32) -> u32
+    ensures { λ r. ⌜ r ≡ min k entries ⌝ }
+{
+    if k < entries { k } else { entries }
+}
+
+// The grid with a customer's K lowered, and as many of their entries as it leaves.
+pub fn lowered(customer: u32, g: Grid, k: u32) -> Grid
+    ensures { λ r. ⌜ r ≡ lowered customer g k ⌝ }
+{
+    let c = campaign_as(customer, g);
+    let kept = g.marks;
+    with_campaign(customer, k, cut(k, c.entries), kept, g)
 }
