@@ -1,5 +1,5 @@
 -- Laws of the calls of two customers on one grid: what a call of one of them does to the campaign of each, and to the marks.
-use mathlib.Core.Path.{_≡_, _∙_}
+use mathlib.Core.Path.{_≡_, refl, _∙_}
 use mathlib.Core.Bool.{true}
 use mathlib.Core.List.{List}
 use Prim.Native.Nat.{ℕ, _≤_}
@@ -7,7 +7,7 @@ use native.Mathlib.Omega.{arith}
 use lib.ListN.{length, set, replicate}
 use Rattle.customers.specs.declared.Campaign.{Campaign}
 use Rattle.customers.specs.declared.Grid.{Grid}
-use Rattle.customers.specs.Customers.{withOwn, cleared, settledAt, campaignAs, withCampaign}
+use Rattle.customers.specs.Customers.{withOwn, cleared, settledAt, campaignAs, withCampaign, lowered}
 use Rattle.campaign.specs.Grid.{Job, markOf, lawfulMarks, settle}
 use Rattle.campaign.specs.Soundness.{lawfulGrid}
 use Rattle.campaign.specs.Calls.{prepared, opened, afterJob}
@@ -63,6 +63,10 @@ module _ (customer : ℕ) where
     pub opened-lawful : (k : ℕ) → lawfulGrid g ≡ true → lawfulGrid (opened customer g k) ≡ true
     unfolding lawfulGrid opened withCampaign
     opened-lawful k h = lawful-cleared (g .«first_strips») (g .«second_strips») (g .marks) h
+
+    pub lowered-lawful : (k : ℕ) → lawfulGrid (lowered customer g k) ≡ lawfulGrid g
+    unfolding lawfulGrid lowered withCampaign
+    lowered-lawful k = refl
 
     pub job-lawful : (count : ℕ) (j : Job) → g .«second_strips» ≤ 32 → InGrid (g .«first_strips») (g .«second_strips») j
         → lawfulGrid g ≡ true → lawfulGrid (afterJob customer g count j) ≡ true

@@ -1,7 +1,7 @@
--- Examples of skips, of a job's refusals, of co-sited cells and of both customers: what M1 to M10 do not tell apart.
+-- Examples of skips, of a job's refusals, of co-sited cells, of a smaller K and of both customers: what M1 to M10 do not tell apart.
 use mathlib.Core.Path.{_≡_, refl}
 use mathlib.Core.List.{List, [], _∷_, _++_, flatMap, map, zipWith}
-use Prim.Native.Nat.{ℕ, _*_, _-_}
+use Prim.Native.Nat.{ℕ, _+_, _*_, _-_}
 use lib.IntN.{pos}
 use Rattle.order.specs.Order.{lex, ascending, firstOf, foremost}
 use Rattle.order.specs.Sort.{insert, sort}
@@ -22,7 +22,7 @@ use Rattle.halves.specs.Gap.{squaredStripGap}
 use Rattle.join.specs.declared.Join.the-variants.{Sweep}
 use Rattle.join.specs.Join.{join}
 use Rattle.customers.specs.declared.Grid.{Grid}
-use Rattle.customers.specs.Customers.{isCustomer, ownMark, withOwn, cleared, campaignAs, withCampaign, settledAt}
+use Rattle.customers.specs.Customers.{isCustomer, ownMark, withOwn, cleared, campaignAs, withCampaign, settledAt, lowersTo, lowered}
 use Rattle.campaign.specs.Grid.{
   lawfulEnds,
   stripAt,
@@ -39,8 +39,8 @@ use Rattle.campaign.specs.Grid.{
   jobPairs,
   jobsPairs,
 }
-use Rattle.campaign.specs.Soundness.{customerRefusal, firstEnds, secondEnds, soundEntry, sound, lawfulGrid, campaignRefusal}
-use Rattle.campaign.specs.Calls.{slots, prepared, opened, jobRefusal, skips, jobEntries, afterJob, JobValues, jobAnswer}
+use Rattle.campaign.specs.Soundness.{firstEnds, secondEnds, soundEntry, sound, lawfulGrid, customerRefusal, callerRefusal, keeperRefusal, campaignRefusal}
+use Rattle.campaign.specs.Calls.{slots, prepared, opened, lowerRefusal, lowerAnswer, jobRefusal, skips, jobEntries, afterJob, JobValues, jobAnswer}
 
 -- What a job answers, in one number: the refusal's, or 100 where it was swept and 200 where it was skipped.
 answerAs : Answer JobValues → ℕ
@@ -136,18 +136,34 @@ twoCustomers =
     map (λ customer. ask customer g) (1 ∷ 2 ∷ 0 ∷ 3 ∷ [])
     ++ map (λ customer. ask customer (opened 2 g 1)) (1 ∷ 2 ∷ 0 ∷ 3 ∷ [])
 
+-- What a smaller K answers, in one number: the refusal's, or 100 × K and the entry count of the first customer.
+loweredAs : Answer Grid → ℕ
+loweredAs (refused n) = n
+loweredAs (answered g) = 100 * g .k1 + g .entries1
+
+-- K of 3 and both pairs held: 4 and 0 get 4, and 3, 2 and 1 leave two, two and one of them. The second customer has not opened,
+-- and gets 4; 3 is no customer. A campaign with a fault gets 4 before 7.
+smallerK : List ℕ
+smallerK =
+    let pair = columns (pos 3 ∷ pos 5 ∷ []) (pos 4 ∷ pos 12 ∷ []) (2 ∷ 3 ∷ []) in
+    let g = afterJob 1 (newGrid 3 (1 ∷ []) (2 ∷ [])) 2 (jobOf 0 0) in
+    let r = results (25 ∷ 169 ∷ 0 ∷ []) (0 ∷ 0 ∷ 0 ∷ []) (0 ∷ 1 ∷ 0 ∷ []) in
+    map (λ k. loweredAs (lowerAnswer 1 g origin pair k r)) (4 ∷ 3 ∷ 2 ∷ 1 ∷ 0 ∷ [])
+    ++ (map (λ customer. loweredAs (lowerAnswer customer g origin pair 1 r)) (2 ∷ 3 ∷ [])
+    ++ map (λ k. loweredAs (lowerAnswer 1 g origin pair k one)) (4 ∷ 3 ∷ []))
+
 answers :
-    equalGap ∷ ownRanges ∷ apartInY ∷ apartInHeight ∷ soundnessFirst ∷ coSited ∷ settledWith 1 ∷ settledWith 0 ∷ onePosition ∷ twoCustomers
+    equalGap ∷ ownRanges ∷ apartInY ∷ apartInHeight ∷ soundnessFirst ∷ coSited ∷ settledWith 1 ∷ settledWith 0 ∷ onePosition ∷ smallerK ∷ twoCustomers
     ≡ (100 ∷ 100 ∷ 9 ∷ 8 ∷ 8 ∷ []) ∷ (100 ∷ 200 ∷ 200 ∷ 200 ∷ []) ∷ (100 ∷ 200 ∷ []) ∷ (100 ∷ 200 ∷ []) ∷ (7 ∷ 7 ∷ []) ∷ (100 ∷ 9 ∷ [])
-    ∷ (7 ∷ []) ∷ (7 ∷ []) ∷ (9 ∷ []) ∷ (9 ∷ 8 ∷ []) ∷ (7 ∷ 7 ∷ []) ∷ (15 ∷ 15 ∷ []) ∷ (15 ∷ 15 ∷ [])
+    ∷ (7 ∷ []) ∷ (7 ∷ []) ∷ (9 ∷ []) ∷ (4 ∷ 302 ∷ 202 ∷ 101 ∷ 4 ∷ 4 ∷ 15 ∷ 4 ∷ 7 ∷ []) ∷ (9 ∷ 8 ∷ []) ∷ (7 ∷ 7 ∷ []) ∷ (15 ∷ 15 ∷ []) ∷ (15 ∷ 15 ∷ [])
     ∷ (9 ∷ 8 ∷ []) ∷ (100 ∷ 8 ∷ []) ∷ (15 ∷ 15 ∷ []) ∷ (15 ∷ 15 ∷ []) ∷ []
 unfolding
     afterJob afterwards all allWithin answerAs answersOf answersTo answerUnless apart apartInHeight apartInY ascending bestK between beyond boxAround
-    boxOf campaignAs campaignRefusal classicOver cleared contentRefusal coordinateColumns coSited countFrom customerRefusal edges entriesOf equalGap equalLengths firstEnds firstOf
+    boxOf callerRefusal campaignAs campaignRefusal classicOver cleared contentRefusal coordinateColumns coSited countFrom customerRefusal edges entriesOf equalGap equalLengths firstEnds firstOf
     flatMap foremost gap gaps heightWithin holding insert isCustomer jobAnswer
-    jobEntries jobPairs jobRefusal join jobs jobsPairs keep last lastDistance lawfulEnds lawfulGrid lawfulK lawfulMark lawfulMarks lawfulSite leads
-    lex listRefusal listsRefusal look markOf newGrid offer one onePosition opened orElse origin overwritten ownMark ownRanges pair
+    jobEntries jobPairs jobRefusal join jobs jobsPairs keep keeperRefusal last lastDistance lawfulEnds lawfulGrid lawfulK lawfulMark lawfulMarks lawfulSite leads
+    lex listRefusal listsRefusal look lowerAnswer lowered loweredAs lowerRefusal lowersTo markOf newGrid offer one onePosition opened orElse origin overwritten ownMark ownRanges pair
     pairs placedFrom prepared product rangeGap rankBefore roomFor scan secondEnds settled settledAt settledJobs settledWith siteAt siteBefore sites
-    sizeFault skips slots sort sound soundEntry soundnessFirst square squaredBoxGap squaredDistance squaredStripGap strip stripAt
+    sizeFault skips slots smallerK sort sound soundEntry soundnessFirst square squaredBoxGap squaredDistance squaredStripGap strip stripAt
     stripHolding sum sweep taken twoCustomers twoSites whole withCampaign withColumns within withOwn zipWith
 answers = refl

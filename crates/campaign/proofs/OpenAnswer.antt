@@ -6,16 +6,13 @@ use Prim.Native.Nat.{ℕ}
 use lib.ListN.{length}
 use Rattle.site.specs.Answer.{orElse}
 use Rattle.site.specs.SiteList.{Columns}
-use Rattle.site.specs.Refusal.{listsRefusal}
 use Rattle.site.proofs.Answer.{first-refused, next-decides}
 use Rattle.entry.specs.Results.{Results, roomFor}
 use Rattle.entry.specs.Entry.{lawfulK}
 use Rattle.customers.specs.declared.Grid.{Grid}
-use Rattle.customers.specs.Customers.{isCustomer}
 use Rattle.campaign.specs.Grid.{lawfulEnds}
-use Rattle.campaign.specs.Soundness.{lawfulGrid}
+use Rattle.campaign.specs.Soundness.{lawfulGrid, callerRefusal}
 use Rattle.campaign.specs.Calls.{lawfulCuts, gridCuts, openRefusal}
-use Rattle.campaign.proofs.Sound.{stranger-refused, customer-passes}
 
 -- Both lists' ends, as they are tested.
 abbrev cuts : Columns → Columns → List ℕ → List ℕ → Bool
@@ -25,35 +22,31 @@ module _ (customer : ℕ) (g : Grid) (a b : Columns) (k : ℕ) (ends ends' : Lis
   abbrev number : ℕ
   number = openRefusal customer g a b k ends ends' r
 
-  pub opens-stranger : isCustomer customer ≡ false → 15 ≡ number
-  unfolding openRefusal
-  opens-stranger h = stranger-refused customer _ h
-
-  module _ (known : isCustomer customer ≡ true) {q : ℕ} (is : q ≡ listsRefusal a b) where
-    pub opens-lists : (q ≡ 0 → ⊥) → q ≡ number
+  module _ {q : ℕ} (is : q ≡ callerRefusal customer a b) where
+    pub opens-caller : (q ≡ 0 → ⊥) → q ≡ number
     unfolding openRefusal
-    opens-lists h = customer-passes customer known (first-refused _ is h)
+    opens-caller h = first-refused _ is h
 
     module _ (z : q ≡ 0) where
       pub opens-k : lawfulK k ≡ false → 4 ≡ number
       unfolding openRefusal orElse
-      opens-k h = customer-passes customer known (next-decides is z (simp h))
+      opens-k h = next-decides is z (simp h)
 
       module _ (lk : lawfulK k ≡ true) where
         pub opens-cuts : cuts a b ends ends' ≡ false → 5 ≡ number
         unfolding openRefusal orElse lawfulCuts
-        opens-cuts h = customer-passes customer known (next-decides is z (simp (lk, h)))
+        opens-cuts h = next-decides is z (simp (lk, h))
 
         module _ (lawful : cuts a b ends ends' ≡ true) where
           pub opens-grid : gridCuts g ends ends' ≡ false → 5 ≡ number
           unfolding openRefusal orElse lawfulCuts
-          opens-grid h = customer-passes customer known (next-decides is z (simp (lk, lawful, h)))
+          opens-grid h = next-decides is z (simp (lk, lawful, h))
 
           module _ (same : gridCuts g ends ends' ≡ true) where
             pub opens-room : roomFor k r ≡ false → 6 ≡ number
             unfolding openRefusal orElse lawfulCuts
-            opens-room h = customer-passes customer known (next-decides is z (simp (lk, lawful, same, h)))
+            opens-room h = next-decides is z (simp (lk, lawful, same, h))
 
             pub opens : roomFor k r ≡ true → {t : Bool} → lawfulGrid g ≡ t → cond (not t) 7 0 ≡ number
             unfolding openRefusal orElse lawfulCuts
-            opens room h = customer-passes customer known (next-decides is z (simp (lk, lawful, same, room, h)))
+            opens room h = next-decides is z (simp (lk, lawful, same, room, h))

@@ -11,13 +11,13 @@ use Rattle.order.specs.Order.{ascending}
 use Rattle.order.specs.Lists.{all}
 use Rattle.site.specs.Site.{Site}
 use Rattle.site.specs.SiteList.{Columns, raised, sites}
-use Rattle.site.specs.Terms.{Level}
+use Rattle.site.specs.Terms.{Level, Numbered}
 use Rattle.site.specs.Refusal.{listRefusal, listsRefusal}
-use Rattle.site.proofs.Accepted.{accepted-coordinates, accepted-heights}
+use Rattle.site.proofs.Accepted.{both-accepted, accepted-level, accepted-coordinates, accepted-heights}
 use Rattle.site.proofs.SiteList.{sites-length}
 use Rattle.site.proofs.Tests.{and-first, and-second}
-use Rattle.site.specs.Answer.{orElse}
-use Rattle.site.proofs.Answer.{first-refused, next-decides}
+use Rattle.site.specs.Answer.{refuseIf, orElse}
+use Rattle.site.proofs.Answer.{orElse-first, orElse-second, fault-none}
 use Rattle.entry.specs.declared.Entry.{Entry}
 use Rattle.entry.specs.Entry.{rankBefore, lawfulK}
 use Rattle.entry.specs.Results.{Results, entriesOf, roomFor}
@@ -25,7 +25,7 @@ use Rattle.entry.proofs.Results.{length-entries}
 use Rattle.customers.specs.declared.Campaign.{Campaign}
 use Rattle.customers.specs.declared.Grid.{Grid}
 use Rattle.customers.specs.Customers.{isCustomer, campaignAs}
-use Rattle.campaign.specs.Soundness.{customerRefusal, firstEnds, secondEnds, soundEntry, sound, lawfulGrid, campaignRefusal}
+use Rattle.campaign.specs.Soundness.{firstEnds, secondEnds, soundEntry, sound, lawfulGrid, customerRefusal, callerRefusal, keeperRefusal}
 use Rattle.campaign.specs.Internal.{LawfulColumns, lawfulSlots, soundPlan, soundEntries}
 use Rattle.campaign.proofs.LawfulEnds.{lawful-cut}
 use Rattle.campaign.proofs.SoundPlan.{plan-parts, settled-in-use}
@@ -121,32 +121,46 @@ pub accepted-columns : (xs ys : List ℤ) (ns : List ℕ) (hs : List ℤ) → li
 accepted-columns xs ys ns hs ok =
     record { plane = accepted-coordinates (raised xs ys ns hs) ok; heights = accepted-heights xs ys ns hs ok }
 
--- Before all else: a number that is no customer's gets 15, and for a customer's what comes next decides.
-module _ (customer : ℕ) where
-  pub stranger-refused : (n : ℕ) → isCustomer customer ≡ false → 15 ≡ orElse (customerRefusal customer) n
-  unfolding customerRefusal orElse
-  stranger-refused n h = simp h
+-- Who calls, and with which lists.
+module _ (customer : ℕ) (a b : Columns) where
+  pub stranger-refused : isCustomer customer ≡ false → 15 ≡ callerRefusal customer a b
+  unfolding callerRefusal customerRefusal orElse
+  stranger-refused h = simp h
 
-  pub customer-passes : {n q : ℕ} → isCustomer customer ≡ true → q ≡ n → q ≡ orElse (customerRefusal customer) n
-  unfolding customerRefusal orElse
-  customer-passes h e = e ∙ simp h
+  pub lists-decide : isCustomer customer ≡ true → {q : ℕ} → q ≡ listsRefusal a b → q ≡ callerRefusal customer a b
+  unfolding callerRefusal customerRefusal orElse
+  lists-decide h e = e ∙ simp h
 
-module _ (customer : ℕ) (g : Grid) (a b : Columns) (r : Results) where
-  pub strangers : isCustomer customer ≡ false → 15 ≡ campaignRefusal customer g a b r
-  unfolding campaignRefusal
-  strangers h = stranger-refused customer _ h
+  -- A caller who is not refused: a customer, with lists that have no fault.
+  pub accepted-caller : callerRefusal customer a b ≡ 0 → (isCustomer customer ≡ true) × (listsRefusal a b ≡ 0)
+  unfolding callerRefusal customerRefusal
+  accepted-caller ok =
+      let other = refuseIf (not (isCustomer customer)) 15 in
+      (fault-none (isCustomer customer) 14 (orElse-first other _ ok), orElse-second other _ ok)
 
-  module _ (known : isCustomer customer ≡ true) {q : ℕ} (is : q ≡ listsRefusal a b) where
-    pub lists-refused : (q ≡ 0 → ⊥) → q ≡ campaignRefusal customer g a b r
-    unfolding campaignRefusal
-    lists-refused h = customer-passes customer known (first-refused _ is h)
+  pub caller-lists : callerRefusal customer a b ≡ 0 → (listRefusal a ≡ 0) × (listRefusal b ≡ 0)
+  caller-lists ok = both-accepted a b (accepted-caller ok .1)
 
-    module _ (z : q ≡ 0) where
-      pub marks-refused : lawfulGrid g ≡ false → 7 ≡ campaignRefusal customer g a b r
-      unfolding campaignRefusal
-      marks-refused h = customer-passes customer known (next-decides is z (simp h))
+-- Lists of a caller who was not refused: their columns, and what holds of them whatever their sites' numbers.
+module _ (customer : ℕ) (ax ay : List ℤ) (an : List ℕ) (ah bx by : List ℤ) (bn : List ℕ) (bh : List ℤ) {q : ℕ}
+    (is : q ≡ callerRefusal customer (raised ax ay an ah) (raised bx by bn bh)) (z : q ≡ 0) where
+  lists : (listRefusal (raised ax ay an ah) ≡ 0) × (listRefusal (raised bx by bn bh) ≡ 0)
+  lists = caller-lists customer (raised ax ay an ah) (raised bx by bn bh) (sym is ∙ z)
 
-      pub sound-decides : lawfulGrid g ≡ true → {c : Campaign} → c ≡ campaignAs customer g → {t : Bool}
-          → sound c (sites a) (sites b) r ≡ t → cond (not t) 7 0 ≡ campaignRefusal customer g a b r
-      unfolding campaignRefusal
-      sound-decides h e w = customer-passes customer known (next-decides is z (simp (h, ← e, w)))
+  pub caller-columns : LawfulColumns ax ay ah × LawfulColumns bx by bh
+  caller-columns = (accepted-columns ax ay an ah (lists .0), accepted-columns bx by bn bh (lists .1))
+
+  pub caller-numbered : {holds : List Site → List Site → Type 0} → Numbered ax ay ah bx by bh holds
+      → holds (sites (raised ax ay an ah)) (sites (raised bx by bn bh))
+  caller-numbered told = told .numbered an bn (accepted-level _ (lists .0)) (accepted-level _ (lists .1))
+
+-- The keeper's faults.
+module _ (customer : ℕ) (g : Grid) (a b : List Site) (r : Results) where
+  pub marks-refused : lawfulGrid g ≡ false → 7 ≡ keeperRefusal customer g a b r
+  unfolding keeperRefusal
+  marks-refused h = simp h
+
+  pub sound-decides : lawfulGrid g ≡ true → {c : Campaign} → c ≡ campaignAs customer g → {t : Bool} → sound c a b r ≡ t
+      → cond (not t) 7 0 ≡ keeperRefusal customer g a b r
+  unfolding keeperRefusal
+  sound-decides h e w = simp (h, ← e, w)

@@ -8,7 +8,7 @@ use Rattle.order.specs.Lists.{all}
 use Rattle.order.specs.Terms.{Sorted}
 use Rattle.order.proofs.Sorted.{ascending-ascends, ascends-sorted}
 use Rattle.site.specs.SiteList.{Columns, sites}
-use Rattle.site.specs.Refusal.{listRefusal, listsRefusal}
+use Rattle.site.specs.Refusal.{listRefusal}
 use Rattle.site.proofs.Tests.{and-first, and-second}
 use Rattle.site.proofs.Answer.{orElse-first, orElse-second, fault-none}
 use Rattle.entry.specs.Entry.{rankBefore}
@@ -19,12 +19,12 @@ use Rattle.entry.proofs.Results.{length-entries}
 use Rattle.customers.specs.declared.Campaign.{Campaign}
 use Rattle.customers.specs.declared.Grid.{Grid}
 use Rattle.customers.specs.Customers.{campaignAs}
-use Rattle.campaign.specs.Soundness.{customerRefusal, firstEnds, secondEnds, soundEntry, sound, lawfulGrid, campaignRefusal}
+use Rattle.campaign.specs.Soundness.{firstEnds, secondEnds, soundEntry, sound, lawfulGrid, callerRefusal, keeperRefusal, campaignRefusal}
 use Rattle.campaign.specs.Internal.{soundPlan, soundEntries}
-use Rattle.site.proofs.Accepted.{accepted-level, both-accepted}
+use Rattle.site.proofs.Accepted.{accepted-level}
 use Rattle.campaign.proofs.SoundPlan.{PlanParts, plan-parts}
 use Rattle.campaign.proofs.EntryCount.{rightCount, count-few}
-use Rattle.campaign.proofs.Sound.{steps}
+use Rattle.campaign.proofs.Sound.{steps, caller-lists}
 
 -- The lists, the plan, room for the entries, and the entries in rank order.
 pub record SoundCampaign (c : Campaign) (a b : Columns) (r : Results) : Type 0 where
@@ -71,10 +71,11 @@ module _ (c : Campaign) (a b : Columns) (r : Results) where
 -- The lists are accepted, the grid's marks are lawful, and so is the customer's campaign.
 module _ (customer : ℕ) (g : Grid) (a b : Columns) (r : Results) where
   pub sound-campaign : {q : ℕ} → q ≡ campaignRefusal customer g a b r → q ≡ 0 → SoundCampaign (campaignAs customer g) a b r
-  unfolding campaignRefusal
+  unfolding campaignRefusal keeperRefusal
   sound-campaign is z =
       let c = campaignAs customer g in
-      let e = orElse-second (customerRefusal customer) _ (sym is ∙ z) in
-      let both = fault-none (lawfulGrid g && sound c (sites a) (sites b) r) 6 (orElse-second (listsRefusal a b) _ e) in
-      sound-by-tests c a b r (both-accepted a b (orElse-first (listsRefusal a b) _ e))
+      let caller = callerRefusal customer a b in
+      let e = sym is ∙ z in
+      let both = fault-none (lawfulGrid g && sound c (sites a) (sites b) r) 6 (orElse-second caller _ e) in
+      sound-by-tests c a b r (caller-lists customer a b (orElse-first caller _ e))
       (and-second (lawfulGrid g) (sound c (sites a) (sites b) r) both)

@@ -1,4 +1,4 @@
--- What preparing, opening, a job and status answer, and what the grid and the result columns then hold.
+-- What preparing, opening, a smaller K, a job and status answer, and what the grid and the result columns then hold.
 use mathlib.Core.Bool.{Bool, not, cond, _&&_}
 use mathlib.Core.List.{List, [], _++_}
 use Prim.Native.Nat.{ℕ, _*_, _-_}
@@ -17,7 +17,7 @@ use Rattle.join.specs.declared.Join.{Join}
 use Rattle.join.specs.Join.{Counts, noCounts, countsOf, join}
 use Rattle.customers.specs.declared.Campaign.{Campaign}
 use Rattle.customers.specs.declared.Grid.{Grid}
-use Rattle.customers.specs.Customers.{campaignAs, gridOf, withCampaign, cleared}
+use Rattle.customers.specs.Customers.{campaignAs, gridOf, withCampaign, cleared, lowersTo, lowered}
 use Rattle.campaign.specs.declared.Answered.{Answered}
 use Rattle.campaign.specs.declared.Outcome.{Outcome}
 use Rattle.campaign.specs.declared.Outcome.the-variants as outcome
@@ -25,7 +25,7 @@ use Rattle.campaign.specs.declared.JobDone.{JobDone}
 use Rattle.campaign.specs.declared.Status.{Status}
 use Rattle.campaign.specs.declared.Status.the-variants as status
 use Rattle.campaign.specs.Grid.{lawfulEnds, sameEnds, stripAt, Job, settled, settledJobs, jobPairs, settle}
-use Rattle.campaign.specs.Soundness.{customerRefusal, firstEnds, secondEnds, lawfulGrid, campaignRefusal}
+use Rattle.campaign.specs.Soundness.{firstEnds, secondEnds, lawfulGrid, callerRefusal, keeperRefusal, campaignRefusal}
 
 -- No "cut ends unlawful" of either list.
 unfoldable pub lawfulCuts : Columns → Columns → List ℕ → List ℕ → Bool
@@ -59,12 +59,11 @@ gridCuts g ends ends' =
 -- "Opening tests for 1 to 6"; "opening with ends other than the grid's gets 5"; 7 reads the marks "at opening too"; 15 first.
 unfoldable pub openRefusal : ℕ → Grid → Columns → Columns → ℕ → List ℕ → List ℕ → Results → ℕ
 openRefusal customer g a b k ends ends' r =
-    orElse (customerRefusal customer)
-    (orElse (listsRefusal a b)
+    orElse (callerRefusal customer a b)
     (orElse (refuseIf (not (lawfulK k)) 4)
     (orElse (refuseIf (not (lawfulCuts a b ends ends' && gridCuts g ends ends')) 5)
     (orElse (refuseIf (not (roomFor k r)) 6)
-    (refuseIf (not (lawfulGrid g)) 7)))))
+    (refuseIf (not (lawfulGrid g)) 7))))
 
 -- "Opening fixes K"; "Opening as one customer clears that customer's marks and entry count only."
 unfoldable pub opened : ℕ → Grid → ℕ → Grid
@@ -73,6 +72,18 @@ opened customer g k = withCampaign customer k 0 (cleared customer (g .marks)) g
 -- "opening, the campaign with entry count 0, no column touched", or the refusal.
 unfoldable pub openAnswer : ℕ → Grid → Columns → Columns → ℕ → List ℕ → List ℕ → Results → Answer Grid
 openAnswer customer g a b k ends ends' r = answerUnless (openRefusal customer g a b k ends ends' r) (opened customer g k)
+
+-- "A K of 0, or above the present one, gets 4, before opening too", where the present one is 0: after 15 and the lists' 1 to
+-- 3, and before 7. (02 j)
+unfoldable pub lowerRefusal : ℕ → Grid → Columns → Columns → ℕ → Results → ℕ
+lowerRefusal customer g a b k r =
+    orElse (callerRefusal customer a b)
+    (orElse (refuseIf (not (lowersTo (campaignAs customer g .k) k)) 4)
+    (keeperRefusal customer g (sites a) (sites b) r))
+
+-- "and answer the campaign", no column touched, or the refusal.
+unfoldable pub lowerAnswer : ℕ → Grid → Columns → Columns → ℕ → Results → Answer Grid
+lowerAnswer customer g a b k r = answerUnless (lowerRefusal customer g a b k r) (lowered customer g k)
 
 -- A job tests for 15, 1, 2, 3 and 7, then "8: a strip number not below the strip count", then "9: the job is settled".
 unfoldable pub jobRefusal : ℕ → Grid → Columns → Columns → Results → Job → ℕ

@@ -55,9 +55,14 @@ lawfulGrid g = lawfulMarks (g .«first_strips») (g .«second_strips») 0 (g .ma
 unfoldable pub customerRefusal : ℕ → ℕ
 customerRefusal customer = refuseIf (not (isCustomer customer)) 15
 
--- "every other campaign call, status included, is lent both lists and the columns and tests for 7 as well", after 15.
+-- Who calls, and with which lists: 15, then both lists' 1 to 3.
+unfoldable pub callerRefusal : ℕ → Columns → Columns → ℕ
+callerRefusal customer a b = orElse (customerRefusal customer) (listsRefusal a b)
+
+-- "The keeper of a campaign": 7.
+unfoldable pub keeperRefusal : ℕ → Grid → List Site → List Site → Results → ℕ
+keeperRefusal customer g a b r = refuseIf (not (lawfulGrid g && sound (campaignAs customer g) a b r)) 7
+
+-- "every other campaign call, status included, is lent both lists and the columns and tests for 7 as well."
 unfoldable pub campaignRefusal : ℕ → Grid → Columns → Columns → Results → ℕ
-campaignRefusal customer g a b r =
-    orElse (customerRefusal customer)
-    (orElse (listsRefusal a b)
-    (refuseIf (not (lawfulGrid g && sound (campaignAs customer g) (sites a) (sites b) r)) 7))
+campaignRefusal customer g a b r = orElse (callerRefusal customer a b) (keeperRefusal customer g (sites a) (sites b) r)

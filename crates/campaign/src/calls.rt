@@ -3,6 +3,7 @@ use super::Answered;
 use super::JobDone;
 use super::Status;
 use super::jobs;
+use super::lowering;
 use super::marks;
 use super::opening;
 use super::preparing;
@@ -18,6 +19,7 @@ ghost use Rattle.campaign.specs.Calls.{
   noGrid,
   prepareAnswer,
   openAnswer,
+  lowerAnswer,
   answeredGrid,
   statusAnswer,
   statusOf,
@@ -108,6 +110,56 @@ pub fn open(
     Answered {
         refusal,
         grid: opening::opened(customer, g, k),
+    }
+}
+
+// Lowers a customer's K: no job is settled or opened again, and the entries past the smaller K are given up. No column is
+// touched. (02 j.)
+pub fn lower_k(
+    customer: u32,
+    g: Grid,
+    ax: &[i32],
+    ay: &[i32],
+    an: &[u32],
+    ah: &[i32],
+    bx: &[i32],
+    by: &[i32],
+    bn: &[u32],
+    bh: &[i32],
+    k: u32,
+    distance: &[u64],
+    first: &[u32],
+    second: &[u32],
+) -> Answered
+    ensures { λ r.
+        let a = lentList ax ay an ah .entry in
+        let b = lentList bx by bn bh .entry in
+        let l = lentResults distance first second .entry in
+        let answer = lowerAnswer customer g a b k l in
+        ⌜ (answeredGrid r ≡ answer) × (r .grid ≡ afterwards (λ h. h) answer g) ⌝ }
+{
+    let refusal = lowering::refusal(
+        customer,
+        g,
+        ax,
+        ay,
+        an,
+        ah,
+        bx,
+        by,
+        bn,
+        bh,
+        k,
+        distance,
+        first,
+        second,
+    );
+    if refusal != 0 {
+        return Answered { refusal, grid: g };
+    }
+    Answered {
+        refusal,
+        grid: customers::lowered(customer, g, k),
     }
 }
 

@@ -1,7 +1,8 @@
-// Campaigns of strip jobs, one of each customer, on one grid: preparing, opening, a job, status.
+// Campaigns of strip jobs, one of each customer, on one grid: preparing, opening, a smaller K, a job, status.
 pub mod calls;
 mod ends;
 mod jobs;
+mod lowering;
 mod marks;
 mod opening;
 mod preparing;
@@ -17,7 +18,7 @@ struct Strip {
     to: usize,
 }
 
-// What preparing and opening answer: the refusal's number, 0 for none, and the grid.
+// What preparing, opening and a smaller K answer: the refusal's number, 0 for none, and the grid.
 pub struct Answered {
     pub refusal: u32,
     pub grid: Grid,

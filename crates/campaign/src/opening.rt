@@ -47,10 +47,7 @@ pub(super) fn refusal(
         let l = lentResults distance first second .entry in
         ⌜ r ≡ openRefusal customer g a b k (now («first_ends» .entry)) (now («second_ends» .entry)) l ⌝ }
 {
-    if !customers::is_customer(customer) {
-        return 15;
-    }
-    let refused = site::lists_refusal(ax, ay, an, ah, bx, by, bn, bh);
+    let refused = soundness::caller_refusal(customer, ax, ay, an, ah, bx, by, bn, bh);
     if refused != 0 {
         return refused;
     }

@@ -1,4 +1,5 @@
-// Refusal 7: whether a grid, a customer's campaign on it and the columns that hold its entries have a fault.
+// What campaign calls refuse: a customer's number, the lists, and with 7 a fault of the grid, of the customer's campaign on it
+// or of the columns that hold its entries.
 use super::ends;
 use super::marks;
 use super::totals;
@@ -17,7 +18,7 @@ ghost use Rattle.site.specs.Terms.{NumberedLent};
 ghost use Rattle.entry.specs.Entry.{rankBefore};
 ghost use Rattle.entry.specs.Results.{results, entriesOf, roomFor, lentResults};
 ghost use Rattle.campaign.specs.Internal.{BothCoordinates, Room, soundPlan, soundEntries};
-ghost use Rattle.campaign.specs.Soundness.{soundEntry, sound, lawfulGrid, campaignRefusal};
+ghost use Rattle.campaign.specs.Soundness.{soundEntry, sound, lawfulGrid, callerRefusal, keeperRefusal, campaignRefusal};
 
 // The squared distance of the sites at two places.
 fn distance_at(
@@ -241,7 +242,60 @@ pub(super) fn lawful_grid(g: Grid) -> bool
     marks::lawful(g.first_strips as usize, g.second_strips as usize, &marks)
 }
 
-// The refusal of a customer's campaign, its lists and its columns; 0 for none.
+// The refusal of a customer's number or of the lists; 0 for none.
+pub(super) fn caller_refusal(
+    customer: u32,
+    ax: &[i32],
+    ay: &[i32],
+    an: &[u32],
+    ah: &[i32],
+    bx: &[i32],
+    by: &[i32],
+    bn: &[u32],
+    bh: &[i32],
+) -> u32
+    ensures { λ r.
+        let a = lentList ax ay an ah .entry in
+        let b = lentList bx by bn bh .entry in
+        ⌜ r ≡ callerRefusal customer a b ⌝ }
+{
+    if !customers::is_customer(customer) {
+        return 15;
+    }
+    site::lists_refusal(ax, ay, an, ah, bx, by, bn, bh)
+}
+
+// The refusal of a customer's campaign and its columns, for lists that were accepted; 0 for none.
+pub(super) fn keeper_refusal(
+    customer: u32,
+    g: Grid,
+    ax: &[i32],
+    ay: &[i32],
+    ah: &[i32],
+    bx: &[i32],
+    by: &[i32],
+    bh: &[i32],
+    distance: &[u64],
+    first: &[u32],
+    second: &[u32],
+) -> u32
+    requires { ⌜ BothCoordinates ax ay ah bx by bh ⌝ }
+    ensures { λ r.
+        let l = lentResults distance first second .entry in
+        ⌜ NumberedLent ax ay ah bx by bh (λ a b. r ≡ keeperRefusal customer g a b l) ⌝ }
+{
+    if !lawful_grid(g) {
+        return 7;
+    }
+    let c = customers::campaign_as(customer, g);
+    if sound(c, ax, ay, ah, bx, by, bh, distance, first, second) {
+        0
+    } else {
+        7
+    }
+}
+
+// The refusal of a customer's number, the lists, the campaign and its columns; 0 for none.
 pub(super) fn refusal(
     customer: u32,
     g: Grid,
@@ -263,20 +317,9 @@ pub(super) fn refusal(
         let l = lentResults distance first second .entry in
         ⌜ r ≡ campaignRefusal customer g a b l ⌝ }
 {
-    if !customers::is_customer(customer) {
-        return 15;
-    }
-    let refused = site::lists_refusal(ax, ay, an, ah, bx, by, bn, bh);
+    let refused = caller_refusal(customer, ax, ay, an, ah, bx, by, bn, bh);
     if refused != 0 {
         return refused;
     }
-    if !lawful_grid(g) {
-        return 7;
-    }
-    let c = customers::campaign_as(customer, g);
-    if sound(c, ax, ay, ah, bx, by, bh, distance, first, second) {
-        0
-    } else {
-        7
-    }
+    keeper_refusal(customer, g, ax, ay, ah, bx, by, bh, distance, first, second)
 }

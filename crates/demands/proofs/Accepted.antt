@@ -16,10 +16,11 @@ use Rattle.entry.specs.Results.{Results, roomFor}
 use Rattle.customers.specs.declared.Grid.{Grid}
 use Rattle.customers.specs.Customers.{isCustomer, campaignAs}
 use Rattle.campaign.specs.Grid.{lawfulEnds, sameNumbers, sameEnds, Job}
-use Rattle.campaign.specs.Soundness.{customerRefusal, sound, lawfulGrid, campaignRefusal}
-use Rattle.campaign.specs.Calls.{lawfulCuts, gridCuts, openRefusal, jobRefusal}
+use Rattle.campaign.specs.Soundness.{sound, lawfulGrid, callerRefusal, keeperRefusal, campaignRefusal}
+use Rattle.campaign.specs.Calls.{lawfulCuts, gridCuts, openRefusal, lowerRefusal, jobRefusal}
 use Rattle.campaign.proofs.Grid.{InGrid}
 use Rattle.campaign.proofs.SoundPlan.{asked-parts}
+use Rattle.campaign.proofs.Sound.{accepted-caller}
 use Rattle.campaign.proofs.JobRefusal.{job-asked}
 
 -- Both strip numbers are below the strip counts.
@@ -61,34 +62,43 @@ pub record OpeningAccepted (customer : ℕ) (g : Grid) (a b : Columns) (k : ℕ)
 
 pub accepted-opening : (customer : ℕ) (g : Grid) (a b : Columns) (k : ℕ) (ends ends' : List ℕ) (r : Results)
     → openRefusal customer g a b k ends ends' r ≡ 0 → OpeningAccepted customer g a b k ends ends' r
-unfolding openRefusal customerRefusal lawfulCuts gridCuts
+unfolding openRefusal lawfulCuts gridCuts
 accepted-opening customer g a b k ends ends' r ok =
     let first = lawfulEnds (length (a .x)) ends in
     let second = lawfulEnds (length (b .x)) ends' in
     let same = sameEnds (g .«first_strips») (g .«first_ends») ends in
     let same' = sameEnds (g .«second_strips») (g .«second_ends») ends' in
-    let other = refuseIf (not (isCustomer customer)) 15 in
+    let caller = callerRefusal customer a b in
     let badK = refuseIf (not (lawfulK k)) 4 in
     let badEnds = refuseIf (not ((first && second) && (same && same'))) 5 in
     let short = refuseIf (not (roomFor k r)) 6 in
-    let ok1 = orElse-second other _ ok in
-    let ok2 = orElse-second (listsRefusal a b) _ ok1 in
-    let ok3 = orElse-second badK _ ok2 in
-    let ok4 = orElse-second badEnds _ ok3 in
-    let cuts = and-eq-true-iff (first && second) (same && same') .0 (fault-none _ 4 (orElse-first badEnds _ ok3)) in
+    let who = accepted-caller customer a b (orElse-first caller _ ok) in
+    let ok1 = orElse-second caller _ ok in
+    let ok2 = orElse-second badK _ ok1 in
+    let ok3 = orElse-second badEnds _ ok2 in
+    let cuts = and-eq-true-iff (first && second) (same && same') .0 (fault-none _ 4 (orElse-first badEnds _ ok2)) in
     let lawful = and-eq-true-iff first second .0 (cuts .0) in
     let own = and-eq-true-iff same same' .0 (cuts .1) in
     record {
-      number = fault-none (isCustomer customer) 14 (orElse-first other _ ok);
-      lists = orElse-first (listsRefusal a b) _ ok1;
-      lawful-k = fault-none (lawfulK k) 3 (orElse-first badK _ ok2);
+      number = who .0;
+      lists = who .1;
+      lawful-k = fault-none (lawfulK k) 3 (orElse-first badK _ ok1);
       cut = lawful .0;
       cut' = lawful .1;
       grid-ends = same-ends _ _ ends (own .0);
       grid-ends' = same-ends _ _ ends' (own .1);
-      room = fault-none (roomFor k r) 5 (orElse-first short _ ok4);
-      lawful = fault-none (lawfulGrid g) 6 (orElse-second short _ ok4);
+      room = fault-none (roomFor k r) 5 (orElse-first short _ ok3);
+      lawful = fault-none (lawfulGrid g) 6 (orElse-second short _ ok3);
     }
+
+-- ---- an accepted lowering
+
+-- It is a customer's.
+pub accepted-lowering : (customer : ℕ) (g : Grid) (a b : Columns) (k : ℕ) (r : Results)
+    → lowerRefusal customer g a b k r ≡ 0 → isCustomer customer ≡ true
+unfolding lowerRefusal
+accepted-lowering customer g a b k r ok =
+    accepted-caller customer a b (orElse-first (callerRefusal customer a b) _ ok) .0
 
 -- ---- an accepted job
 
@@ -100,19 +110,16 @@ pub record JobAccepted (customer : ℕ) (g : Grid) (j : Job) : Type 0 where
 
 pub accepted-job : (customer : ℕ) (g : Grid) (a b : Columns) (r : Results) (j : Job) → jobRefusal customer g a b r j ≡ 0
     → JobAccepted customer g j
-unfolding jobRefusal campaignRefusal customerRefusal campaignAs
+unfolding jobRefusal campaignRefusal keeperRefusal campaignAs
 accepted-job customer g a b r j ok =
     let c = campaignAs customer g in
     let asked = job-asked customer g a b r (j .first) (j .second) ok in
-    let other = refuseIf (not (isCustomer customer)) 15 in
-    let unsound = refuseIf (not (lawfulGrid g && sound c (sites a) (sites b) r)) 7 in
-    let campaign = campaignRefusal customer g a b r in
-    let ok1 = orElse-first campaign _ ok in
-    let sevens = orElse-second (listsRefusal a b) unsound (orElse-second other _ ok1) in
-    let both = and-eq-true-iff (lawfulGrid g) (sound c (sites a) (sites b) r) .0 (fault-none _ 6 sevens) in
+    let caller = callerRefusal customer a b in
+    let ok1 = orElse-first (campaignRefusal customer g a b r) _ ok in
+    let sevens = fault-none (lawfulGrid g && sound c (sites a) (sites b) r) 6 (orElse-second caller _ ok1) in
     record {
-      number = fault-none (isCustomer customer) 14 (orElse-first other _ ok1);
-      lawful = both .0;
+      number = accepted-caller customer a b (orElse-first caller _ ok1) .0;
+      lawful = and-eq-true-iff (lawfulGrid g) (sound c (sites a) (sites b) r) .0 sevens .0;
       few = asked-parts asked .cols;
       inside = record { row = asked .row; column = asked .column };
     }

@@ -6,11 +6,12 @@ use mathlib.Core.List.{List, [], _∷_, _++_, List·Memᴰ, List·Memᴰ·head, 
 use Prim.Native.Nat.{ℕ, _≤_}
 use native.Mathlib.Omega.{arith}
 use lib.Dec.{eqb}
-use lib.ListN.{length}
+use lib.ListN.{length, take}
+use lib.Seq.{take-take}
 use borrow.Author.Tests.{eqb-true, eq-eqb}
 use Rattle.order.specs.Lists.{all, keep, All, Distinct}
 use Rattle.order.proofs.Order.{byTest, never-both}
-use Rattle.order.proofs.Lists.{all-holds, keep-whole, all-append, all-cons, all-nil, distinct-append}
+use Rattle.order.proofs.Lists.{all-holds, keep-whole, keep-same, all-append, all-cons, all-nil, distinct-append, perm-eq}
 use Rattle.order.proofs.Best.{length-best, best-perm}
 use Rattle.site.specs.Site.{Site}
 use Rattle.entry.specs.declared.Entry.{Entry}
@@ -21,6 +22,7 @@ use Rattle.campaign.specs.Grid.{Job, jobs, jobsPairs}
 use Rattle.campaign.proofs.LawfulEnds.{Cut}
 use Rattle.campaign.proofs.Grid.{InGrid, same-job, kept-jobs, jobs-pairs-perm, jobs-pairs-distinct, grid-pairs}
 use Rattle.demands.specs.Book.{Book, isDone, bookEntries, noneOpen}
+use Rattle.demands.specs.History.{withK}
 
 -- ---- a job among some
 
@@ -80,6 +82,15 @@ module _ (rows cols : ℕ) where
         let test : Job → Bool = λ j. isDone j l in
         rw (keep-whole test (jobs rows cols) (all-holds test (jobs rows cols) h)) at done-kept
 
+  -- The same jobs settled are the same, in whatever sequence.
+  pub same-done : (l m : List Job) → Distinct l → All (InGrid rows cols) l → Distinct m → All (InGrid rows cols) m
+      → ((j : Job) → isDone j l ≡ isDone j m) → List·Permᴰ l m
+  same-done l m once inside once' inside' same =
+      let grid = jobs rows cols in
+      List·Permᴰ·trans (done-kept l once inside)
+      (List·Permᴰ·trans (perm-eq (keep-same (λ j. isDone j l) (λ j. isDone j m) grid (λ j n. same j)))
+      (Permᴰ·symm (done-kept m once' inside')))
+
 -- ---- the book's entries
 
 -- The settled jobs' pairs.
@@ -116,3 +127,9 @@ module _ (a b : List Site) (book : Book) (o : LawfulBook a b book) where
 pub length-book : (a b : List Site) (book : Book) → length (bookEntries a b book) ≤ book .k
 unfolding bookEntries bestK
 length-book a b book = omega (arith, length-best rankBefore (book .k) (bookPairs a b book))
+
+-- With a smaller K they are the first of them.
+pub lowered-book : (a b : List Site) (book : Book) (k : ℕ) → k ≤ book .k
+    → take k (bookEntries a b book) ≡ bookEntries a b (withK book k)
+unfolding bookEntries bestK
+lowered-book a b book k h = take-take k (book .k) _ h

@@ -3,66 +3,99 @@ use mathlib.Core.Path.{_≡_, refl, sym, ap, ap₂, _∙_}
 use mathlib.Core.Bool.{true, false, and-false}
 use mathlib.Core.List.{List, [], _∷_}
 use Prim.Native.Nat.{ℕ, zero, suc}
-use lib.Dec.{eqb}
-use borrow.Author.Tests.{eqb-true, eqb-false, eq-eqb, ne-eqb}
+use native.Mathlib.Omega.{arith}
+use lib.Dec.{leb, eqb}
+use lib.ListN.{length}
+use borrow.Author.Tests.{lt-leb, eqb-true, eqb-false, eq-eqb, ne-eqb}
 use Rattle.order.specs.Lists.{keep}
 use Rattle.order.proofs.Order.{byTest, never-both}
 use Rattle.site.specs.Answer.{Answer, refused, answered, answerUnless, afterwards, orElse}
 use Rattle.site.specs.Site.{Site}
 use Rattle.site.specs.SiteList.{Columns, sites}
 use Rattle.site.proofs.Answer.{answered-values}
+use Rattle.entry.specs.declared.Entry.{Entry}
 use Rattle.entry.specs.Entry.{lawfulK}
-use Rattle.entry.specs.Results.{Results}
+use Rattle.entry.specs.Results.{Results, entriesOf, holding}
+use Rattle.join.specs.Join.{Counts}
 use Rattle.customers.specs.declared.Campaign.{Campaign}
 use Rattle.customers.specs.declared.Grid.{Grid}
-use Rattle.customers.specs.Customers.{isCustomer, campaignAs}
-use Rattle.campaign.specs.Soundness.{customerRefusal, sound, campaignRefusal}
-use Rattle.campaign.specs.Calls.{prepareRefusal, prepared, prepareAnswer, openAnswer, jobRefusal, jobAnswer, statusAnswer}
+use Rattle.customers.specs.Customers.{isCustomer, campaignAs, lowersTo}
+use Rattle.campaign.specs.Soundness.{sound, customerRefusal, callerRefusal, keeperRefusal, campaignRefusal}
+use Rattle.campaign.specs.Calls.{prepareRefusal, prepared, prepareAnswer, openAnswer, lowerRefusal, lowerAnswer, jobRefusal, jobEntries, jobAnswer, statusAnswer}
 use Rattle.campaign.proofs.CustomerLaws.{prepared-lawful}
-use Rattle.demands.specs.Customers.{readingOf, reading, Act, opening, job, status, Told, grid, Success, mapAnswer, answerTo, told, gridAfter, columnsAfter, Alike, ToldByOwn, OtherStays, BeforeOpening, MarksStay, PreparedGrid}
+use Rattle.demands.specs.Customers.{Reading, readingOf, reading, Act, opening, lowering, job, status, Told, grid, done, Success, mapAnswer, answerTo, told, gridAfter, columnsAfter, Alike, ToldByOwn, OtherStays, BeforeOpening, MarksStay, PreparedGrid}
 use Rattle.demands.specs.Customers.{Call, preparing, by, State, stateOf, stateAfter, concerns, toldBy, heard, HistoriesAgree, CustomersApart}
 use Rattle.demands.proofs.GridAfter.{grid-lawful, campaign-kept}
-use Rattle.demands.proofs.Readings.{skips-read, job-entries-read, joined-read, same, opening-read, campaign-read, job-read, opened-reading, done-reading, status-read}
+use Rattle.demands.proofs.Readings.{SameColumns, skips-read, job-entries-read, joined-read, same, opening-read, lowering-read, campaign-read, job-read, opened-reading, lowered-reading, done-reading, done-count, status-read}
 
 -- ---- what a customer is told
 
-module _ {customer : ℕ} {g h : Grid} (alike : Alike customer g h) where
-  -- Two answers after which the customer is told the same, and has the same columns and the same to read.
-  Same : Results → Answer Success → Answer Success → Type 0
-  Same r p q =
-      (mapAnswer (λ v. v .told) p ≡ mapAnswer (λ v. v .told) q)
-      × (afterwards (λ v. v .columns) p r ≡ afterwards (λ v. v .columns) q r)
+-- On two grids alike, with columns in which a call finds the same. `view` is what is looked at of all that is told: of a
+-- job's columns no more than `seen` shows to be the same.
+module _ {customer : ℕ} {g h : Grid} (alike : Alike customer g h) {r r' : Results}
+    (even : SameColumns (campaignAs customer h .entries) r r') (view : Told → Told)
+    (seen : (read : Reading) (l : List Entry) (swept : ℕ) (counts : Counts) → read .entries ≡ length l
+    → view (done read (holding l r) swept counts) ≡ view (done read (holding l r') swept counts)) where
+  -- Two answers after which the customer is told the same, as far as it is viewed, and has the same to read; and the
+  -- same columns, if they were the same.
+  Same : Answer Success → Answer Success → Type 0
+  Same p q =
+      (mapAnswer view (mapAnswer (λ v. v .told) p) ≡ mapAnswer view (mapAnswer (λ v. v .told) q))
+      × (r ≡ r' → afterwards (λ v. v .columns) p r ≡ afterwards (λ v. v .columns) q r')
       × (reading customer (afterwards (λ v. v .grid) p g) ≡ reading customer (afterwards (λ v. v .grid) q h))
 
-  same-answers : {A : Type 0} (r : Results) (f f' : A → Success) {n m : ℕ} (v w : A) → n ≡ m → f v .told ≡ f' w .told
-      → f v .columns ≡ f' w .columns → reading customer (f v .grid) ≡ reading customer (f' w .grid)
-      → Same r (mapAnswer f (answerUnless n v)) (mapAnswer f' (answerUnless m w))
+  same-answers : {A : Type 0} (f f' : A → Success) {n m : ℕ} (v w : A) → n ≡ m → view (f v .told) ≡ view (f' w .told)
+      → (r ≡ r' → f v .columns ≡ f' w .columns) → reading customer (f v .grid) ≡ reading customer (f' w .grid)
+      → Same (mapAnswer f (answerUnless n v)) (mapAnswer f' (answerUnless m w))
   unfolding Same mapAnswer afterwards answerUnless
-  same-answers r f f' {m = zero} v w e tells columns reads = rw e (ap answered tells, columns, reads)
-  same-answers r f f' {m = suc m} v w e tells columns reads = rw e (refl, refl, alike .read)
+  same-answers f f' {m = zero} v w e tells columns reads = rw e (ap answered tells, columns, reads)
+  same-answers f f' {m = suc m} v w e tells columns reads = rw e (refl, λ z. z, alike .read)
 
-  same-act : (a b : Columns) (r : Results) (act : Act) → Same r (answerTo customer g a b r act) (answerTo customer h a b r act)
-  unfolding answerTo openAnswer jobAnswer statusAnswer
-  same-act a b r (opening k ends ends') =
+  same-act : (a b : Columns) (act : Act) → Same (answerTo customer g a b r act) (answerTo customer h a b r' act)
+  unfolding answerTo openAnswer lowerAnswer jobAnswer statusAnswer
+  same-act a b (opening k ends ends') =
       let reads = opened-reading alike k in
-      same-answers r _ _ _ _ (opening-read alike a b k ends ends' r) (ap grid reads) refl reads
-  same-act a b r (job j way) =
+      same-answers _ _ _ _ (opening-read alike even a b k ends ends') (ap (λ w. view (grid w)) reads) (λ z. z) reads
+  same-act a b (lowering k) =
+      let reads = lowered-reading alike k in
+      same-answers _ _ _ _ (lowering-read alike even a b k) (ap (λ w. view (grid w)) reads) (λ z. z) reads
+  same-act a b (job j way) =
       let l = sites a in
       let m = sites b in
       let parts = same alike in
-      let entries = job-entries-read parts l m r j in
+      let d = campaignAs customer h in
+      let new = jobEntries d l m (entriesOf (d .entries) r') j in
+      let entries = job-entries-read parts even l m j in
       let after = done-reading alike _ j in
-      same-answers r _ _ _ _ (job-read alike a b r j)
-      (rw (entries, skips-read parts l m r j, joined-read parts l m r j way, after)) (rw entries) (rw entries after)
-  same-act a b r status = same-answers r _ _ _ _ (campaign-read alike a b r) (status-read alike) refl (alike .read)
+      same-answers _ _ _ _ (job-read alike even a b j)
+      (rw (entries, skips-read parts even l m j, joined-read parts even l m j way, after)
+      (seen _ new _ _ (done-count alike _ j)))
+      (λ z. rw (entries, z)) (rw entries after)
+  same-act a b status =
+      same-answers _ _ _ _ (campaign-read alike even a b) (ap view (status-read alike)) (λ z. z) (alike .read)
+
+  pub same-told : (a b : Columns) (act : Act)
+      → mapAnswer view (told customer g a b r act) ≡ mapAnswer view (told customer h a b r' act)
+  unfolding told Same
+  same-told a b act = same-act a b act .0
+
+-- All of an answer viewed.
+whole-view : {A : Type 0} (p : Answer A) → mapAnswer (λ v. v) p ≡ p
+unfolding mapAnswer
+whole-view (refused number) = refl
+whole-view (answered values) = refl
 
 -- What a customer is told depends on what is the same on grids alike.
 told-by-own : ToldByOwn
 unfolding ToldByOwn told columnsAfter gridAfter Same
 told-by-own customer g h alike a b r act =
-    let same = same-act alike a b r act in
-    let lawful = grid-lawful customer g a b r act ∙ alike .lawful ∙ sym (grid-lawful customer h a b r act) in
-    (same .0, same .1, record { read = same .2; lawful = lawful })
+    let even : SameColumns (campaignAs customer h .entries) r r = record { entries = refl; room = λ k. refl } in
+    let same = same-act alike even (λ t. t) (λ read l swept counts e. refl) a b act in
+    let lawful = grid-lawful customer g a b r act ∙ alike .lawful ∙ sym (grid-lawful customer h a b r act) in (
+      sym (whole-view (told customer g a b r act)) ∙ same .0 ∙ whole-view (told customer h a b r act),
+      same .1 refl,
+      record { read = same .2; lawful = lawful },
+    )
 
 other-stays : OtherStays
 unfolding OtherStays reading
@@ -75,11 +108,22 @@ not-sound : (c : Campaign) (a b : List Site) (r : Results) → c .k ≡ 0 → so
 unfolding sound lawfulK
 not-sound c a b r h = rw h
 
+-- Nor is there a smaller K.
+none-lower : (k : ℕ) → lowersTo 0 k ≡ false
+unfolding lowersTo
+none-lower zero = refl
+none-lower (suc k) = rw (lt-leb (suc k) 0 (omega arith)) (and-false (leb 1 (suc k)))
+
 before-opening : BeforeOpening
-unfolding BeforeOpening reading readingOf told answerTo jobAnswer statusAnswer jobRefusal campaignRefusal customerRefusal mapAnswer answerUnless orElse
+unfolding
+    BeforeOpening reading readingOf told answerTo lowerAnswer jobAnswer statusAnswer lowerRefusal jobRefusal
+    campaignRefusal customerRefusal callerRefusal keeperRefusal mapAnswer answerUnless orElse
 before-opening customer known g none a b lists r =
-    let unsound = not-sound (campaignAs customer g) (sites a) (sites b) r none in
-    (λ j way. simp (known, lists, unsound, and-false), simp (known, lists, unsound, and-false))
+    let unsound = not-sound (campaignAs customer g) (sites a) (sites b) r none in (
+      λ j way. simp (known, lists, unsound, and-false),
+      simp (known, lists, unsound, and-false),
+      λ k. simp (known, lists, none, none-lower k),
+    )
 
 prepared-grid : PreparedGrid
 unfolding PreparedGrid prepareAnswer reading readingOf campaignAs prepared

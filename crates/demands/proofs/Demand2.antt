@@ -17,6 +17,7 @@ use Rattle.site.proofs.Accepted.{both-accepted}
 use Rattle.entry.specs.declared.Entry.{Entry}
 use Rattle.entry.specs.Results.{entriesOf, holding}
 use Rattle.entry.proofs.Results.{entries-holding}
+use Rattle.entry.proofs.Below.{written}
 use Rattle.sweep.specs.Strip.{whole, allPairs}
 use Rattle.sweep.proofs.Strip.{byPlaces, whole-ascends, pairs-ascend, whole-pairs-distinct}
 use Rattle.pairs.specs.KList.{kList}
@@ -25,7 +26,7 @@ use Rattle.pairs.specs.DistanceList.{distanceList, distanceRefusal, DistanceVal
 use Rattle.order.proofs.Sorted.{ascends-keep, ascends-ascending}
 use Rattle.site_file.proofs.RoundTrip.{every-output-accepted, every-accepted-is-output}
 use Rattle.demands.specs.Demand2.{KClosest, WithinLimit, Demand2}
-use Rattle.demands.proofs.KClosest.{k-list-closest, written, k-list-values}
+use Rattle.demands.proofs.KClosest.{k-list-closest, k-list-values}
 
 -- The values of an accepted distance list: its places written into the columns, and its count.
 abbrev pub written-values : Columns → Columns → ℕ → List ℕ → List ℕ → DistanceValues

@@ -15,6 +15,7 @@ use Rattle.site.specs.SiteList.{Columns, sites}
 use Rattle.site.specs.Refusal.{listsRefusal}
 use Rattle.site.proofs.Answer.{answer-values, answered-values, next-decides, orElse-first}
 use Rattle.entry.specs.declared.Entry.{Entry}
+use Rattle.entry.proofs.Below.{written}
 use Rattle.pairs.specs.DistanceList.{distanceList, distanceRefusal, distanceAnswer}
 use Rattle.pairs.specs.Forecast.{
   countWithin,
@@ -29,7 +30,6 @@ use Rattle.pairs.specs.Forecast.{
 use Rattle.pairs.proofs.ForecastAnswer.{total-sums}
 use Rattle.pairs.proofs.ForecastBound.{no-more, no-more-for}
 use Rattle.demands.specs.Forecast.{placeNumbers, ForecastBounds, ForecastsHold}
-use Rattle.demands.proofs.KClosest.{written}
 use Rattle.demands.proofs.Demand2.{written-values, distance-values}
 
 module _ (a b : Columns) (e : ℕ) (column : List ℕ) where

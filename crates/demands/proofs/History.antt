@@ -1,12 +1,12 @@
 -- What holds of the grid, B and the book after the opening and after each call.
 use mathlib.Core.Path.{_≡_, refl, sym, ap, _∙_}
-use mathlib.Core.Bool.{false, not, cond, _&&_}
+use mathlib.Core.Bool.{false, not, cond, _&&_, and-eq-true-iff}
 use mathlib.Core.List.{List, [], _∷_, _++_, flatMap, List·Memᴰ·head, List·Memᴰ·eq-of-singleton, Memᴰ·append-right}
 use Prim.Native.Nat.{ℕ, zero, suc, _≤_, _<_}
 use native.Mathlib.Omega.{arith}
-use lib.Dec.{ltb, eqb}
-use lib.ListN.{length, set, length-replicate, length-set}
-use borrow.Author.Tests.{ne-eqb}
+use lib.Dec.{leb, ltb, eqb}
+use lib.ListN.{length, take, set, length-take, length-replicate, length-set}
+use borrow.Author.Tests.{leb-true, ne-eqb}
 use Rattle.order.specs.Lists.{Distinct}
 use Rattle.order.proofs.Best.{best, best-nil}
 use Rattle.order.proofs.Order.{byTest, never-both}
@@ -19,31 +19,30 @@ use Rattle.site.proofs.Accepted.{both-accepted, accepted-length}
 use Rattle.entry.specs.declared.Entry.{Entry}
 use Rattle.entry.specs.Entry.{rankBefore, bestK}
 use Rattle.entry.specs.Results.{Results, entriesOf, holding}
-use Rattle.entry.proofs.Rank.{rank-order}
-use Rattle.entry.proofs.Results.{entries-holding, room-holding}
+use Rattle.entry.proofs.Rank.{rank-order, lawful-lower}
+use Rattle.entry.proofs.Results.{room-fewer, entries-holding, room-holding}
+use Rattle.entry.proofs.Below.{cut-entries, lengths-holding}
 use Rattle.join.specs.declared.Join.{Join}
 use Rattle.join.specs.Join.{Counts}
 use Rattle.customers.specs.declared.Campaign.{Campaign}
 use Rattle.customers.specs.declared.Grid.{Grid}
-use Rattle.customers.specs.Customers.{campaignAs}
+use Rattle.customers.specs.Customers.{campaignAs, lowersTo, lowered}
 use Rattle.campaign.specs.Grid.{Job, markOf, settled, jobPairs, jobsPairs}
 use Rattle.campaign.specs.Soundness.{firstEnds, secondEnds}
-use Rattle.campaign.specs.Calls.{opened, jobRefusal, jobEntries, afterJob, jobValues, jobAnswer}
-use Rattle.customers.proofs.CustomerLaws.{own-size}
+use Rattle.campaign.specs.Calls.{opened, lowerAnswer, jobRefusal, jobEntries, afterJob, jobValues, jobAnswer}
+use Rattle.customers.proofs.CustomerLaws.{loweredCampaign, own-size, lowered-own}
 use Rattle.campaign.proofs.Grid.{InGrid, same-job, jobs-pairs-snoc}
 use Rattle.campaign.proofs.MarkLaws.{none-settled, mark-below, mark-apart, settled-same, settled-other}
-use Rattle.campaign.proofs.CustomerLaws.{openedCampaign, doneCampaign, opened-own, job-own, opened-lawful, job-lawful}
-use Rattle.demands.specs.Book.{Book, openBook, isDone, bookRefusal, bookEntries}
+use Rattle.campaign.proofs.CustomerLaws.{openedCampaign, doneCampaign, opened-own, job-own, opened-lawful, lowered-lawful, job-lawful}
+use Rattle.demands.specs.Book.{Book, openBook, isDone, bookRefusal, bookLowering, bookEntries}
 use Rattle.demands.specs.Customers.{Act, gridAfter}
-use Rattle.demands.specs.History.{own, job, Bench, benchOf, benchAfter, bookAfter}
+use Rattle.demands.specs.History.{own, job, lowering, Bench, benchOf, benchAfter, withJob, withK, bookAfter}
 use Rattle.demands.proofs.Accepted.{in-grid, OpeningAccepted, accepted-job}
 use Rattle.demands.proofs.GridAfter.{grid-lawful, campaign-kept}
-use Rattle.demands.proofs.Book.{mem-done, done-mem, done-other, once-more, inside-more, bookPairs, length-book, InBook}
-use Rattle.demands.proofs.Invariant.{Invariant, Standing, lawful-book, job-refusal}
+use Rattle.demands.proofs.Book.{mem-done, done-mem, done-other, once-more, inside-more, bookPairs, length-book, lowered-book, InBook}
+use Rattle.demands.proofs.Invariant.{Invariant, lawful-book, few-entries, Fixed, fixedOf, Standing, job-refusal, lower-refusal}
 
--- The book with one job more.
-abbrev withJob : Book → Job → Book
-withJob book j = record { k = book .k; ends = book .ends; ends' = book .ends'; done = book .done ++ (j ∷ []) }
+-- ---- a job
 
 module _ {a b : Columns} {c : Campaign} {r : Results} {book : Book} (i : Invariant a b c r book) (j : Job) where
   -- The list after the job is the book's with the job.
@@ -122,7 +121,45 @@ unsettled-job book j h =
       no-fault (isDone j (book .done)) 8 (orElse-second outside again h),
     )
 
-module _ {customer : ℕ} {a b : Columns} {bench : Bench} {book : Book} (s : Standing customer a b bench book) where
+-- ---- a lowering
+
+-- What the book does not refuse is a K from 1 to its own.
+lower-k : (book : Book) (k : ℕ) → bookLowering book k ≡ 0 → (1 ≤ k) × (k ≤ book .k)
+unfolding bookLowering lowersTo
+lower-k book k h =
+    let w = and-eq-true-iff (leb 1 k) (leb k (book .k)) .0 (fault-none (leb 1 k && leb k (book .k)) 3 h) in
+    (leb-true 1 k (w .0), leb-true k (book .k) (w .1))
+
+module _ {a b : Columns} {c : Campaign} {r : Results} {book : Book} (i : Invariant a b c r book) where
+  -- The marks stay, and of the entries the first.
+  after-lowered : (k : ℕ) → 1 ≤ k → k ≤ book .k → Invariant a b (loweredCampaign c k) r (withK book k)
+  unfolding firstEnds secondEnds
+  after-lowered k low most =
+      let old = bookEntries (sites a) (sites b) book in
+      let cut = lowered-book (sites a) (sites b) book k most in
+      record {
+        lists = i .lists;
+        lawful = lawful-lower (book .k) k (i .lawful) low most;
+        ends = i .ends;
+        ends' = i .ends';
+        once = i .once;
+        inside = i .inside;
+        k = refl;
+        rows = i .rows;
+        columns = i .columns;
+        firsts = i .firsts;
+        seconds = i .seconds;
+        size = i .size;
+        settles = i .settles;
+        room = room-fewer r most (i .room);
+        count = rw (i .count) (sym (length-take k old) ∙ ap (λ (l : List Entry). length l) cut);
+        entries = cut-entries (book .k) (c .entries) r (i .room) (few-entries i) k ∙ ap (take k) (i .entries) ∙ cut;
+      }
+
+-- ---- each call
+
+module _ {customer : ℕ} {a b : Columns} {fixed : Fixed} {bench : Bench} {book : Book}
+    (s : Standing customer a b fixed bench book) where
   -- A job lent B's own lists and columns, by the book's refusal number.
   after-number : (j : Job) (n swept : ℕ) (counts : Counts) → jobRefusal customer (bench .grid) a b (bench .results) j ≡ n
       → bookRefusal book j ≡ n
@@ -130,7 +167,7 @@ module _ {customer : ℕ} {a b : Columns} {bench : Bench} {book : Book} (s : Sta
       let r = bench .results in
       let c = campaignAs customer g in
       let l = jobEntries c (sites a) (sites b) (entriesOf (c .entries) r) j in
-      Standing customer a b
+      Standing customer a b fixed
       (afterwards (λ v. benchOf (v .grid) (v .results))
       (answerUnless n (jobValues (afterJob customer g (length l) j) (holding l r) swept counts)) bench)
       (cond (eqb n 0) (withJob book j) book))
@@ -141,32 +178,56 @@ module _ {customer : ℕ} {a b : Columns} {bench : Bench} {book : Book} (s : Sta
       let u = unsettled-job book j e in
       let w = accepted-job customer g a b (bench .results) j accepted in
       let l = bookEntries (sites a) (sites b) (withJob book j) in
+      let room = room-fewer (bench .results) (length-book (sites a) (sites b) (withJob book j)) (i .room) in
       rw (job-entries i j) (record {
         number = s .number;
         lawful = job-lawful customer g (length l) j (w .few) (w .inside) (s .lawful);
         campaign = rw (job-own customer g (length l) j) (after-accepted i j (u .0) (u .1));
+        stays = rw (lengths-holding l (bench .results) room) (s .stays);
       })
   after-number j (suc n) swept counts refused e = rw (ne-eqb (suc n) 0 (λ z. omega arith)) s
 
   pub after-job : (j : Job) (way : Join)
-      → Standing customer a b (benchAfter customer a b bench (job own j way)) (bookAfter book (job own j way))
+      → Standing customer a b fixed (benchAfter customer a b bench (job own j way)) (bookAfter book (job own j way))
   unfolding benchAfter bookAfter jobAnswer
   after-job j way =
       let same = job-refusal s j in
       rw same (after-number j (bookRefusal book j) _ _ same refl)
 
+  -- A lowering lent B's own lists and columns, by the book's refusal number.
+  lowered-number : (k n : ℕ) → bookLowering book k ≡ n
+      → Standing customer a b fixed
+      (afterwards (λ g. benchOf g (bench .results)) (answerUnless n (lowered customer (bench .grid) k)) bench)
+      (cond (eqb n 0) (withK book k) book)
+  unfolding afterwards answerUnless
+  lowered-number k zero e =
+      let w = lower-k book k e in
+      record {
+        number = s .number;
+        lawful = lowered-lawful customer (bench .grid) k ∙ s .lawful;
+        campaign = rw (lowered-own customer (bench .grid) k) (after-lowered (s .campaign) k (w .0) (w .1));
+        stays = s .stays;
+      }
+  lowered-number k (suc n) e = rw (ne-eqb (suc n) 0 (λ z. omega arith)) s
+
+  pub after-lowering : (k : ℕ)
+      → Standing customer a b fixed (benchAfter customer a b bench (lowering own k)) (bookAfter book (lowering own k))
+  unfolding benchAfter bookAfter lowerAnswer
+  after-lowering k = rw (lower-refusal s k) (lowered-number k (bookLowering book k) refl)
+
   -- A refused call: nothing of the grid or of B's changes.
   pub after-refusal : {A : Type 0} (value : A → Bench) {n : ℕ} (values : A) → (n ≡ 0 → ⊥)
-      → Standing customer a b (afterwards value (answerUnless n values) bench) book
+      → Standing customer a b fixed (afterwards value (answerUnless n values) bench) book
   after-refusal value values h = rw (← after-refused value values bench refl h) s
 
   -- Any call by another number: B's campaign stays.
   pub after-others : (n : ℕ) (a' b' : Columns) (r : Results) (act : Act) → (n ≡ customer → ⊥)
-      → Standing customer a b (benchOf (gridAfter n (bench .grid) a' b' r act) (bench .results)) book
+      → Standing customer a b fixed (benchOf (gridAfter n (bench .grid) a' b' r act) (bench .results)) book
   after-others n a' b' r act apart = record {
     number = s .number;
     lawful = grid-lawful n (bench .grid) a' b' r act ∙ s .lawful;
     campaign = rw (campaign-kept customer n (bench .grid) a' b' r act (s .number) apart) (s .campaign);
+    stays = s .stays;
   }
 
 -- ---- the opening
@@ -196,9 +257,12 @@ module _ {customer : ℕ} {g : Grid} {a b : Columns} {k : ℕ} {ends ends' : Lis
         entries = sym (best-nil rankBefore k);
       }
 
-  pub after-opening : Standing customer a b (benchOf (opened customer g k) r) (openBook k ends ends')
+  pub after-opening : (let bench = benchOf (opened customer g k) r in
+      let book = openBook k ends ends' in
+      Standing customer a b (fixedOf bench book) bench book)
   after-opening = record {
     number = o .number;
     lawful = opened-lawful customer g k (o .lawful);
     campaign = rw (opened-own customer g k) opened-campaign;
+    stays = refl;
   }

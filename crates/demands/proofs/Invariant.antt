@@ -1,8 +1,9 @@
 -- What holds of the grid, B and the book between any two calls, and what follows from it: B passes every test for 7.
 use mathlib.Core.Path.{_≡_, sym, ap, _∙_}
-use mathlib.Core.Bool.{Bool, true, cond, _&&_}
-use mathlib.Core.List.{List·Memᴰ, List·Permᴰ}
-use Prim.Native.Nat.{ℕ, min}
+use mathlib.Core.Bool.{Bool, true, not, cond, _&&_}
+use mathlib.Core.List.{List, List·Memᴰ, List·Permᴰ}
+use Prim.Native.Nat.{ℕ, _≤_, min}
+use native.Mathlib.Omega.{arith}
 use lib.Dec.{ltb}
 use lib.ListN.{length}
 use borrow.Author.Tests.{le-leb, lt-ltb, eq-eqb}
@@ -12,25 +13,26 @@ use Rattle.order.proofs.Order.{byTest}
 use Rattle.order.proofs.Lists.{mem-all, all-mem, holds-all, perm-length, keep-same}
 use Rattle.order.proofs.Best.{length-best}
 use Rattle.order.proofs.Sorted.{mem-best, ascends-best, ascends-ascending}
-use Rattle.site.specs.Answer.{answered, orElse}
+use Rattle.site.specs.Answer.{answered, refuseIf, orElse}
 use Rattle.site.specs.SiteList.{Columns, sites}
 use Rattle.site.specs.Refusal.{listsRefusal}
-use Rattle.site.proofs.Answer.{answer-values, or-none}
+use Rattle.site.proofs.Answer.{answer-values, or-none, or-nothing}
 use Rattle.entry.specs.declared.Entry.{Entry}
 use Rattle.entry.specs.Entry.{rankBefore, bestK, lawfulK}
 use Rattle.entry.specs.Results.{Results, entriesOf, roomFor}
 use Rattle.entry.proofs.Rank.{rank-order}
+use Rattle.entry.proofs.Below.{lengthsOf}
 use Rattle.customers.specs.declared.Campaign.{Campaign}
-use Rattle.customers.specs.Customers.{isCustomer, campaignAs}
+use Rattle.customers.specs.Customers.{isCustomer, campaignAs, lowersTo}
 use Rattle.campaign.specs.Grid.{lawfulEnds, Job, jobs, settled, settledJobs, jobsPairs}
-use Rattle.campaign.specs.Soundness.{customerRefusal, firstEnds, secondEnds, soundEntry, sound, lawfulGrid, campaignRefusal}
-use Rattle.campaign.specs.Calls.{jobRefusal, statusAnswer}
+use Rattle.campaign.specs.Soundness.{firstEnds, secondEnds, soundEntry, sound, lawfulGrid, customerRefusal, callerRefusal, keeperRefusal, campaignRefusal}
+use Rattle.campaign.specs.Calls.{lowerRefusal, jobRefusal, statusAnswer}
 use Rattle.campaign.proofs.LawfulEnds.{lawful-cut}
 use Rattle.campaign.proofs.Grid.{jobs-in-grid, jobs-entry, jobs-pairs-perm}
-use Rattle.demands.specs.Book.{Book, isDone, bookRefusal, bookEntries, bookStatus}
+use Rattle.demands.specs.Book.{Book, isDone, bookRefusal, bookLowering, bookEntries, bookStatus}
 use Rattle.demands.specs.History.{Bench}
 use Rattle.demands.proofs.Accepted.{in-grid}
-use Rattle.demands.proofs.Book.{mem-done, done-kept, bookPairs, InBook, LawfulBook, settled-pairs-distinct}
+use Rattle.demands.proofs.Book.{mem-done, done-kept, bookPairs, InBook, LawfulBook, settled-pairs-distinct, length-book}
 
 -- B's lists, campaign and result columns beside the book.
 pub record Invariant (a b : Columns) (c : Campaign) (r : Results) (book : Book) : Type 0 where
@@ -62,6 +64,9 @@ module _ {a b : Columns} {c : Campaign} {r : Results} {book : Book} (i : Invaria
     once = i .once;
     inside = i .inside;
   }
+
+  pub few-entries : c .entries ≤ book .k
+  few-entries = omega (arith, i .count, length-book (sites a) (sites b) book)
 
   -- The marks tell the settled jobs of the book.
   pub settled-done : List·Permᴰ (book .done) (settledJobs c)
@@ -138,19 +143,37 @@ module _ {a b : Columns} {c : Campaign} {r : Results} {book : Book} (i : Invaria
         eq-eqb _ _ right-count,
       )
 
--- What holds of the grid and of B beside the book: B's customer is one, and no mark is out of place.
-pub record Standing (customer : ℕ) (a b : Columns) (bench : Bench) (book : Book) : Type 0 where
+-- What stays from the opening on: the cut ends, and the lengths of B's columns.
+pub record Fixed : Type 0 where
+  pub ends : List ℕ
+  pub ends' : List ℕ
+  pub lengths : ℕ × ℕ × ℕ
+
+abbrev pub fixedOf : Bench → Book → Fixed
+fixedOf bench book = record { ends = book .ends; ends' = book .ends'; lengths = lengthsOf (bench .results) }
+
+-- What holds of the grid and of B beside the book: B's customer is one, no mark is out of place, what is fixed stays.
+pub record Standing (customer : ℕ) (a b : Columns) (fixed : Fixed) (bench : Bench) (book : Book) : Type 0 where
   pub number : isCustomer customer ≡ true
   pub lawful : lawfulGrid (bench .grid) ≡ true
   pub campaign : Invariant a b (campaignAs customer (bench .grid)) (bench .results) book
+  pub stays : fixedOf bench book ≡ fixed
 
-module _ {customer : ℕ} {a b : Columns} {bench : Bench} {book : Book} (s : Standing customer a b bench book) where
-  -- Never 7, and never 15, 1, 2 or 3.
+module _ {customer : ℕ} {a b : Columns} {fixed : Fixed} {bench : Bench} {book : Book}
+    (s : Standing customer a b fixed bench book) where
+  -- Never 15, 1, 2 or 3, ..
+  caller-accepted : callerRefusal customer a b ≡ 0
+  unfolding callerRefusal customerRefusal orElse
+  caller-accepted = simp (s .number, s .campaign .lists)
+
+  -- .. and never 7.
+  keeper-accepted : keeperRefusal customer (bench .grid) (sites a) (sites b) (bench .results) ≡ 0
+  unfolding keeperRefusal
+  keeper-accepted = simp (s .lawful, campaign-sound (s .campaign))
+
   pub campaign-accepted : campaignRefusal customer (bench .grid) a b (bench .results) ≡ 0
-  unfolding campaignRefusal customerRefusal orElse
-  campaign-accepted =
-      let i = s .campaign in
-      simp (s .number, i .lists, s .lawful, campaign-sound i)
+  unfolding campaignRefusal
+  campaign-accepted = or-none (callerRefusal customer a b) _ caller-accepted ∙ keeper-accepted
 
   -- "its job refusals .. are those of document 01's book".
   pub job-refusal : (j : Job) → jobRefusal customer (bench .grid) a b (bench .results) j ≡ bookRefusal book j
@@ -164,6 +187,13 @@ module _ {customer : ℕ} {a b : Columns} {bench : Bench} {book : Book} (s : Sta
       let inside = in-grid (length (book .ends)) (length (book .ends')) j t in
       rw t (ap (λ (x : Bool). cond x 9 0) (i .settles j inside)))
       (λ f. rw f))
+
+  -- So are its lowerings' refusals.
+  pub lower-refusal : (k : ℕ) → lowerRefusal customer (bench .grid) a b k (bench .results) ≡ bookLowering book k
+  unfolding lowerRefusal bookLowering
+  lower-refusal k =
+      or-none (callerRefusal customer a b) _ caller-accepted
+      ∙ rw (keeper-accepted, s .campaign .k) (or-nothing (refuseIf (not (lowersTo (book .k) k)) 4))
 
   -- "and status answers".
   pub status-answer : statusAnswer customer (bench .grid) a b (bench .results)

@@ -4,7 +4,7 @@ use mathlib.Core.Bool.{true}
 use mathlib.Core.List.{List, [], map, List·Memᴰ}
 use Prim.Native.Nat.{ℕ, _≤_}
 use lib.Dec.{ltb}
-use lib.ListN.{length, take, length-map}
+use lib.ListN.{length}
 use borrow.Author.Tests.{ltb-true, ltb-false}
 use Rattle.order.specs.Sort.{sort}
 use Rattle.order.proofs.Best.{best, length-best}
@@ -12,8 +12,6 @@ use Rattle.order.proofs.Order.{byTest, never-both}
 use Rattle.order.proofs.Lists.{all-mem}
 use Rattle.order.proofs.Sorted.{mem-best, distinct-best, sorted-best, sort-sorted, ascends-best, ascends-ascending}
 use Rattle.order.proofs.Choice.{sort-weights, no-equal-choice-better, best-none-better}
-use Rattle.column.specs.Column.{overwritten}
-use Rattle.column.proofs.Overwritten.{take-overwritten}
 use Rattle.site.specs.Site.{Site}
 use Rattle.site.specs.Answer.{answered}
 use Rattle.site.specs.SiteList.{Columns, sites}
@@ -71,11 +69,6 @@ module _ (a b : List Site) (k : ℕ) where
     closest = λ e h m out n. let t = k-list-before e h m out n in (t, rank-grows h e t);
     noneBetter = k-list-none-better;
   }
-
--- The written columns begin with the entries' numbers.
-pub written : (l : List Entry) (f : Entry → ℕ) (column : List ℕ)
-    → take (length l) (overwritten (map f l) column) ≡ map f l
-written l f column = rw (← length-map l f) (take-overwritten (map f l) column)
 
 -- The values of an accepted K list.
 pub k-list-values : (way : Join) (a b : Columns) (k : ℕ) (r : Results) (v : KListValues)

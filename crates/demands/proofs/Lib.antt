@@ -1,11 +1,12 @@
--- The proofs of the users' demands 2 and 3, of the forecast and the prices beside demand 2, of the customers apart, and of the
--- fixed examples.
+-- The proofs of the users' demands 2 and 3, of the forecast and the prices beside demand 2, of the customers apart, of a
+-- smaller K in mid-campaign, and of the fixed examples.
 pub mod Examples
 pub mod KClosest
 pub mod Demand2
 pub mod Forecast
 pub mod Prices
 pub mod Accepted
+pub mod Marks
 pub mod GridAfter
 pub mod Readings
 pub mod Customers
@@ -13,3 +14,4 @@ pub mod Book
 pub mod Invariant
 pub mod History
 pub mod Demand3
+pub mod SmallerK

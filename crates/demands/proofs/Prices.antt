@@ -24,6 +24,7 @@ use Rattle.entry.specs.declared.Entry.{Entry}
 use Rattle.entry.specs.Entry.{rankBefore, bestK, lawfulK}
 use Rattle.entry.specs.Results.{Results, holding}
 use Rattle.entry.proofs.Rank.{k-limits}
+use Rattle.entry.proofs.Below.{written}
 use Rattle.bands.specs.Bands.{lastTo}
 use Rattle.bands.proofs.Entries.{Entries}
 use Rattle.bands.proofs.Cover.{every-distance-once, every-entry-priced, accepted-priced}
@@ -32,7 +33,7 @@ use Rattle.sweep.proofs.Strip.{mem-pairs}
 use Rattle.pairs.specs.KList.{kList, kListRefusal, kListAnswer}
 use Rattle.pairs.proofs.KList.{lists-accepted, rest-accepted}
 use Rattle.demands.specs.Prices.{AsLent, EntriesArePriced, PricesHold}
-use Rattle.demands.proofs.KClosest.{written, k-list-values}
+use Rattle.demands.proofs.KClosest.{k-list-values}
 
 -- ---- how far apart two sites are
 

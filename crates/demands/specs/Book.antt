@@ -9,10 +9,11 @@ use Rattle.site.specs.Site.{Site}
 use Rattle.site.specs.Answer.{refuseIf, orElse}
 use Rattle.entry.specs.declared.Entry.{Entry}
 use Rattle.entry.specs.Entry.{bestK}
+use Rattle.customers.specs.Customers.{lowersTo}
 use Rattle.campaign.specs.Grid.{Job, jobs, jobsPairs}
 use Rattle.campaign.specs.Calls.{StatusValues, statusValues}
 
--- K and the cut ends of the opening, and the settled jobs.
+-- The K in force, the cut ends of the opening, and the settled jobs.
 pub record Book : Type 0 where
   pub k : ℕ
   pub ends : List ℕ
@@ -32,6 +33,10 @@ unfoldable pub bookRefusal : Book → Job → ℕ
 bookRefusal book j =
     orElse (refuseIf (not (ltb (j .first) (length (book .ends)) && ltb (j .second) (length (book .ends')))) 8)
     (refuseIf (isDone j (book .done)) 9)
+
+-- 02 j: a lowering gets 4 where it is not "to any number from 1 to the present K".
+unfoldable pub bookLowering : Book → ℕ → ℕ
+bookLowering book k = refuseIf (not (lowersTo (book .k) k)) 4
 
 -- "the first K by rank of the settled jobs' pairs, or all where there are fewer, in rank order."
 unfoldable pub bookEntries : List Site → List Site → Book → List Entry

@@ -16,7 +16,7 @@ use Rattle.customers.specs.declared.Grid.{Grid}
 use Rattle.customers.specs.Customers.{isCustomer, campaignAs}
 use Rattle.campaign.specs.Grid.{Job}
 use Rattle.campaign.specs.Soundness.{firstEnds, secondEnds, lawfulGrid}
-use Rattle.campaign.specs.Calls.{prepareAnswer, openAnswer, jobAnswer, StatusValues, statusAnswer}
+use Rattle.campaign.specs.Calls.{prepareAnswer, openAnswer, lowerAnswer, jobAnswer, StatusValues, statusAnswer}
 
 -- "a customer reads the ends and their own K, marks and entry count": of the ends, for each list, those in use.
 pub record Reading : Type 0 where
@@ -43,15 +43,16 @@ readingOf c =
 unfoldable pub reading : ℕ → Grid → Reading
 reading customer g = readingOf (campaignAs customer g)
 
--- A customer's call, beside the grid, the two lists and the columns that it gets: an opening with its K and ends, a job by any
--- of the three ways, or status.
+-- A customer's call, beside the grid, the two lists and the columns that it gets: an opening with its K and ends, a
+-- lowering to a smaller K, a job by any of the three ways, or status.
 pub data Act : Type 0 where
   opening : ℕ → List ℕ → List ℕ → Act
+  lowering : ℕ → Act
   job : Job → Join → Act
   status : Act
 
--- What a success tells: an opening or a preparing the grid, a job the grid, its columns, whether it was swept, and its counts.
--- "nothing else in it counts as told": of the grid, what the customer reads.
+-- What a success tells: an opening, a lowering or a preparing the grid, a job the grid, its columns, whether it was
+-- swept, and its counts. "nothing else in it counts as told": of the grid, what the customer reads.
 pub data Told : Type 0 where
   grid : Reading → Told
   done : Reading → Results → ℕ → Counts → Told
@@ -75,6 +76,8 @@ mapAnswer f (answered values) = answered (f values)
 unfoldable pub answerTo : ℕ → Grid → Columns → Columns → Results → Act → Answer Success
 answerTo customer g a b r (opening k ends ends') =
     mapAnswer (λ g'. success g' r (grid (reading customer g'))) (openAnswer customer g a b k ends ends' r)
+answerTo customer g a b r (lowering k) =
+    mapAnswer (λ g'. success g' r (grid (reading customer g'))) (lowerAnswer customer g a b k r)
 answerTo customer g a b r (job j way) =
     mapAnswer
     (λ v. success (v .grid) (v .results) (done (reading customer (v .grid)) (v .results) (v .swept) (v .counts)))
@@ -93,13 +96,15 @@ columnsAfter customer g a b r act = afterwards (λ v. v .columns) (answerTo cust
 
 -- ---- what a customer is told
 
--- "a customer's other calls before opening get 7", their K being 0, and 15 and the lists' 1 to 3 coming first.
+-- "a customer's other calls before opening get 7", their K being 0, and 15 and the lists' 1 to 3 coming first; a
+-- lowering gets "4, before opening too". (02 j)
 unfoldable pub BeforeOpening : Type 0
 BeforeOpening =
     (customer : ℕ) → isCustomer customer ≡ true → (g : Grid) → reading customer g .k ≡ 0
     → (a b : Columns) → listsRefusal a b ≡ 0 → (r : Results)
     → ((j : Job) (way : Join) → told customer g a b r (job j way) ≡ refused 7)
     × (told customer g a b r status ≡ refused 7)
+    × ((k : ℕ) → told customer g a b r (lowering k) ≡ refused 4)
 
 -- "Opening as one customer clears that customer's marks and entry count only": what a customer reads stays at an opening, and
 -- at any other call, by another number.

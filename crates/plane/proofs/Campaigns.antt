@@ -1,4 +1,4 @@
--- Every height 0: preparing, opening, jobs and status.
+-- Every height 0: preparing, opening, a smaller K, jobs and status.
 use mathlib.Core.Path.{_≡_, ap, ap₂, _∙_}
 use mathlib.Core.Bool.{_&&_}
 use mathlib.Core.List.{List, map, flatMap}
@@ -22,8 +22,8 @@ use Rattle.customers.specs.declared.Campaign.{Campaign}
 use Rattle.customers.specs.declared.Grid.{Grid}
 use Rattle.customers.specs.Customers.{campaignAs}
 use Rattle.campaign.specs.Grid.{Job, jobOf, stripAt, stripHolding, settled, settledJobs, jobPairs, jobsPairs}
-use Rattle.campaign.specs.Soundness.{firstEnds, secondEnds, soundEntry, sound, campaignRefusal}
-use Rattle.campaign.specs.Calls.{lawfulCuts, prepareRefusal, prepareAnswer, openRefusal, openAnswer, jobRefusal, skips, jobEntries, jobAnswer, statusAnswer}
+use Rattle.campaign.specs.Soundness.{firstEnds, secondEnds, soundEntry, sound, callerRefusal, keeperRefusal, campaignRefusal}
+use Rattle.campaign.specs.Calls.{lawfulCuts, prepareRefusal, prepareAnswer, openRefusal, openAnswer, lowerRefusal, lowerAnswer, jobRefusal, skips, jobEntries, jobAnswer, statusAnswer}
 use Rattle.plane.proofs.PairLists.{ground-join, ground-pairs}
 
 -- ---- strips of any sites
@@ -91,20 +91,38 @@ module _ (a b : Columns) (pa : Plane a) (pb : Plane b) where
   unfolding prepareAnswer prepareRefusal lawfulCuts
   prepare-same ends ends' = rw (ground-lists a b pa pb)
 
-  module _ (customer : ℕ) (g : Grid) where
-    pub open-same : (k : ℕ) (ends ends' : List ℕ) (r : Results)
-        → openAnswer customer g (onGround a) (onGround b) k ends ends' r ≡ openAnswer customer g a b k ends ends' r
-    unfolding openAnswer openRefusal lawfulCuts
-    open-same k ends ends' r = rw (ground-lists a b pa pb)
+  module _ (customer : ℕ) where
+    caller-same : callerRefusal customer (onGround a) (onGround b) ≡ callerRefusal customer a b
+    unfolding callerRefusal
+    caller-same = rw (ground-lists a b pa pb)
 
-    refusal-same : (r : Results) → campaignRefusal customer g (onGround a) (onGround b) r ≡ campaignRefusal customer g a b r
-    unfolding campaignRefusal
-    refusal-same r =
-        rw (ground-lists a b pa pb, ground-sites a pa, ground-sites b pb, sound-same (sites a) (sites b) (campaignAs customer g) r)
+    module _ (g : Grid) where
+      pub open-same : (k : ℕ) (ends ends' : List ℕ) (r : Results)
+          → openAnswer customer g (onGround a) (onGround b) k ends ends' r ≡ openAnswer customer g a b k ends ends' r
+      unfolding openAnswer openRefusal lawfulCuts
+      open-same k ends ends' r = rw caller-same
 
-    pub status-same : (r : Results) → statusAnswer customer g (onGround a) (onGround b) r ≡ statusAnswer customer g a b r
-    unfolding statusAnswer
-    status-same r = rw (refusal-same r)
+      keeper-same : (r : Results)
+          → keeperRefusal customer g (sites (onGround a)) (sites (onGround b)) r
+          ≡ keeperRefusal customer g (sites a) (sites b) r
+      unfolding keeperRefusal
+      keeper-same r =
+          rw (ground-sites a pa, ground-sites b pb, sound-same (sites a) (sites b) (campaignAs customer g) r)
+
+      pub lower-same : (k : ℕ) (r : Results)
+          → lowerAnswer customer g (onGround a) (onGround b) k r ≡ lowerAnswer customer g a b k r
+      unfolding lowerAnswer lowerRefusal
+      lower-same k r = rw (caller-same, keeper-same r)
+
+      refusal-same : (r : Results)
+          → campaignRefusal customer g (onGround a) (onGround b) r ≡ campaignRefusal customer g a b r
+      unfolding campaignRefusal
+      refusal-same r = rw (caller-same, keeper-same r)
+
+      pub status-same : (r : Results)
+          → statusAnswer customer g (onGround a) (onGround b) r ≡ statusAnswer customer g a b r
+      unfolding statusAnswer
+      status-same r = rw (refusal-same r)
 
   pub job-same : (way : Join) (customer : ℕ) (g : Grid) (r : Results) (j : Job)
       → jobAnswer way customer g (onGround a) (onGround b) r j ≡ jobAnswer way customer g a b r j

@@ -1,7 +1,7 @@
 -- Two lists with every height 0 give the answers of the plane.
 use Rattle.plane.specs.Plane.{HeightsOfZero}
 use Rattle.plane.proofs.PairLists.{k-list-same, distance-list-same, forecast-same}
-use Rattle.plane.proofs.Campaigns.{prepare-same, open-same, job-same, status-same}
+use Rattle.plane.proofs.Campaigns.{prepare-same, open-same, lower-same, job-same, status-same}
 
 pub heights-of-zero : HeightsOfZero
 unfolding HeightsOfZero
@@ -11,6 +11,7 @@ heights-of-zero a b p q = record {
   forecasts = forecast-same a b p q;
   preparings = prepare-same a b p q;
   openings = open-same a b p q;
+  lowerings = lower-same a b p q;
   jobs = job-same a b p q;
   statuses = status-same a b p q;
 }

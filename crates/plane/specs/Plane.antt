@@ -10,7 +10,7 @@ use Rattle.pairs.specs.DistanceList.{distanceAnswer}
 use Rattle.pairs.specs.Forecast.{forecastAnswer}
 use Rattle.customers.specs.declared.Grid.{Grid}
 use Rattle.campaign.specs.Grid.{Job}
-use Rattle.campaign.specs.Calls.{prepareAnswer, openAnswer, jobAnswer, statusAnswer}
+use Rattle.campaign.specs.Calls.{prepareAnswer, openAnswer, lowerAnswer, jobAnswer, statusAnswer}
 
 -- What two lists of the plane are answered, they are answered with every height 0: refusals, counts and columns too.
 pub record PlaneAnswers (a b : Columns) : Type 0 where
@@ -26,6 +26,9 @@ pub record PlaneAnswers (a b : Columns) : Type 0 where
   pub openings :
       (customer : ℕ) (g : Grid) (k : ℕ) (ends ends' : List ℕ) (r : Results)
       → openAnswer customer g (onGround a) (onGround b) k ends ends' r ≡ openAnswer customer g a b k ends ends' r
+  pub lowerings :
+      (customer : ℕ) (g : Grid) (k : ℕ) (r : Results)
+      → lowerAnswer customer g (onGround a) (onGround b) k r ≡ lowerAnswer customer g a b k r
   pub jobs :
       (way : Join) (customer : ℕ) (g : Grid) (r : Results) (j : Job)
       → jobAnswer way customer g (onGround a) (onGround b) r j ≡ jobAnswer way customer g a b r j

@@ -1,4 +1,4 @@
-// Preparing a grid, opening a customer's campaign on it, its jobs and its status. A grid crosses in its parts, each behind a
+// Preparing a grid, opening a customer's campaign on it, a smaller K, its jobs and its status. A grid crosses in its parts, each behind a
 // reference.
 ghost use mathlib.Core.Path.{_≡_};
 ghost use Rattle.column.specs.Lent.{the, _of_, _with_};
@@ -11,6 +11,7 @@ ghost use Rattle.campaign.specs.Grid.{jobOf};
 ghost use Rattle.campaign.specs.Calls.{
   prepareAnswer,
   openAnswer,
+  lowerAnswer,
   jobValues,
   jobAnswer,
   jobDoneAnswer,
@@ -255,6 +256,86 @@ pub extern "C" fn vumlintel_open(
     let opened = answered.grid;
     put(
         opened,
+        first_strips,
+        second_strips,
+        first_ends,
+        second_ends,
+        marks,
+        k1,
+        entries1,
+        k2,
+        entries2,
+    );
+    0
+}
+
+// A smaller K: the grid with the customer's campaign cut to it.
+#[no_mangle]
+pub extern "C" fn vumlintel_lower_k(
+    first_strips: &mut u32,
+    second_strips: &mut u32,
+    first_ends: &mut [u32; 32],
+    second_ends: &mut [u32; 32],
+    marks: &mut [u8; 1024],
+    k1: &mut u32,
+    entries1: &mut u32,
+    k2: &mut u32,
+    entries2: &mut u32,
+    customer: u32,
+    ax: &[i32],
+    ay: &[i32],
+    an: &[u32],
+    ah: &[i32],
+    bx: &[i32],
+    by: &[i32],
+    bn: &[u32],
+    bh: &[i32],
+    k: u32,
+    distance: &[u64],
+    first: &[u32],
+    second: &[u32],
+) -> u32
+    ensures { λ r.
+        let g = lentGrid «first_strips» «second_strips» «first_ends» «second_ends» marks k1 entries1 k2 entries2 in
+        let a = lentList ax ay an ah .entry in
+        let b = lentList bx by bn bh .entry in
+        let l = lentResults distance first second .entry in
+        ⌜ Crosses (lowerAnswer customer (g .entry) a b k l) r g ⌝ }
+{
+    let g = get(
+        first_strips,
+        second_strips,
+        first_ends,
+        second_ends,
+        marks,
+        k1,
+        entries1,
+        k2,
+        entries2,
+    );
+    let answered = campaign::calls::lower_k(
+        customer,
+        g,
+        ax,
+        ay,
+        an,
+        ah,
+        bx,
+        by,
+        bn,
+        bh,
+        k,
+        distance,
+        first,
+        second,
+    );
+    let fault = answered.refusal;
+    if fault != 0 {
+        return fault;
+    }
+    let lowered = answered.grid;
+    put(
+        lowered,
         first_strips,
         second_strips,
         first_ends,
