@@ -631,6 +631,22 @@ fn status(a: &Columns, b: &Columns, k: usize, strips: usize, g: &Grid, r: &Resul
     assert_eq!((number, settled, jobs, got), (0, all, all, k as u32));
 }
 
+/// A lowering of customer 1's K to the present one, which changes nothing: the tests of both lists, 4 and refusal 7.
+fn lowered(a: &Columns, b: &Columns, k: usize, g: &mut Grid, r: &Results) {
+    let ([fs, ss], [k1, e1, k2, e2]) = (&mut g.strips, &mut g.shares);
+    let number = unsafe {
+        raw::vumlintel_lower_k(
+            fs, ss, &mut g.first_ends, &mut g.second_ends, &mut g.marks, k1, e1, k2, e2, 1,
+            a.x.as_ptr(), a.x.len(), a.y.as_ptr(), a.y.len(), a.number.as_ptr(), a.number.len(),
+            a.height.as_ptr(), a.height.len(),
+            b.x.as_ptr(), b.x.len(), b.y.as_ptr(), b.y.len(), b.number.as_ptr(), b.number.len(),
+            b.height.as_ptr(), b.height.len(),
+            k as u32, r.distance.as_ptr(), k, r.first.as_ptr(), k, r.second.as_ptr(), k,
+        )
+    };
+    assert_eq!(number, 0);
+}
+
 /// All 256 jobs in ordinary Rust, on lists that `keep` makes: what `join` counts, jobs skipped, and the entries.
 fn plain_jobs<L: KList>(
     a: List,
@@ -718,8 +734,8 @@ fn campaign_by_halves(name: &str, a: &Columns, b: &Columns, k: usize) {
     );
 }
 
-/// Statuses of a campaign on even lists of 65,535 sites, and of one on lists of that length at one position, each with all
-/// jobs settled. There the jobs are settled by hand: doing them takes 65,535 times 65,535 looks.
+/// Statuses of a campaign on even lists of 65,535 sites, and lowerings of its K, and statuses of one on lists of that length at
+/// one position, each with all jobs settled. There the jobs are settled by hand: doing them takes 65,535 times 65,535 looks.
 fn one_position(r: &mut Random, k: usize, strips: usize) {
     let most = 65_535;
     let (a, b) = (even(r, most), even(r, most));
@@ -729,13 +745,15 @@ fn one_position(r: &mut Random, k: usize, strips: usize) {
     all_jobs(classic_job, &a, &b, k, strips, &mut g, &mut held);
     opened(&p, &q, k, strips, &mut d, &mut none);
     d.marks = g.marks;
-    let [spread, stacked] = least([
-        &mut || (0..100).for_each(|_| status(&a, &b, k, strips, &g, &held)),
+    let g = RefCell::new(g);
+    let [spread, stacked, lowerings] = least([
+        &mut || (0..100).for_each(|_| status(&a, &b, k, strips, &g.borrow(), &held)),
         &mut || (0..100).for_each(|_| status(&p, &q, k, strips, &d, &none)),
+        &mut || (0..100).for_each(|_| lowered(&a, &b, k, &mut g.borrow_mut(), &held)),
     ]);
     println!(
         "100 statuses, {strips} strips a list, K {k}: even lists of {most} sites {spread:.2} ms, at one position \
-         {stacked:.2} ms, ratio {:.2}",
+         {stacked:.2} ms, ratio {:.2}; 100 lowerings of K on the even lists {lowerings:.2} ms",
         stacked / spread,
     );
 }

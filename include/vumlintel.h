@@ -9,7 +9,8 @@
  *                                the length
  *   VUMLINTEL_LIMITS          2  an x or y outside -1,000,000,000 to 1,000,000,000, or a height outside -10,000 to 10,000
  *   VUMLINTEL_ORDER           3  sites not strictly ascending by x, then y, then number
- *   VUMLINTEL_K               4  K is 0 or above 4,096
+ *   VUMLINTEL_K               4  K is 0 or above 4,096; lowering K: it is 0 or above the customer's present K, which is 0
+ *                                before they have opened
  *   VUMLINTEL_CUT_ENDS        5  cut ends unlawful: at most 32, strictly ascending, each above 0, the last the list's length;
  *                                opening: cut ends other than the grid's
  *   VUMLINTEL_ROOM            6  a result column shorter than K, too few elements for the pairs found, a forecast's column
@@ -202,6 +203,22 @@ uint32_t vumlintel_open(uint32_t *first_strips, uint32_t *second_strips, uint32_
                         size_t first_cuts_length, const uint32_t *second_cuts, size_t second_cuts_length,
                         const uint64_t *distance, size_t distance_length, const uint32_t *first, size_t first_length,
                         const uint32_t *second, size_t second_length);
+
+/*
+ * Lowers the K of one customer in mid-campaign, to any number from 1 to their present K. Their marks stay, and their entries
+ * are cut: the entry count becomes the lesser of the new K and what it was. The result columns are not written, so that what
+ * was cut still stands in them past the entries, and what the other customer has in the grid stays. Answers the grid, or 15,
+ * 1, 2, 3 for each list, 4 (every K before they have opened), 7 (as for status, with the present K).
+ * Where only campaign calls write the grid and the columns, and the lists stay, all later answers and entries are, until K
+ * changes again, as if the campaign had been opened with the smaller K and the same jobs settled. K goes up by opening alone.
+ */
+uint32_t vumlintel_lower_k(uint32_t *first_strips, uint32_t *second_strips, uint32_t first_ends[32], uint32_t second_ends[32],
+                           uint8_t marks[1024], uint32_t *k1, uint32_t *entries1, uint32_t *k2, uint32_t *entries2,
+                           uint32_t customer, const int32_t *ax, size_t axs, const int32_t *ay, size_t ays, const uint32_t *an,
+                           size_t ans, const int32_t *ah, size_t ahs, const int32_t *bx, size_t bxs, const int32_t *by,
+                           size_t bys, const uint32_t *bn, size_t bns, const int32_t *bh, size_t bhs, uint32_t k,
+                           const uint64_t *distance, size_t distance_length, const uint32_t *first, size_t first_length,
+                           const uint32_t *second, size_t second_length);
 
 /*
  * Does the job of a strip of each list for one customer, by the classic sweep or by Reverse Run. It is skipped where K entries

@@ -307,6 +307,28 @@ pub fn open(g: &mut Grid, customer: u32, a: &Columns, b: &Columns, o: Opening, r
     told(number, (), ())
 }
 
+/// The grid is changed in place by an accepted lowering.
+pub fn lower_k(g: &mut Grid, customer: u32, a: &Columns, b: &Columns, k: u32, r: &Results) -> Result<(), u32> {
+    let (p, q) = (LentList::new(a), LentList::new(b));
+    let l = LentResults::new(r);
+    let [one, two] = &mut g.shares;
+    let number = unsafe {
+        raw::vumlintel_lower_k(
+            &mut g.first_strips, &mut g.second_strips, &mut g.first_ends, &mut g.second_ends, &mut g.marks,
+            &mut one.k, &mut one.entries, &mut two.k, &mut two.entries,
+            customer,
+            p.x.shared(), p.x.len(), p.y.shared(), p.y.len(), p.n.shared(), p.n.len(), p.h.shared(), p.h.len(),
+            q.x.shared(), q.x.len(), q.y.shared(), q.y.len(), q.n.shared(), q.n.len(), q.h.shared(), q.h.len(),
+            k,
+            l.distance.shared(), l.distance.len(), l.first.shared(), l.first.len(), l.second.shared(), l.second.len(),
+        )
+    };
+    p.unchanged(a);
+    q.unchanged(b);
+    assert!(l.back() == *r, "lowering wrote a result column");
+    told(number, (), ())
+}
+
 /// Whether the job was swept, and the counters; the grid and the columns are changed in place.
 pub fn job(
     way: Way,

@@ -1,5 +1,5 @@
-//! Preparing, opening, jobs and status beside the brute force, and whole histories of one customer beside their book. The other
-//! customer's part of the grid holds anything meanwhile.
+//! Preparing, opening, lowering K, jobs and status beside the brute force, and whole histories of one customer beside their
+//! book. The other customer's part of the grid holds anything meanwhile.
 
 use crate::calls;
 use crate::harness::{Harness, progress};
@@ -138,6 +138,23 @@ pub fn same_open(bench: &mut Bench, k: u32, first: &[u32], second: &[u32]) -> Re
     answer
 }
 
+pub fn same_lower(bench: &mut Bench, k: u32) -> Result<(), u32> {
+    let before = bench.g.clone();
+    let expected = model::lower_k(&before, bench.customer, &bench.a, &bench.b, k, &bench.r);
+    let answer = calls::lower_k(&mut bench.g, bench.customer, &bench.a, &bench.b, k, &bench.r);
+    match expected {
+        Ok(grid) => {
+            assert_eq!(answer, Ok(()), "customer {} lowers K to {k}", bench.customer);
+            assert!(bench.g == grid, "the grid differs: {:?}", bench.g);
+        }
+        Err(refusal) => {
+            assert_eq!(answer, Err(refusal), "customer {} lowers K to {k}", bench.customer);
+            assert!(bench.g == before, "a refused lowering changed the grid");
+        }
+    }
+    answer
+}
+
 pub fn same_job(way: Way, bench: &mut Bench, s: u32, t: u32) -> Result<bool, u32> {
     let before = bench.clone();
     let customer = bench.customer;
@@ -166,6 +183,15 @@ pub fn same_status(bench: &Bench) -> Result<Status, u32> {
     answer
 }
 
+/// Bench A: the K list by the classic sweep, with a campaign's lists and the K in force, has the campaign's entries.
+pub fn same_as_one_sweep(r: &mut Random, bench: &Bench) {
+    let Share { k, entries } = *bench.share();
+    let mut whole = results(r, [k as usize; 3]);
+    let (count, _) = calls::k_list(Way::Classic, &bench.a, &bench.b, k, &mut whole).unwrap();
+    assert_eq!(count, entries);
+    assert_eq!(whole.entries(count as usize), bench.r.entries(count as usize));
+}
+
 /// Lawful cut ends of a list, at random places.
 pub fn cuts(r: &mut Random, sites: usize) -> Vec<u32> {
     if sites == 0 {
@@ -180,6 +206,19 @@ pub fn cuts(r: &mut Random, sites: usize) -> Vec<u32> {
         ends.drain(..ends.len() - 32);
     }
     ends
+}
+
+/// A K to lower this one to: an allowed one as a rule, if there is any; now and then 0, or one above.
+pub fn lower_to(r: &mut Random, present: u32) -> u32 {
+    match r.below(10) {
+        0 => 0,
+        1 => present.wrapping_add(1),
+        2 => [u32::MAX, present.wrapping_add(1 << r.below(32)), r.next() as u32][r.below(3)],
+        3 => 1,
+        4 => present,
+        5 => present.saturating_sub(1),
+        _ => 1 + r.below(present.max(1) as usize) as u32,
+    }
 }
 
 /// A strip number, now and then one that is not below the count.
@@ -366,7 +405,8 @@ pub fn tamper(r: &mut Random, bench: &mut Bench) {
 }
 
 /// What a history showed: refusals, faults of refusal 7, by each way jobs swept, skipped and repeated, jobs skipped though the
-/// x gap alone would not do, and though the x and y gaps would not, and tampered grids that passed.
+/// x gap alone would not do, and though the x and y gaps would not, tampered grids that passed, lowerings that were accepted,
+/// and histories with no open job at their end.
 #[derive(Default)]
 struct Seen {
     refusals: BTreeMap<u32, u32>,
@@ -377,6 +417,7 @@ struct Seen {
     by_y: u32,
     by_height: u32,
     passed: u32,
+    lowered: u32,
     complete: u32,
 }
 
@@ -399,6 +440,8 @@ fn tampered_calls(r: &mut Random, bench: &Bench, seen: &mut Seen) {
         }
     }
     seen.told(same_status(&other));
+    let k = lower_to(r, other.share().k);
+    seen.told(same_lower(&mut other.clone(), k));
     for way in WAYS {
         let s = r.below(other.g.first_strips.min(32) as usize + 1) as u32;
         let t = r.below(other.g.second_strips.min(32) as usize + 1) as u32;
@@ -415,6 +458,25 @@ fn swept_by(gaps: usize, bench: &Bench, s: u32, t: u32) -> bool {
         strip(model::strip_range(&bench.g.second_ends, t as usize), &b),
     );
     squares[..gaps].iter().sum::<i128>() <= bench.r.distance[bench.share().k as usize - 1] as i128
+}
+
+/// A job held to the brute force and to the book.
+fn job_in_history(r: &mut Random, bench: &mut Bench, book: &mut Book, strips: [usize; 2], seen: &mut Seen) {
+    let [s, t] = strips.map(|n| strip_number(r, n));
+    let before = bench.clone();
+    let way = r.below(3);
+    let answer = same_job(WAYS[way], bench, s, t);
+    assert_eq!(answer.err().unwrap_or(0), book.job(s, t), "the book answers otherwise");
+    match answer {
+        Ok(true) => seen.swept[way] += 1,
+        Ok(false) => {
+            seen.skipped[way] += 1;
+            seen.by_y += swept_by(1, &before, s, t) as u32;
+            seen.by_height += swept_by(2, &before, s, t) as u32;
+        }
+        Err(refusal) => seen.repeated[way] += (refusal == 9) as u32,
+    }
+    seen.told(answer);
 }
 
 /// One history of a customer: an opening, then calls of every kind, each held to the brute force and to the book.
@@ -439,36 +501,23 @@ fn history(r: &mut Random, kind: usize, seen: &mut Seen) {
                 assert!(answer.is_err());
                 seen.told(answer);
             }
-            _ => {
-                let (s, t) = (strip_number(r, first.len()), strip_number(r, second.len()));
-                let before = bench.clone();
-                let way = r.below(3);
-                let answer = same_job(WAYS[way], &mut bench, s, t);
-                assert_eq!(answer.err().unwrap_or(0), book.job(s, t), "the book answers otherwise");
-                match answer {
-                    Ok(true) => seen.swept[way] += 1,
-                    Ok(false) => {
-                        seen.skipped[way] += 1;
-                        seen.by_y += swept_by(1, &before, s, t) as u32;
-                        seen.by_height += swept_by(2, &before, s, t) as u32;
-                    }
-                    Err(refusal) => seen.repeated[way] += (refusal == 9) as u32,
-                }
+            3 if r.once_in(3) => {
+                let k = lower_to(r, bench.share().k);
+                let answer = same_lower(&mut bench, k);
+                assert_eq!(answer.err().unwrap_or(0), book.lower(k), "the book answers otherwise");
+                seen.lowered += answer.is_ok() as u32;
                 seen.told(answer);
             }
+            _ => job_in_history(r, &mut bench, &mut book, [first.len(), second.len()], seen),
         }
         let status = book.status();
         assert_eq!(calls::status(&bench.g, customer, &bench.a, &bench.b, &bench.r), Ok(status));
         assert_eq!(bench.r.entries(status.entries as usize), book.entries(), "the book holds other entries");
     }
-    if !book.no_open_job() {
-        return;
+    if book.no_open_job() {
+        seen.complete += 1;
+        same_as_one_sweep(r, &bench);
     }
-    seen.complete += 1;
-    let mut whole = results(r, lengths);
-    let (count, _) = calls::k_list(Way::Classic, &bench.a, &bench.b, k, &mut whole).unwrap();
-    assert_eq!(count, bench.share().entries);
-    assert_eq!(whole.entries(count as usize), bench.r.entries(count as usize));
 }
 
 fn histories(r: &mut Random) {
@@ -478,7 +527,7 @@ fn histories(r: &mut Random) {
         progress(round, rounds);
         history(r, round, &mut seen);
     }
-    for number in [0, 1, 2, 3, 5, 7, 8, 9] {
+    for number in [0, 1, 2, 3, 4, 5, 7, 8, 9] {
         assert!(seen.refusals.get(&number).is_some_and(|n| *n > 50), "{:?}", seen.refusals);
     }
     let faults = [
@@ -491,7 +540,7 @@ fn histories(r: &mut Random) {
     for jobs in [seen.swept, seen.skipped, seen.repeated] {
         assert!(jobs.iter().all(|n| *n > 1_000), "{:?} {:?} {:?}", seen.swept, seen.skipped, seen.repeated);
     }
-    assert!(seen.passed > 50 && seen.complete > 50);
+    assert!(seen.passed > 50 && seen.complete > 50 && seen.lowered > 500, "{} {} {}", seen.passed, seen.complete, seen.lowered);
     assert!(seen.by_y > 100 && seen.by_height > 100, "{} {}", seen.by_y, seen.by_height);
 }
 

@@ -3,8 +3,8 @@
 
 use crate::calls;
 use crate::campaigns::{
-    Bench, any_part, anything, cuts, either, opened, other_customer, prepared, results, same_job, same_open, same_prepare,
-    same_status, strip_number, tamper,
+    Bench, any_part, anything, cuts, either, lower_to, opened, other_customer, prepared, results, same_as_one_sweep, same_job,
+    same_lower, same_open, same_prepare, same_status, strip_number, tamper,
 };
 use crate::harness::{Harness, progress};
 use crate::lists::{MAX, damaged, f, lawful};
@@ -13,22 +13,24 @@ use crate::random::Random;
 use std::collections::BTreeMap;
 
 /// Numbers that are no customer's: beside 1 and 2, and such that their last bits are those of 1 and 2.
-const NOBODY: [u32; 8] = [0, 3, 4, 5, 0x102, 0x1_0001, 0x8000_0001, u32::MAX];
+pub const NOBODY: [u32; 8] = [0, 3, 4, 5, 0x102, 0x1_0001, 0x8000_0001, u32::MAX];
 
 /// A call, without the grid, the customer, the lists and the columns that it is lent.
 #[derive(Clone, Debug)]
-enum Call {
+pub enum Call {
     Prepare([Vec<u32>; 2]),
     Open(u32, [Vec<u32>; 2]),
+    Lower(u32),
     Job(Way, u32, u32),
     Status,
 }
 
 impl Call {
-    fn name(&self) -> &'static str {
+    pub fn name(&self) -> &'static str {
         match self {
             Call::Prepare(_) => "prepare",
             Call::Open(..) => "open",
+            Call::Lower(_) => "lower",
             Call::Job(Way::Classic, ..) => "classic job",
             Call::Job(Way::ReverseRun, ..) => "Reverse Run job",
             Call::Job(Way::Halves, ..) => "job by halves",
@@ -37,24 +39,25 @@ impl Call {
     }
 }
 
-fn opening(k: u32, ends: &[Vec<u32>; 2]) -> Opening<'_> {
+pub fn opening(k: u32, ends: &[Vec<u32>; 2]) -> Opening<'_> {
     Opening { k, first_ends: &ends[0], second_ends: &ends[1] }
 }
 
 /// What a call answers beside the grid.
 #[derive(Clone, Copy, Debug, PartialEq, Eq)]
-enum Answer {
+pub enum Answer {
     Grid,
     Job(u32, Counters),
     Status(Status),
 }
 
 /// A call as it is.
-fn told(call: &Call, bench: &mut Bench) -> Result<Answer, u32> {
+pub fn told(call: &Call, bench: &mut Bench) -> Result<Answer, u32> {
     let Bench { a, b, r, g, customer } = bench;
     match call {
         Call::Prepare(ends) => calls::prepare(a, b, &ends[0], &ends[1], g).map(|()| Answer::Grid),
         Call::Open(k, ends) => calls::open(g, *customer, a, b, opening(*k, ends), r).map(|()| Answer::Grid),
+        Call::Lower(k) => calls::lower_k(g, *customer, a, b, *k, r).map(|()| Answer::Grid),
         Call::Job(way, s, t) => {
             calls::job(*way, g, *customer, a, b, r, *s, *t).map(|(swept, counters)| Answer::Job(swept, counters))
         }
@@ -64,14 +67,14 @@ fn told(call: &Call, bench: &mut Bench) -> Result<Answer, u32> {
 
 /// What a customer reads of a grid: the ends, and their own K, entry count and bits.
 #[derive(Clone, Debug, PartialEq, Eq)]
-struct Reading {
+pub struct Reading {
     strips: [u32; 2],
     ends: [[u32; 32]; 2],
     share: Share,
     bits: Vec<bool>,
 }
 
-fn reading(g: &Grid, customer: u32) -> Reading {
+pub fn reading(g: &Grid, customer: u32) -> Reading {
     Reading {
         strips: [g.first_strips, g.second_strips],
         ends: [g.first_ends, g.second_ends],
@@ -82,11 +85,12 @@ fn reading(g: &Grid, customer: u32) -> Reading {
 
 /// A call beside the brute force: its number, 0 for none. The other customer's reading stays, and so does whether all marks
 /// are within 0 to 3 and inside the jobs.
-fn same(call: &Call, bench: &mut Bench) -> u32 {
+pub fn same(call: &Call, bench: &mut Bench) -> u32 {
     let before = bench.g.clone();
     let answer = match call {
         Call::Prepare(ends) => same_prepare(bench, &ends[0], &ends[1]),
         Call::Open(k, ends) => same_open(bench, *k, &ends[0], &ends[1]),
+        Call::Lower(k) => same_lower(bench, *k),
         Call::Job(way, s, t) => same_job(*way, bench, *s, *t).map(|_| ()),
         Call::Status => same_status(bench).map(|_| ()),
     };
@@ -106,13 +110,13 @@ fn same(call: &Call, bench: &mut Bench) -> u32 {
 }
 
 /// One grid, both lists and both customers' columns: the bench has those of the customer whose turn it is.
-struct Table {
-    bench: Bench,
-    waiting: Results,
+pub struct Table {
+    pub bench: Bench,
+    pub waiting: Results,
 }
 
 impl Table {
-    fn turn(&mut self, customer: u32) {
+    pub fn turn(&mut self, customer: u32) {
         if self.bench.customer != customer {
             std::mem::swap(&mut self.bench.r, &mut self.waiting);
             self.bench.customer = customer;
@@ -121,7 +125,7 @@ impl Table {
 }
 
 /// Lists that are refused, with 1, 2 or 3, whatever else is lent; one of the two stays as it is.
-fn refused_lists(r: &mut Random, bench: &mut Bench) {
+pub fn refused_lists(r: &mut Random, bench: &mut Bench) {
     let list = if r.once_in(2) { &mut bench.a } else { &mut bench.b };
     let mut sites = list.sites(list.x.len());
     match r.below(3) {
@@ -163,9 +167,11 @@ fn some_k(r: &mut Random, room: usize) -> u32 {
 
 /// A customer's call.
 fn own_call(r: &mut Random, bench: &Bench, ends: &[Vec<u32>; 2]) -> Call {
-    match r.below(14) {
+    match r.below(15) {
         0 => Call::Status,
-        1 | 2 => Call::Open(some_k(r, bench.r.shortest()), some_ends(r, bench, ends, 3)),
+        1 if r.once_in(2) => Call::Lower(lower_to(r, bench.share().k)),
+        1 => Call::Lower(some_k(r, bench.r.shortest())),
+        2 | 3 => Call::Open(some_k(r, bench.r.shortest()), some_ends(r, bench, ends, 3)),
         _ => Call::Job(WAYS[r.below(3)], strip_number(r, ends[0].len()), strip_number(r, ends[1].len())),
     }
 }
@@ -211,8 +217,9 @@ impl Seen {
     /// Each call answers these numbers to either customer, often, and no other.
     fn all_answers(&self, least: u32) {
         let jobs = [0, 1, 2, 3, 7, 8, 9];
-        let answered: [(&str, &[u32]); 5] = [
+        let answered: [(&str, &[u32]); 6] = [
             ("open", &[0, 1, 2, 3, 4, 5, 6, 7]),
+            ("lower", &[0, 1, 2, 3, 4, 7]),
             ("classic job", &jobs),
             ("Reverse Run job", &jobs),
             ("job by halves", &jobs),
@@ -243,6 +250,7 @@ fn tampered_calls(r: &mut Random, bench: &Bench, ends: &[Vec<u32>; 2], seen: &mu
     }
     let mut calls = vec![Call::Status, Call::Prepare(ends.clone())];
     calls.extend([0; 2].map(|_| Call::Open(some_k(r, other.r.shortest()), some_ends(r, &other, ends, 4))));
+    calls.push(Call::Lower(lower_to(r, other.share().k)));
     for way in WAYS {
         let strips = [other.g.first_strips, other.g.second_strips].map(|n| n.min(32) as usize);
         calls.push(Call::Job(way, r.below(strips[0] + 1) as u32, r.below(strips[1] + 1) as u32));
@@ -297,6 +305,19 @@ fn shares_not_read(r: &mut Random, bench: &Bench, ends: &[Vec<u32>; 2], seen: &m
     *seen.unread.entry((call.name(), answer.err().unwrap_or(0))).or_default() += 1;
 }
 
+/// The call of a customer, with their lists and columns, in their book, which answers the same. Before opening K is 0.
+fn into_book(call: &Call, number: u32, book: &mut Option<Book>, bench: &Bench) {
+    let expected = match (call, book.as_mut()) {
+        (Call::Job(_, s, t), book) => book.map_or(7, |book| book.job(*s, *t)),
+        (Call::Lower(k), book) => book.map_or(4, |book| book.lower(*k)),
+        _ => number,
+    };
+    assert_eq!(number, expected, "the book answers otherwise: {call:?}");
+    if let (Call::Open(k, chosen), 0) = (call, number) {
+        *book = Some(Book::opened(&bench.a, &bench.b, opening(*k, chosen)));
+    }
+}
+
 /// One history of both customers: a preparing, then calls of every kind, each held to the brute force and to the book of the
 /// customer who calls.
 fn history(r: &mut Random, kind: usize, seen: &mut Seen) {
@@ -341,14 +362,7 @@ fn history(r: &mut Random, kind: usize, seen: &mut Seen) {
                 let call =
                     if early { Call::Open(some_k(r, bench.r.shortest()), ends.clone()) } else { own_call(r, bench, &ends) };
                 let number = seen.same(&call, bench);
-                match (&call, number) {
-                    (Call::Open(k, chosen), 0) => *book = Some(Book::opened(&bench.a, &bench.b, opening(*k, chosen))),
-                    (Call::Job(_, s, t), _) => {
-                        let expected = book.as_mut().map_or(7, |book| book.job(*s, *t));
-                        assert_eq!(number, expected, "the book answers otherwise: {call:?}");
-                    }
-                    _ => {}
-                }
+                into_book(&call, number, book, bench);
             }
         }
         // both customers' books, after each call
@@ -371,11 +385,7 @@ fn history(r: &mut Random, kind: usize, seen: &mut Seen) {
         if books[customer as usize - 1].as_ref().is_some_and(Book::no_open_job) {
             seen.complete[customer as usize - 1] += 1;
             table.turn(customer);
-            let (bench, share) = (&table.bench, table.bench.share());
-            let mut whole = results(r, [share.k as usize; 3]);
-            let (count, _) = calls::k_list(Way::Classic, &bench.a, &bench.b, share.k, &mut whole).unwrap();
-            assert_eq!(count, share.entries);
-            assert_eq!(whole.entries(count as usize), bench.r.entries(count as usize));
+            same_as_one_sweep(r, &table.bench);
         }
     }
 }
@@ -400,12 +410,13 @@ fn histories(r: &mut Random) {
             assert!(seen.opening_faults.get(&(fault, customer)).is_some_and(|n| *n > 20), "{:?}", seen.opening_faults);
         }
     }
-    for name in ["open", "classic job", "Reverse Run job", "job by halves", "status"] {
+    for name in ["open", "lower", "classic job", "Reverse Run job", "job by halves", "status"] {
         assert!(seen.slots.get(name).is_some_and(|n| *n > 20), "{:?}", seen.slots);
     }
     let jobs = ["classic job", "Reverse Run job", "job by halves"];
     let mut unread: Vec<_> = jobs.iter().flat_map(|name| [0, 7, 8, 9].map(|number| (*name, number))).collect();
     unread.extend([0, 4, 5, 6, 7].map(|number| ("open", number)));
+    unread.extend([0, 4, 7].map(|number| ("lower", number)));
     unread.extend([0, 7].map(|number| ("status", number)));
     for answer in unread {
         assert!(seen.unread.get(&answer).is_some_and(|n| *n > 20), "{answer:?}: {:?}", seen.unread);
@@ -525,6 +536,7 @@ fn nothing_is_told(r: &mut Random) {
         for (name, numbers) in [
             ("prepare", &[0, 5][..]),
             ("open", &[0, 4, 5, 6, 15]),
+            ("lower", &[0, 4, 15]),
             ("classic job", &[0, 7, 8, 9, 15]),
             ("Reverse Run job", &[0, 7, 8, 9, 15]),
             ("job by halves", &[0, 7, 8, 9, 15]),
@@ -538,22 +550,22 @@ fn nothing_is_told(r: &mut Random) {
     }
 }
 
-const FIRST: &[u32] = &[2, 3];
-const SECOND: &[u32] = &[1, 3];
+pub const FIRST: &[u32] = &[2, 3];
+pub const SECOND: &[u32] = &[1, 3];
 
-fn lists_f() -> [Columns; 2] {
+pub fn lists_f() -> [Columns; 2] {
     let (a, b) = f();
     [Columns::of(&a), Columns::of(&b)]
 }
 
 /// A grid for F, with anything in the other customer's part.
-fn on_f(r: &mut Random, customer: u32, lengths: [usize; 3]) -> Bench {
+pub fn on_f(r: &mut Random, customer: u32, lengths: [usize; 3]) -> Bench {
     let [a, b] = lists_f();
     prepared(r, customer, [&a, &b], [FIRST, SECOND], lengths)
 }
 
 /// The ends of M6.
-fn ends_f() -> [Vec<u32>; 2] {
+pub fn ends_f() -> [Vec<u32>; 2] {
     [FIRST.to_vec(), SECOND.to_vec()]
 }
 

@@ -1,7 +1,7 @@
 //! Two lists with every height 0 give the plane's answers: the calls beside the brute force of the plane, which has no heights.
 
 use crate::calls;
-use crate::campaigns::{cuts, either, opened, results};
+use crate::campaigns::{Bench, cuts, either, opened, results};
 use crate::harness::{Harness, progress};
 use crate::lists::{KINDS, lawful, stacked};
 use crate::model::{Columns, Counters, Site, WAYS, Way};
@@ -89,18 +89,36 @@ fn distance_lists(r: &mut Random) {
     }
 }
 
-/// A campaign of the plane beside the library's, of either customer, status after each job: jobs swept and skipped.
-fn same_campaign(r: &mut Random, a: &Level, b: &Level, k: u32, ends: [&[u32]; 2]) -> [u32; 2] {
+/// Lowers K in a campaign of the plane and in the library's, and is refused before: 1 where entries were cut.
+fn same_lowering(r: &mut Random, bench: &mut Bench, book: &mut plane::Campaign) -> u32 {
+    let Bench { a, b, r: columns, g, customer } = bench;
+    let before = book.status();
+    for k in [0, before.k + 1, u32::MAX] {
+        assert_eq!(calls::lower_k(g, *customer, a, b, k, columns), Err(4), "K {k} from {}", before.k);
+    }
+    let k = 1 + r.below(before.k as usize) as u32;
+    assert_eq!(calls::lower_k(g, *customer, a, b, k, columns), Ok(()), "K {k} from {}", before.k);
+    book.lower(k);
+    assert_eq!(calls::status(g, *customer, a, b, columns), Ok(book.status()));
+    (book.status().entries < before.entries) as u32
+}
+
+/// A campaign of the plane beside the library's, of either customer, status after each job, and now and then a smaller K: jobs
+/// swept and skipped, and lowerings that cut entries.
+fn same_campaign(r: &mut Random, a: &Level, b: &Level, k: u32, ends: [&[u32]; 2]) -> [u32; 3] {
     let customer = either(r);
     let mut bench = opened(r, customer, [&a.columns, &b.columns], ends, k, [k as usize; 3]);
-    let (g, columns) = (&mut bench.g, &mut bench.r);
     let mut book = plane::Campaign::opened(&a.plane, &b.plane, k, ends[0], ends[1]);
-    let mut seen = [0; 2];
+    let mut seen = [0; 3];
     let mut jobs: Vec<(usize, usize)> =
         (0..ends[0].len()).flat_map(|s| (0..ends[1].len()).map(move |t| (s, t))).collect();
     while !jobs.is_empty() {
+        if r.once_in(8) {
+            seen[2] += same_lowering(r, &mut bench, &mut book);
+        }
         let (s, t) = jobs.swap_remove(r.below(jobs.len()));
         let way = WAYS[r.below(3)];
+        let (g, columns) = (&mut bench.g, &mut bench.r);
         let before = columns.clone();
         let told = book.job(way, s, t);
         let expected = told.map_or((0, Counters::default()), |counters| (1, counters));
@@ -115,17 +133,17 @@ fn same_campaign(r: &mut Random, a: &Level, b: &Level, k: u32, ends: [&[u32]; 2]
 
 fn campaigns(r: &mut Random) {
     let rounds = 1_500;
-    let mut seen = [0; 2];
+    let mut seen = [0; 3];
     for round in 0..rounds {
         progress(round, rounds);
         let (n, m) = ([1, 3, 10, 40][r.below(4)], [1, 3, 10, 40][r.below(4)]);
         let (a, b) = (Level::random(r, round, n), Level::random(r, round, m));
         let k = [1, 2, 5, 1 + r.below(30) as u32, 4_096][r.below(5)];
         let (first, second) = (cuts(r, a.plane.len()), cuts(r, b.plane.len()));
-        let [swept, skipped] = same_campaign(r, &a, &b, k, [&first, &second]);
-        seen = [seen[0] + swept, seen[1] + skipped];
+        let [swept, skipped, cut] = same_campaign(r, &a, &b, k, [&first, &second]);
+        seen = [seen[0] + swept, seen[1] + skipped, seen[2] + cut];
     }
-    assert!(seen.iter().all(|n| *n > 1_000), "{seen:?}");
+    assert!(seen[0] > 1_000 && seen[1] > 1_000 && seen[2] > 500, "{seen:?}");
 }
 
 pub fn run(h: &mut Harness) {

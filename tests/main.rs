@@ -22,6 +22,7 @@ mod raw;
 mod removals;
 mod site_files;
 mod site_lists;
+mod smaller_k;
 
 fn main() {
     let mut h = harness::Harness::default();
@@ -36,6 +37,7 @@ fn main() {
     bands::run(&mut h);
     campaigns::run(&mut h);
     customers::run(&mut h);
+    smaller_k::run(&mut h);
     halves::run(&mut h);
     heights::run(&mut h);
     height_0::run(&mut h);

@@ -1,5 +1,5 @@
-//! Documents 01 and 02 a, b, d, e, f, g, k and l in plain Rust, by brute force: what each call on lists with heights, and each
-//! on price bands, must answer and leave behind. What is of the plane, the site file and the case listing, is in `plane`.
+//! Documents 01 and 02 a, b, d, e, f, g, j, k and l in plain Rust, by brute force: what each call on lists with heights, and
+//! each on price bands, must answer and leave behind. What is of the plane, the site file and the case listing, is in `plane`.
 
 use crate::raw::Band;
 use std::collections::HashMap;
@@ -593,6 +593,22 @@ pub fn open(g: &Grid, customer: u32, a: &Columns, b: &Columns, o: Opening, r: &R
     Ok(after)
 }
 
+/// The grid after a customer's K is lowered: "from 1 to the present K, keep the marks, cut the entries".
+pub fn lower_k(g: &Grid, customer: u32, a: &Columns, b: &Columns, k: u32, r: &Results) -> Result<Grid, u32> {
+    customer_refusal(customer)?;
+    let (a, b) = lists(a, b)?;
+    let Share { k: present, entries } = *g.share(customer);
+    if k == 0 || k > present {
+        return Err(4);
+    }
+    if g.fault(customer, &a, &b, r).is_some() {
+        return Err(7);
+    }
+    let mut after = g.clone();
+    *after.share_mut(customer) = Share { k, entries: entries.min(k) };
+    Ok(after)
+}
+
 /// The places of a strip.
 pub fn strip_range(ends: &[u32], s: usize) -> (usize, usize) {
     (if s == 0 { 0 } else { ends[s - 1] as usize }, ends[s] as usize)
@@ -817,6 +833,15 @@ impl Book {
             return 9;
         }
         self.settled.push((s, t));
+        0
+    }
+
+    /// A lowering by the customer with their lists and columns: 4, or 0 and this K is in force.
+    pub fn lower(&mut self, k: u32) -> u32 {
+        if !(1..=self.k).contains(&k) {
+            return 4;
+        }
+        self.k = k;
         0
     }
 

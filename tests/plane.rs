@@ -285,6 +285,12 @@ impl<'a> Campaign<'a> {
         told
     }
 
+    /// A smaller K, from 1 to the present one.
+    pub fn lower(&mut self, k: u32) {
+        self.k = k;
+        self.entries.truncate(k as usize);
+    }
+
     pub fn status(&self) -> Status {
         Status {
             settled: self.settled.len() as u32,

@@ -88,6 +88,17 @@ unsafe extern "C" {
         distance: *const u64, distances_len: usize, first: N, firsts: usize, second: N, seconds: usize,
     ) -> u32;
 
+    pub fn vumlintel_lower_k(
+        first_strips: *mut u32, second_strips: *mut u32,
+        first_ends: *mut [u32; 32], second_ends: *mut [u32; 32], marks: *mut [u8; 1024],
+        k1: *mut u32, entries1: *mut u32, k2: *mut u32, entries2: *mut u32,
+        customer: u32,
+        ax: X, axs: usize, ay: X, ays: usize, an: N, ans: usize, ah: X, ahs: usize,
+        bx: X, bxs: usize, by: X, bys: usize, bn: N, bns: usize, bh: X, bhs: usize,
+        k: u32,
+        distance: *const u64, distances_len: usize, first: N, firsts: usize, second: N, seconds: usize,
+    ) -> u32;
+
     pub fn vumlintel_job_classic(
         first_strips: *mut u32, second_strips: *mut u32,
         first_ends: *mut [u32; 32], second_ends: *mut [u32; 32], marks: *mut [u8; 1024],

@@ -180,6 +180,38 @@ static void campaigns(void)
     EXPECT(first[0] == 1 && second[0] == 1 && first[1] == 0 && second[1] == 1);
 }
 
+/* A smaller K: M6's campaign, opened with K 9 by customer 2 and lowered to 2 after the first job. */
+static void smaller_k(void)
+{
+    const uint32_t first_cuts[] = {2, 3}, second_cuts[] = {1, 3};
+    uint64_t distance2[9] = {0}, looks = 99, distances = 99, range_pairs = 99;
+    uint32_t first2[9] = {0}, second2[9] = {0}, swept = 99, settled, jobs, entries, k;
+    vumlintel_grid g, before;
+    EXPECT(vumlintel_prepare(A, B, first_cuts, 2, second_cuts, 2, VUMLINTEL_PARTS(&g)) == VUMLINTEL_OK);
+    EXPECT(vumlintel_lower_k(VUMLINTEL_PARTS(&g), 2, A, B, 1, COLUMNS2) == VUMLINTEL_K && g.k2 == 0);
+    EXPECT(vumlintel_open(VUMLINTEL_PARTS(&g), 2, A, B, 9, first_cuts, 2, second_cuts, 2, COLUMNS2) == VUMLINTEL_OK);
+    EXPECT(vumlintel_job_halves(VUMLINTEL_PARTS(&g), 2, A, B, COLUMNS2, 0, 0, &swept, &range_pairs) == VUMLINTEL_OK);
+    EXPECT(g.entries2 == 2 && distance2[0] == 20 && distance2[1] == 25);
+    g.k1 = 4;
+    before = g;
+    EXPECT(vumlintel_lower_k(VUMLINTEL_PARTS(&g), 0, A, B, 2, COLUMNS2) == VUMLINTEL_CUSTOMER);
+    EXPECT(vumlintel_lower_k(VUMLINTEL_PARTS(&g), 2, ax, 2, ay, 3, an, 3, ah, 3, B, 2, COLUMNS2) == VUMLINTEL_LIST_SIZE);
+    EXPECT(vumlintel_lower_k(VUMLINTEL_PARTS(&g), 2, A, B, 0, COLUMNS2) == VUMLINTEL_K);
+    EXPECT(vumlintel_lower_k(VUMLINTEL_PARTS(&g), 2, A, B, 10, COLUMNS2) == VUMLINTEL_K);
+    EXPECT(vumlintel_lower_k(VUMLINTEL_PARTS(&g), 2, A, B, 2, distance2, 8, first2, 9, second2, 9) == VUMLINTEL_CAMPAIGN);
+    EXPECT(memcmp(&g, &before, sizeof g) == 0);
+    EXPECT(vumlintel_lower_k(VUMLINTEL_PARTS(&g), 2, A, B, 9, COLUMNS2) == VUMLINTEL_OK && memcmp(&g, &before, sizeof g) == 0);
+    EXPECT(vumlintel_lower_k(VUMLINTEL_PARTS(&g), 2, A, B, 2, COLUMNS2) == VUMLINTEL_OK);
+    before.k2 = 2;
+    EXPECT(memcmp(&g, &before, sizeof g) == 0 && distance2[0] == 20 && distance2[1] == 25);
+    EXPECT(vumlintel_job_classic(VUMLINTEL_PARTS(&g), 2, A, B, COLUMNS2, 1, 0, &swept, &looks, &distances) == VUMLINTEL_OK &&
+           swept == 0 && looks == 0 && distances == 0);
+    EXPECT(vumlintel_lower_k(VUMLINTEL_PARTS(&g), 2, A, B, 1, COLUMNS2) == VUMLINTEL_OK && g.k1 == 4);
+    EXPECT(g.k2 == 1 && g.entries2 == 1 && distance2[1] == 25 && first2[1] == 0 && second2[1] == 0);
+    EXPECT(vumlintel_status(VUMLINTEL_PARTS(&g), 2, A, B, COLUMNS2, &settled, &jobs, &entries, &k) == VUMLINTEL_OK);
+    EXPECT(settled == 2 && jobs == 4 && entries == 1 && k == 1);
+}
+
 static void site_files(void)
 {
     uint8_t file[100];
@@ -228,6 +260,7 @@ int main(void)
     forecasts();
     heights();
     campaigns();
+    smaller_k();
     site_files();
     bands();
     printf("%d failures\n", failures);
