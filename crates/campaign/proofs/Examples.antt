@@ -22,7 +22,7 @@ use Rattle.halves.specs.Gap.{squaredStripGap}
 use Rattle.join.specs.declared.Join.the-variants.{Sweep}
 use Rattle.join.specs.Join.{join}
 use Rattle.customers.specs.declared.Grid.{Grid}
-use Rattle.customers.specs.Customers.{isCustomer, ownMark, withOwn, cleared, campaignAs, withCampaign, settledAt, lowersTo, lowered}
+use Rattle.customers.specs.Customers.{isCustomer, ownMark, withOwn, cleared, campaignAs, withCampaign, settledAt, lowered}
 use Rattle.campaign.specs.Grid.{
   lawfulEnds,
   stripAt,
@@ -162,7 +162,7 @@ unfolding
     boxOf callerRefusal campaignAs campaignRefusal classicOver cleared contentRefusal coordinateColumns coSited countFrom customerRefusal edges entriesOf equalGap equalLengths firstEnds firstOf
     flatMap foremost gap gaps heightWithin holding insert isCustomer jobAnswer
     jobEntries jobPairs jobRefusal join jobs jobsPairs keep keeperRefusal last lastDistance lawfulEnds lawfulGrid lawfulK lawfulMark lawfulMarks lawfulSite leads
-    lex listRefusal listsRefusal look lowerAnswer lowered loweredAs lowerRefusal lowersTo markOf newGrid offer one onePosition opened orElse origin overwritten ownMark ownRanges pair
+    lex listRefusal listsRefusal look lowerAnswer lowered loweredAs lowerRefusal markOf newGrid offer one onePosition opened orElse origin overwritten ownMark ownRanges pair
     pairs placedFrom prepared product rangeGap rankBefore roomFor scan secondEnds settled settledAt settledJobs settledWith siteAt siteBefore sites
     sizeFault skips slots smallerK sort sound soundEntry soundnessFirst square squaredBoxGap squaredDistance squaredStripGap strip stripAt
     stripHolding sum sweep taken twoCustomers twoSites whole withCampaign withColumns within withOwn zipWith

@@ -16,6 +16,7 @@ pub mod Sound
 pub mod SoundCampaign
 pub mod PrepareAnswer
 pub mod OpenAnswer
+pub mod LowerAnswer
 pub mod StatusAnswer
 pub mod JobRefusal
 pub mod JobAnswer

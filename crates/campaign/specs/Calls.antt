@@ -9,7 +9,7 @@ use Rattle.site.specs.Answer.{Answer, refused, answered, answerUnless, refuseIf
 use Rattle.site.specs.SiteList.{Columns, sites}
 use Rattle.site.specs.Refusal.{listsRefusal}
 use Rattle.entry.specs.declared.Entry.{Entry}
-use Rattle.entry.specs.Entry.{bestK, lawfulK}
+use Rattle.entry.specs.Entry.{bestK, kUpTo, lawfulK}
 use Rattle.entry.specs.Results.{Results, entriesOf, holding, roomFor}
 use Rattle.sweep.specs.Scan.{beyond}
 use Rattle.halves.specs.Gap.{squaredStripGap}
@@ -17,7 +17,7 @@ use Rattle.join.specs.declared.Join.{Join}
 use Rattle.join.specs.Join.{Counts, noCounts, countsOf, join}
 use Rattle.customers.specs.declared.Campaign.{Campaign}
 use Rattle.customers.specs.declared.Grid.{Grid}
-use Rattle.customers.specs.Customers.{campaignAs, gridOf, withCampaign, cleared, lowersTo, lowered}
+use Rattle.customers.specs.Customers.{campaignAs, gridOf, withCampaign, cleared, lowered}
 use Rattle.campaign.specs.declared.Answered.{Answered}
 use Rattle.campaign.specs.declared.Outcome.{Outcome}
 use Rattle.campaign.specs.declared.Outcome.the-variants as outcome
@@ -73,12 +73,12 @@ opened customer g k = withCampaign customer k 0 (cleared customer (g .marks)) g
 unfoldable pub openAnswer : ℕ → Grid → Columns → Columns → ℕ → List ℕ → List ℕ → Results → Answer Grid
 openAnswer customer g a b k ends ends' r = answerUnless (openRefusal customer g a b k ends ends' r) (opened customer g k)
 
--- "A K of 0, or above the present one, gets 4, before opening too", where the present one is 0: after 15 and the lists' 1 to
+-- "Lower K to any number from 1 to the present K": "A K of 0, or above the present one, gets 4, before opening too", where the present one is 0: after 15 and the lists' 1 to
 -- 3, and before 7. (02 j)
 unfoldable pub lowerRefusal : ℕ → Grid → Columns → Columns → ℕ → Results → ℕ
 lowerRefusal customer g a b k r =
     orElse (callerRefusal customer a b)
-    (orElse (refuseIf (not (lowersTo (campaignAs customer g .k) k)) 4)
+    (orElse (refuseIf (not (kUpTo (campaignAs customer g .k) k)) 4)
     (keeperRefusal customer g (sites a) (sites b) r))
 
 -- "and answer the campaign", no column touched, or the refusal.

@@ -34,7 +34,7 @@ pub(super) fn refusal(
         return refused;
     }
     let c = customers::campaign_as(customer, g);
-    if !customers::lowers_to(c.k, k) {
+    if !entry::k_up_to(c.k, k) {
         return 4;
     }
     soundness::keeper_refusal(customer, g, ax, ay, ah, bx, by, bh, distance, first, second)

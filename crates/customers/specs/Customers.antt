@@ -1,8 +1,8 @@
 -- The two customers of a grid: what each one's own is. (02 e)
-use mathlib.Core.Bool.{Bool, cond, _&&_, _||_}
+use mathlib.Core.Bool.{Bool, cond, _||_}
 use mathlib.Core.List.{List, map}
 use Prim.Native.Nat.{ℕ, _+_, _*_, _/_, _%_, min}
-use lib.Dec.{leb, eqb}
+use lib.Dec.{eqb}
 use lib.ListN.{getD, set}
 use Rattle.customers.specs.declared.Campaign.{Campaign}
 use Rattle.customers.specs.declared.Grid.{Grid}
@@ -72,10 +72,6 @@ withCampaign customer k entries marks g =
     gridOf (g .«first_strips») (g .«second_strips») (g .«first_ends») (g .«second_ends») marks
     (own customer k (g .k1)) (own customer entries (g .entries1)) (own customer (g .k2) k) (own customer (g .entries2) entries)
 
--- "Lower K to any number from 1 to the present K." (02 j)
-unfoldable pub lowersTo : ℕ → ℕ → Bool
-lowersTo present k = leb 1 k && leb k present
-
--- "keep the marks, cut the entries": the grid with a customer's K lowered, which leaves at most K of their entries.
+-- "keep the marks, cut the entries": the grid with a customer's K lowered, which leaves at most K of their entries. (02 j)
 unfoldable pub lowered : ℕ → Grid → ℕ → Grid
 lowered customer g k = withCampaign customer k (min k (campaignAs customer g .entries)) (g .marks) g

@@ -11,7 +11,6 @@ ghost use Rattle.customers.specs.Customers.{
   settledAt,
   campaignAs,
   withCampaign,
-  lowersTo,
   lowered,
 };
 
@@ -148,13 +147,6 @@ pub fn with_campaign(customer: u32, k: u32, entries: u32, marks: [u8; 1024], g: 
         k2: own(customer, g.k2, k),
         entries2: own(customer, g.entries2, entries),
     }
-}
-
-// Whether K can be lowered from the present one.
-pub fn lowers_to(present: u32, k: u32) -> bool
-    ensures { λ r. ⌜ r ≡ lowersTo present k ⌝ }
-{
-    1 <= k && k <= present
 }
 
 // As many entries as a smaller K leaves.

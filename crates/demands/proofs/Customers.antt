@@ -14,12 +14,12 @@ use Rattle.site.specs.Site.{Site}
 use Rattle.site.specs.SiteList.{Columns, sites}
 use Rattle.site.proofs.Answer.{answered-values}
 use Rattle.entry.specs.declared.Entry.{Entry}
-use Rattle.entry.specs.Entry.{lawfulK}
+use Rattle.entry.specs.Entry.{kUpTo, lawfulK}
 use Rattle.entry.specs.Results.{Results, entriesOf, holding}
 use Rattle.join.specs.Join.{Counts}
 use Rattle.customers.specs.declared.Campaign.{Campaign}
 use Rattle.customers.specs.declared.Grid.{Grid}
-use Rattle.customers.specs.Customers.{isCustomer, campaignAs, lowersTo}
+use Rattle.customers.specs.Customers.{isCustomer, campaignAs}
 use Rattle.campaign.specs.Soundness.{sound, customerRefusal, callerRefusal, keeperRefusal, campaignRefusal}
 use Rattle.campaign.specs.Calls.{prepareRefusal, prepared, prepareAnswer, openAnswer, lowerRefusal, lowerAnswer, jobRefusal, jobEntries, jobAnswer, statusAnswer}
 use Rattle.campaign.proofs.CustomerLaws.{prepared-lawful}
@@ -109,8 +109,7 @@ unfolding sound lawfulK
 not-sound c a b r h = rw h
 
 -- Nor is there a smaller K.
-none-lower : (k : ℕ) → lowersTo 0 k ≡ false
-unfolding lowersTo
+none-lower : (k : ℕ) → kUpTo 0 k ≡ false
 none-lower zero = refl
 none-lower (suc k) = rw (lt-leb (suc k) 0 (omega arith)) (and-false (leb 1 (suc k)))
 

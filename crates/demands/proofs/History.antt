@@ -1,12 +1,12 @@
 -- What holds of the grid, B and the book after the opening and after each call.
 use mathlib.Core.Path.{_≡_, refl, sym, ap, _∙_}
-use mathlib.Core.Bool.{false, not, cond, _&&_, and-eq-true-iff}
+use mathlib.Core.Bool.{false, not, cond, _&&_}
 use mathlib.Core.List.{List, [], _∷_, _++_, flatMap, List·Memᴰ·head, List·Memᴰ·eq-of-singleton, Memᴰ·append-right}
 use Prim.Native.Nat.{ℕ, zero, suc, _≤_, _<_}
 use native.Mathlib.Omega.{arith}
-use lib.Dec.{leb, ltb, eqb}
+use lib.Dec.{ltb, eqb}
 use lib.ListN.{length, take, set, length-take, length-replicate, length-set}
-use borrow.Author.Tests.{leb-true, ne-eqb}
+use borrow.Author.Tests.{ne-eqb}
 use Rattle.order.specs.Lists.{Distinct}
 use Rattle.order.proofs.Best.{best, best-nil}
 use Rattle.order.proofs.Order.{byTest, never-both}
@@ -17,16 +17,16 @@ use Rattle.site.specs.SiteList.{Columns, sites}
 use Rattle.site.proofs.Answer.{after-refused, orElse-first, orElse-second, no-fault, fault-none}
 use Rattle.site.proofs.Accepted.{both-accepted, accepted-length}
 use Rattle.entry.specs.declared.Entry.{Entry}
-use Rattle.entry.specs.Entry.{rankBefore, bestK}
+use Rattle.entry.specs.Entry.{rankBefore, kUpTo, bestK}
 use Rattle.entry.specs.Results.{Results, entriesOf, holding}
-use Rattle.entry.proofs.Rank.{rank-order, lawful-lower}
+use Rattle.entry.proofs.Rank.{rank-order, k-between, lawful-lower}
 use Rattle.entry.proofs.Results.{room-fewer, entries-holding, room-holding}
 use Rattle.entry.proofs.Below.{cut-entries, lengths-holding}
 use Rattle.join.specs.declared.Join.{Join}
 use Rattle.join.specs.Join.{Counts}
 use Rattle.customers.specs.declared.Campaign.{Campaign}
 use Rattle.customers.specs.declared.Grid.{Grid}
-use Rattle.customers.specs.Customers.{campaignAs, lowersTo, lowered}
+use Rattle.customers.specs.Customers.{campaignAs, lowered}
 use Rattle.campaign.specs.Grid.{Job, markOf, settled, jobPairs, jobsPairs}
 use Rattle.campaign.specs.Soundness.{firstEnds, secondEnds}
 use Rattle.campaign.specs.Calls.{opened, lowerAnswer, jobRefusal, jobEntries, afterJob, jobValues, jobAnswer}
@@ -125,10 +125,8 @@ unsettled-job book j h =
 
 -- What the book does not refuse is a K from 1 to its own.
 lower-k : (book : Book) (k : ℕ) → bookLowering book k ≡ 0 → (1 ≤ k) × (k ≤ book .k)
-unfolding bookLowering lowersTo
-lower-k book k h =
-    let w = and-eq-true-iff (leb 1 k) (leb k (book .k)) .0 (fault-none (leb 1 k && leb k (book .k)) 3 h) in
-    (leb-true 1 k (w .0), leb-true k (book .k) (w .1))
+unfolding bookLowering
+lower-k book k h = k-between (book .k) k (fault-none (kUpTo (book .k) k) 3 h)
 
 module _ {a b : Columns} {c : Campaign} {r : Results} {book : Book} (i : Invariant a b c r book) where
   -- The marks stay, and of the entries the first.

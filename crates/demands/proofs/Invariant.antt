@@ -18,12 +18,12 @@ use Rattle.site.specs.SiteList.{Columns, sites}
 use Rattle.site.specs.Refusal.{listsRefusal}
 use Rattle.site.proofs.Answer.{answer-values, or-none, or-nothing}
 use Rattle.entry.specs.declared.Entry.{Entry}
-use Rattle.entry.specs.Entry.{rankBefore, bestK, lawfulK}
+use Rattle.entry.specs.Entry.{rankBefore, kUpTo, bestK, lawfulK}
 use Rattle.entry.specs.Results.{Results, entriesOf, roomFor}
 use Rattle.entry.proofs.Rank.{rank-order}
 use Rattle.entry.proofs.Below.{lengthsOf}
 use Rattle.customers.specs.declared.Campaign.{Campaign}
-use Rattle.customers.specs.Customers.{isCustomer, campaignAs, lowersTo}
+use Rattle.customers.specs.Customers.{isCustomer, campaignAs}
 use Rattle.campaign.specs.Grid.{lawfulEnds, Job, jobs, settled, settledJobs, jobsPairs}
 use Rattle.campaign.specs.Soundness.{firstEnds, secondEnds, soundEntry, sound, lawfulGrid, customerRefusal, callerRefusal, keeperRefusal, campaignRefusal}
 use Rattle.campaign.specs.Calls.{lowerRefusal, jobRefusal, statusAnswer}
@@ -193,7 +193,7 @@ module _ {customer : ℕ} {a b : Columns} {fixed : Fixed} {bench : Bench} {book 
   unfolding lowerRefusal bookLowering
   lower-refusal k =
       or-none (callerRefusal customer a b) _ caller-accepted
-      ∙ rw (keeper-accepted, s .campaign .k) (or-nothing (refuseIf (not (lowersTo (book .k) k)) 4))
+      ∙ rw (keeper-accepted, s .campaign .k) (or-nothing (refuseIf (not (kUpTo (book .k) k)) 4))
 
   -- "and status answers".
   pub status-answer : statusAnswer customer (bench .grid) a b (bench .results)

@@ -8,8 +8,7 @@ use Rattle.order.specs.Lists.{all}
 use Rattle.site.specs.Site.{Site}
 use Rattle.site.specs.Answer.{refuseIf, orElse}
 use Rattle.entry.specs.declared.Entry.{Entry}
-use Rattle.entry.specs.Entry.{bestK}
-use Rattle.customers.specs.Customers.{lowersTo}
+use Rattle.entry.specs.Entry.{kUpTo, bestK}
 use Rattle.campaign.specs.Grid.{Job, jobs, jobsPairs}
 use Rattle.campaign.specs.Calls.{StatusValues, statusValues}
 
@@ -36,7 +35,7 @@ bookRefusal book j =
 
 -- 02 j: a lowering gets 4 where it is not "to any number from 1 to the present K".
 unfoldable pub bookLowering : Book → ℕ → ℕ
-bookLowering book k = refuseIf (not (lowersTo (book .k) k)) 4
+bookLowering book k = refuseIf (not (kUpTo (book .k) k)) 4
 
 -- "the first K by rank of the settled jobs' pairs, or all where there are fewer, in rank order."
 unfoldable pub bookEntries : List Site → List Site → Book → List Entry

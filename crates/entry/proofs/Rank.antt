@@ -13,7 +13,7 @@ use Rattle.order.specs.Lists.{last}
 use Rattle.order.proofs.Lists.{last-map, last-at}
 use Rattle.order.proofs.Sorted.{take-insert-full, last-weak}
 use Rattle.entry.specs.declared.Entry.{Entry}
-use Rattle.entry.specs.Entry.{entry, rankBefore, lawfulK, offer, lastDistance}
+use Rattle.entry.specs.Entry.{entry, rankBefore, kUpTo, lawfulK, offer, lastDistance}
 
 same-entry : (a b : Entry) → (a .distance ≡ b .distance) × ((a .first ≡ b .first) × (a .second ≡ b .second)) → a ≡ b
 same-entry a b h = λ i. record { distance = h .0 i; first = h .1 .0 i; second = h .1 .1 i }
@@ -25,12 +25,15 @@ rank-order =
     strict (lex-order (by-number (λ e. e .distance)) (lex-order (by-number (λ e. e .first))
     (by-number (λ e. e .second)))) same-entry
 
--- A lawful K, by its limits.
+-- A K from 1 to a greatest one, by its limits.
+pub k-between : (most k : ℕ) → kUpTo most k ≡ true → (0 < k) × (k ≤ most)
+k-between most k h =
+    let both = and-eq-true-iff (leb 1 k) (leb k most) .0 h in
+    (leb-true 1 k (both .0), leb-true k most (both .1))
+
 pub k-limits : (k : ℕ) → lawfulK k ≡ true → (0 < k) × (k ≤ 4_096)
 unfolding lawfulK
-k-limits k h =
-    let both = and-eq-true-iff (leb 1 k) (leb k 4_096) .0 h in
-    (leb-true 1 k (both .0), leb-true k 4_096 (both .1))
+k-limits k h = k-between 4_096 k h
 
 -- A K from 1 to a lawful one.
 pub lawful-lower : (present k : ℕ) → lawfulK present ≡ true → 1 ≤ k → k ≤ present → lawfulK k ≡ true

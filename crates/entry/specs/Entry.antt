@@ -26,9 +26,13 @@ rankCompare a b = cond (rankBefore a b) Before (cond (rankBefore b a) After Same
 unfoldable pub apart : Entry → Bool
 apart e = leb 1 (e .distance)
 
+-- A K from 1 to a greatest one: 4,096, or (02 j) "any number from 1 to the present K".
+abbrev pub kUpTo : ℕ → ℕ → Bool
+kUpTo most k = leb 1 k && leb k most
+
 -- "K is 1 to 4,096."
 unfoldable pub lawfulK : ℕ → Bool
-lawfulK k = leb 1 k && leb k 4_096
+lawfulK k = kUpTo 4_096 k
 
 -- "The first K pairs by rank, or all when that is fewer."
 unfoldable pub bestK : ℕ → List Entry → List Entry

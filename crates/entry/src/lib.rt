@@ -8,7 +8,7 @@ pub use queues::start;
 ghost use mathlib.Core.Path.{_≡_};
 ghost use Prim.Native.Nat.{_<_};
 ghost use lib.ListN.{length};
-ghost use Rattle.entry.specs.Entry.{rankBefore, rankCompare, lawfulK};
+ghost use Rattle.entry.specs.Entry.{rankBefore, rankCompare, kUpTo, lawfulK};
 ghost use Rattle.entry.specs.Results.{lentResults, roomFor};
 ghost use Rattle.entry.specs.Terms.{entryAt};
 
@@ -65,11 +65,18 @@ pub fn before(a: Entry, b: Entry) -> bool
     }
 }
 
+// Whether K is a number from 1 to a greatest one.
+pub fn k_up_to(most: u32, k: u32) -> bool
+    ensures { λ r. ⌜ r ≡ kUpTo most k ⌝ }
+{
+    1 <= k && k <= most
+}
+
 // Whether K is 1 to 4,096.
 pub fn lawful_k(k: u32) -> bool
     ensures { λ r. ⌜ r ≡ lawfulK k ⌝ }
 {
-    1 <= k && k <= 4_096
+    k_up_to(4_096, k)
 }
 
 // Whether no column is shorter than `k`.

@@ -1,16 +1,12 @@
 -- `entry::lawful_k` meets its contract.
-use borrow.Author.Tests.{le-leb, lt-leb}
+use borrow.Author.Needs.{needs}
 use Rattle.entry.specs.Entry.{lawfulK}
 use Rattle.entry.proofs.lawful_k.Statement.{statement}
 use Rattle.entry.proofs.lawful_k.Tie as tie
 
 returns : tie.Need-returns
 unfolding lawfulK
-returns c = rw (le-leb 1 (c .before .args .k) (c .if1 .taken))
-
-returns-2 : tie.Need-returns-2
-unfolding lawfulK
-returns-2 c = simp (lt-leb 1 (c .before .args .k) (c .if1 .left))
+returns c = c .k-up-to .ensures
 
 pub lawful-k-spec : {M : Type 1} → statement M
-lawful-k-spec = tie.close (tie.spec returns returns-2)
+lawful-k-spec = tie.close (tie.spec (λ c κs. search needs) returns)
