@@ -14,7 +14,7 @@ use Rattle.order.specs.Lists.{keep, last as ending}
 use Rattle.order.proofs.Lists.{keep-yes, keep-no, keep-nil}
 use Rattle.campaign.specs.Grid.{lawfulEnds, sameNumbers, sameEnds, stripHolding}
 use Rattle.campaign.specs.Calls.{slots}
-use Rattle.campaign.specs.Internal.{lawfulSlots}
+use Rattle.campaign.specs.Terms.{lawfulSlots}
 
 -- ---- lawful ends
 

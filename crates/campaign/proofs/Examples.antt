@@ -40,7 +40,7 @@ use Rattle.campaign.specs.Grid.{
   jobsPairs,
 }
 use Rattle.campaign.specs.Soundness.{firstEnds, secondEnds, soundEntry, sound, lawfulGrid, customerRefusal, callerRefusal, keeperRefusal, campaignRefusal}
-use Rattle.campaign.specs.Calls.{slots, prepared, opened, lowerRefusal, lowerAnswer, jobRefusal, skips, jobEntries, afterJob, JobValues, jobAnswer}
+use Rattle.campaign.specs.Calls.{slots, prepared, opened, lowerRefusal, lowerAnswer, jobFault, jobRefusal, skips, jobEntries, afterJob, JobValues, acceptedJob, jobAnswer}
 
 -- What a job answers, in one number: the refusal's, or 100 where it was swept and 200 where it was skipped.
 answerAs : Answer JobValues → ℕ
@@ -160,7 +160,7 @@ answers :
 unfolding
     afterJob afterwards all allWithin answerAs answersOf answersTo answerUnless apart apartInHeight apartInY ascending bestK between beyond boxAround
     boxOf callerRefusal campaignAs campaignRefusal classicOver cleared contentRefusal coordinateColumns coSited countFrom customerRefusal edges entriesOf equalGap equalLengths firstEnds firstOf
-    flatMap foremost gap gaps heightWithin holding insert isCustomer jobAnswer
+    flatMap foremost gap gaps heightWithin holding insert isCustomer acceptedJob jobFault jobAnswer
     jobEntries jobPairs jobRefusal join jobs jobsPairs keep keeperRefusal last lastDistance lawfulEnds lawfulGrid lawfulK lawfulMark lawfulMarks lawfulSite leads
     lex listRefusal listsRefusal look lowerAnswer lowered loweredAs lowerRefusal markOf newGrid offer one onePosition opened orElse origin overwritten ownMark ownRanges pair
     pairs placedFrom prepared product rangeGap rankBefore roomFor scan secondEnds settled settledAt settledJobs settledWith siteAt siteBefore sites

@@ -1,18 +1,18 @@
 -- Laws of the jobs of a grid and of their pairs.
 use mathlib.Core.Path.{_≡_, refl, sym, ap, ap₂, _∙_}
-use mathlib.Core.Bool.{Bool, true, not}
+use mathlib.Core.Bool.{Bool, true, not, _&&_, and-eq-true-iff}
 use mathlib.Core.List.{List, [], _∷_, _++_, flatMap, append-nil, List·Memᴰ, List·Memᴰ·head, List·Memᴰ·tail, List·Permᴰ, List·Permᴰ·trans, Permᴰ·symm}
 use Prim.Native.Nat.{ℕ, zero, suc, _+_, _≤_, _<_}
 use native.Mathlib.Omega.{arith}
 use lib.Dec.{ltb}
 use lib.IntN.{pos}
 use lib.ListN.{length}
-use borrow.Author.Tests.{lt-ltb}
+use borrow.Author.Tests.{lt-ltb, ltb-true}
 use Rattle.order.specs.Order.{on, lex}
 use Rattle.order.proofs.Sorted.{Ascends, ascends-distinct, members-perm}
 use Rattle.order.proofs.Order.{StrictOrder, by-number, lex-order, strict, lex-less, lex-next, irrefl, ltb-order}
 use Rattle.order.specs.Lists.{keep, All, Distinct}
-use Rattle.order.proofs.Lists.{all-mem, all-weaken, keep-mem, mem-keep, perm-distinct, distinct-left, distinct-keep, perm-eq, perm-keep, keep-split}
+use Rattle.order.proofs.Lists.{all-mem, all-nil, all-cons, all-append, all-weaken, keep-mem, mem-keep, perm-distinct, distinct-left, distinct-keep, perm-eq, perm-keep, keep-split}
 use Rattle.site.specs.Site.{Site, squaredDistance}
 use Rattle.site.specs.SiteList.{site, siteAt}
 use Rattle.entry.specs.declared.Entry.{Entry}
@@ -23,7 +23,7 @@ use Rattle.sweep.proofs.Strip.{mem-pairs, pairs-mem, mem-strip-pairs, strip-pai
 use Rattle.campaign.specs.Grid.{stripAt, stripHolding, Job, jobOf, countFrom, jobs, jobPairs, jobsPairs}
 use Rattle.campaign.specs.Internal.{stripFrom, stripTo}
 use Rattle.campaign.proofs.FlatMap.{flat-append, flat-perm, flat-mem, mem-flat, keep-flat, product-flat}
-use Rattle.campaign.proofs.LawfulEnds.{Cut, strips-whole, strip-holds, holding-inside}
+use Rattle.campaign.proofs.LawfulEnds.{Cut, strips-whole, strip-holds, strip-of-place, holding-inside}
 
 -- ---- the numbers of a count
 
@@ -55,6 +55,12 @@ count-mem i (suc n) (suc d) h = let e : i + suc d ≡ suc i + d = omega arith in
 pub record InGrid (rows cols : ℕ) (j : Job) : Type 0 where
   pub row : j .first < rows
   pub column : j .second < cols
+
+-- Both strip numbers are below the strip counts.
+pub in-grid : (rows cols : ℕ) (j : Job) → (ltb (j .first) rows && ltb (j .second) cols) ≡ true → InGrid rows cols j
+in-grid rows cols j h =
+    let w = and-eq-true-iff (ltb (j .first) rows) (ltb (j .second) cols) .0 h in
+    record { row = ltb-true (j .first) rows (w .0); column = ltb-true (j .second) cols (w .1) }
 
 abbrev jobBefore : Job → Job → Bool
 jobBefore = lex (on ltb (λ j. j .first)) (on ltb (λ j. j .second))
@@ -92,14 +98,21 @@ jobs-distinct rows cols =
     (λ i j l h. lex-next (on ltb (λ x. x .first)) (on ltb (λ x. x .second)) (jobOf i j) (jobOf i l) (irrefl ltb-order i) (irrefl ltb-order i) ∙ h)
     (countFrom 0 rows) (countFrom 0 cols) (count-ascends 0 rows) (count-ascends 0 cols))
 
+-- Some jobs of the grid and one more.
+pub inside-more : {rows cols : ℕ} (j : Job) (l : List Job) → InGrid rows cols j → All (InGrid rows cols) l
+    → All (InGrid rows cols) (l ++ (j ∷ []))
+inside-more {rows} {cols} j l g h =
+    let inside = InGrid rows cols in
+    all-append inside l (j ∷ []) h (all-cons inside j [] g (all-nil inside))
+
 -- Some jobs of the grid, each once, are those that a test of being among them keeps.
 pub kept-jobs : (rows cols : ℕ) (test : Job → Bool) (l : List Job) → Distinct l → All (InGrid rows cols) l
-    → ((j : Job) → test j ≡ true → List·Memᴰ j l) → ((j : Job) → List·Memᴰ j l → test j ≡ true)
+    → ((j : Job) → InGrid rows cols j → test j ≡ true → List·Memᴰ j l) → ((j : Job) → List·Memᴰ j l → test j ≡ true)
     → List·Permᴰ l (keep test (jobs rows cols))
 kept-jobs rows cols test l d inside f g =
     members-perm job-order l (keep test (jobs rows cols)) d (distinct-keep test (jobs rows cols) (jobs-distinct rows cols))
     (λ j m. mem-keep test (jobs rows cols) (in-grid-jobs rows cols j (all-mem (InGrid rows cols) inside m)) (g j m))
-    (λ j m. f j (keep-mem test (jobs rows cols) m .1))
+    (λ j m. let w = keep-mem test (jobs rows cols) m in f j (jobs-in-grid rows cols j (w .0)) (w .1))
 
 -- ---- pairs of jobs
 
@@ -157,10 +170,9 @@ module _ (ends ends' : List ℕ) (a b : List Site) where
         perm-distinct (jobs-pairs-perm (Permᴰ·symm p)) (distinct-left (jobsPairs ends ends' a b kept) (jobsPairs ends ends' a b others) parts)
 
     -- What an entry of a job's pairs is, and that each such is there.
-    pub job-entry : (j : Job) → InGrid (length ends) (length ends') j → (e : Entry) → List·Memᴰ e (jobPairs ends ends' a b j)
-        → OfJob ends ends' a b j e
+    pub job-entry : (j : Job) (e : Entry) → List·Memᴰ e (jobPairs ends ends' a b j) → OfJob ends ends' a b j e
     unfolding jobPairs stripAt stripFrom stripTo siteAt
-    job-entry j g e m =
+    job-entry j e m =
         let w = mem-strip-pairs (stripFrom ends (j .first)) (stripTo ends (j .first)) (stripFrom ends' (j .second)) (stripTo ends' (j .second)) a b m in
         let p = mem-pairs a b (site (pos 0) (pos 0) 0) (w .4) in
         record {
@@ -168,8 +180,9 @@ module _ (ends ends' : List ℕ) (a b : List Site) where
           second = p .second-below;
           distance = p .right;
           counts = p .counts;
-          holding = strip-holds cut (j .first) (g .row) (e .first) (w .0) (w .1);
-          holding' = strip-holds cut' (j .second) (g .column) (e .second) (w .2) (w .3);
+          holding = strip-holds cut (j .first) (strip-of-place ends (j .first) (e .first) (w .1)) (e .first) (w .0) (w .1);
+          holding' =
+              strip-holds cut' (j .second) (strip-of-place ends' (j .second) (e .second) (w .3)) (e .second) (w .2) (w .3);
         }
 
     entry-job : (j : Job) (e : Entry) → OfJob ends ends' a b j e → List·Memᴰ e (jobPairs ends ends' a b j)
@@ -190,12 +203,10 @@ module _ (ends ends' : List ℕ) (a b : List Site) where
         record { row = rw (h .holding) at (u .0); column = rw (h .holding') at (v .0) }
 
     -- An entry of some jobs' pairs is of one of them.
-    pub jobs-entry : (l : List Job) → All (InGrid (length ends) (length ends')) l → (e : Entry) → List·Memᴰ e (jobsPairs ends ends' a b l)
+    pub jobs-entry : (l : List Job) (e : Entry) → List·Memᴰ e (jobsPairs ends ends' a b l)
         → (j : Job) × List·Memᴰ j l × OfJob ends ends' a b j e
     unfolding jobsPairs
-    jobs-entry l h e m =
-        let w = flat-mem (jobPairs ends ends' a b) l m in
-        (w .0, w .1, job-entry (w .0) (all-mem (InGrid (length ends) (length ends')) h (w .1)) e (w .2))
+    jobs-entry l e m = let w = flat-mem (jobPairs ends ends' a b) l m in (w .0, w .1, job-entry (w .0) e (w .2))
 
     -- An entry of a job of the grid that a test keeps is one of the kept jobs' pairs.
     pub kept-entry : (test : Job → Bool) (j : Job) (e : Entry) → OfJob ends ends' a b j e → test j ≡ true

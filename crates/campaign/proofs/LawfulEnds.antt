@@ -155,6 +155,13 @@ module _ {n : ℕ} {ends : List ℕ} (cut : Cut n ends) (s : ℕ) (h : s < lengt
   unfolding stripFrom stripTo stripHolding
   strip-holds place low high = holding-from 0 ends s place (cut .up) h low high
 
+-- A strip with a place in it is one of them.
+pub strip-of-place : (ends : List ℕ) (s place : ℕ) → place < stripTo ends s → s < length ends
+unfolding stripTo
+strip-of-place [] s place h = absurd (omega arith)
+strip-of-place (e ∷ l) zero place h = omega arith
+strip-of-place (e ∷ l) (suc s) place h = omega (arith, strip-of-place l s place h)
+
 -- A place lies inside the strip that holds it.
 pub holding-inside : {n : ℕ} {ends : List ℕ} → Cut n ends → (place : ℕ) → place < n
     → let s = stripHolding ends place in

@@ -19,5 +19,6 @@ pub mod OpenAnswer
 pub mod LowerAnswer
 pub mod StatusAnswer
 pub mod JobRefusal
+pub mod JobSound
 pub mod JobAnswer
 pub mod Examples

@@ -7,7 +7,7 @@ use native.Mathlib.Omega.{arith}
 use lib.Dec.{leb, ltb, eqb}
 use lib.ListN.{length, getD, set, replicate}
 use lib.Seq.{getD-set-same, getD-set-other}
-use borrow.Author.Tests.{eqb-true, leb-true, lt-ltb, le-leb}
+use borrow.Author.Tests.{eqb-true, eqb-false, leb-true, lt-ltb, le-leb}
 use Rattle.order.proofs.Order.{byTest}
 use Rattle.campaign.specs.Grid.{Job, markOf, settled, lawfulMark, lawfulMarks}
 use Rattle.campaign.proofs.Grid.{InGrid}
@@ -120,3 +120,12 @@ pub settled-other : (marks : List ℕ) (i j : Job) → (markOf i ≡ markOf j �
     ≡ settled marks i
 unfolding settled
 settled-other marks i j h = rw (getD-set-other marks (markOf j) (markOf i) 1 0 h)
+
+-- Any job settled before stays so.
+pub settled-stays : (marks : List ℕ) (i j : Job) → markOf j < length marks → settled marks i ≡ true
+    → settled (set marks (markOf j) 1) i ≡ true
+unfolding settled
+settled-stays marks i j h s =
+    byTest (eqb (markOf i) (markOf j))
+    (λ t. rw (eqb-true (markOf i) (markOf j) t, getD-set-same marks (markOf j) 1 0 h))
+    (λ f. rw (getD-set-other marks (markOf j) (markOf i) 1 0 (eqb-false (markOf i) (markOf j) f)) s)

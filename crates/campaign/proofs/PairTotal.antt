@@ -15,7 +15,8 @@ use Rattle.entry.specs.declared.Entry.{Entry}
 use Rattle.sweep.specs.Strip.{pairs}
 use Rattle.sweep.proofs.Strip.{length-strip, length-pairs-most}
 use Rattle.campaign.specs.Grid.{stripAt, Job, jobOf, countFrom, jobs, settled, jobPairs, jobsPairs}
-use Rattle.campaign.specs.Internal.{LawfulColumns, stripFrom, stripTo}
+use Rattle.campaign.specs.Terms.{LawfulColumns}
+use Rattle.campaign.specs.Internal.{stripFrom, stripTo}
 use Rattle.campaign.proofs.Grid.{jobs-pairs-append, pairs-one}
 use Rattle.campaign.proofs.SettledRows.{rowFrom, row-whole, row-end, rowsFrom, rows-whole, rows-on, rows-end}
 

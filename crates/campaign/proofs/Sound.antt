@@ -26,7 +26,8 @@ use Rattle.customers.specs.declared.Campaign.{Campaign}
 use Rattle.customers.specs.declared.Grid.{Grid}
 use Rattle.customers.specs.Customers.{isCustomer, campaignAs}
 use Rattle.campaign.specs.Soundness.{firstEnds, secondEnds, soundEntry, sound, lawfulGrid, customerRefusal, callerRefusal, keeperRefusal}
-use Rattle.campaign.specs.Internal.{LawfulColumns, lawfulSlots, soundPlan, soundEntries}
+use Rattle.campaign.specs.Terms.{LawfulColumns, lawfulSlots, soundPlan}
+use Rattle.campaign.specs.Internal.{soundEntries}
 use Rattle.campaign.proofs.LawfulEnds.{lawful-cut}
 use Rattle.campaign.proofs.SoundPlan.{plan-parts, settled-in-use}
 use Rattle.campaign.proofs.EntryCount.{sound-few, total, rightCount, count-above, count-full, count-decides}

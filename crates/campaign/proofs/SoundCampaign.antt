@@ -1,5 +1,5 @@
 -- What a campaign that is not refused is.
-use mathlib.Core.Path.{_≡_, sym, _∙_}
+use mathlib.Core.Path.{_≡_, refl, sym, _∙_}
 use mathlib.Core.Bool.{true, _&&_}
 use Prim.Native.Nat.{ℕ, _≤_}
 use lib.ListN.{length}
@@ -10,7 +10,7 @@ use Rattle.order.proofs.Sorted.{ascending-ascends, ascends-sorted}
 use Rattle.site.specs.SiteList.{Columns, sites}
 use Rattle.site.specs.Refusal.{listRefusal}
 use Rattle.site.proofs.Tests.{and-first, and-second}
-use Rattle.site.proofs.Answer.{orElse-first, orElse-second, fault-none}
+use Rattle.site.proofs.Answer.{or-none, orElse-first, orElse-second, fault-none}
 use Rattle.entry.specs.Entry.{rankBefore}
 use Rattle.entry.specs.Results.{Results, entriesOf, roomFor}
 use Rattle.entry.specs.Terms.{Ready}
@@ -20,19 +20,22 @@ use Rattle.customers.specs.declared.Campaign.{Campaign}
 use Rattle.customers.specs.declared.Grid.{Grid}
 use Rattle.customers.specs.Customers.{campaignAs}
 use Rattle.campaign.specs.Soundness.{firstEnds, secondEnds, soundEntry, sound, lawfulGrid, callerRefusal, keeperRefusal, campaignRefusal}
-use Rattle.campaign.specs.Internal.{soundPlan, soundEntries}
+use Rattle.campaign.specs.Terms.{soundPlan}
+use Rattle.campaign.specs.Internal.{soundEntries}
 use Rattle.site.proofs.Accepted.{accepted-level}
 use Rattle.campaign.proofs.SoundPlan.{PlanParts, plan-parts}
 use Rattle.campaign.proofs.EntryCount.{rightCount, count-few}
-use Rattle.campaign.proofs.Sound.{steps, caller-lists}
+use Rattle.campaign.proofs.Sound.{steps, caller-lists, sound-decides}
 
--- The lists, the plan, room for the entries, and the entries in rank order.
+-- The lists, the plan, room for the entries, and the entries in rank order, with no fault, as many as the pair total says.
 pub record SoundCampaign (c : Campaign) (a b : Columns) (r : Results) : Type 0 where
   pub lists : (listRefusal a ≡ 0) × (listRefusal b ≡ 0)
   pub plan : soundPlan c (length (a .x)) (length (b .x)) ≡ true
   pub room : roomFor (c .k) r ≡ true
   pub most : c .entries ≤ c .k
   pub order : ascending rankBefore (entriesOf (c .entries) r) ≡ true
+  pub each : all (soundEntry (c .marks) (firstEnds c) (secondEnds c) (sites a) (sites b)) (entriesOf (c .entries) r) ≡ true
+  pub count : rightCount c (sites a) (sites b) ≡ true
 
 module _ (c : Campaign) (a b : Columns) (r : Results) where
   sound-by-tests : (listRefusal a ≡ 0) × (listRefusal b ≡ 0) → sound c (sites a) (sites b) r ≡ true → SoundCampaign c a b r
@@ -53,9 +56,17 @@ module _ (c : Campaign) (a b : Columns) (r : Results) where
         room = and-first q (o && e && n) u;
         most = count-few c (sites a) (sites b) (and-second (o && e) n v);
         order = and-first o e (and-first (o && e) n v);
+        each = and-second o e (and-first (o && e) n v);
+        count = and-second (o && e) n v;
       }
 
   module _ (w : SoundCampaign c a b r) where
+    pub tests-sound : sound c (sites a) (sites b) r ≡ true
+    unfolding soundEntries
+    tests-sound =
+        steps c a b r (accepted-level a (w .lists .0)) (accepted-level b (w .lists .1))
+        ∙ simp (w .plan, w .room, w .order, w .each, w .count)
+
     pub campaign-parts : PlanParts c (length (a .x)) (length (b .x))
     campaign-parts = plan-parts c (length (a .x)) (length (b .x)) (w .plan)
 
@@ -70,12 +81,30 @@ module _ (c : Campaign) (a b : Columns) (r : Results) where
 
 -- The lists are accepted, the grid's marks are lawful, and so is the customer's campaign.
 module _ (customer : ℕ) (g : Grid) (a b : Columns) (r : Results) where
-  pub sound-campaign : {q : ℕ} → q ≡ campaignRefusal customer g a b r → q ≡ 0 → SoundCampaign (campaignAs customer g) a b r
+  abbrev c : Campaign
+  c = campaignAs customer g
+
+  kept : campaignRefusal customer g a b r ≡ 0 → (lawfulGrid g && sound c (sites a) (sites b) r) ≡ true
   unfolding campaignRefusal keeperRefusal
+  kept ok = fault-none _ 6 (orElse-second (callerRefusal customer a b) _ ok)
+
+  pub sound-caller : campaignRefusal customer g a b r ≡ 0 → callerRefusal customer a b ≡ 0
+  unfolding campaignRefusal
+  sound-caller ok = orElse-first (callerRefusal customer a b) _ ok
+
+  pub sound-grid : campaignRefusal customer g a b r ≡ 0 → lawfulGrid g ≡ true
+  sound-grid ok = and-first (lawfulGrid g) (sound c (sites a) (sites b) r) (kept ok)
+
+  pub sound-campaign : {q : ℕ} → q ≡ campaignRefusal customer g a b r → q ≡ 0 → SoundCampaign c a b r
   sound-campaign is z =
-      let c = campaignAs customer g in
-      let caller = callerRefusal customer a b in
-      let e = sym is ∙ z in
-      let both = fault-none (lawfulGrid g && sound c (sites a) (sites b) r) 6 (orElse-second caller _ e) in
-      sound-by-tests c a b r (caller-lists customer a b (orElse-first caller _ e))
-      (and-second (lawfulGrid g) (sound c (sites a) (sites b) r) both)
+      let ok = sym is ∙ z in
+      sound-by-tests c a b r (caller-lists customer a b (sound-caller ok))
+      (and-second (lawfulGrid g) (sound c (sites a) (sites b) r) (kept ok))
+
+  -- Where all of that holds the campaign is not refused.
+  pub not-refused : callerRefusal customer a b ≡ 0 → lawfulGrid g ≡ true → SoundCampaign c a b r
+      → campaignRefusal customer g a b r ≡ 0
+  unfolding campaignRefusal
+  not-refused caller lawful w =
+      or-none (callerRefusal customer a b) _ caller
+      ∙ sym (sound-decides customer g (sites a) (sites b) r lawful refl (tests-sound c a b r w))

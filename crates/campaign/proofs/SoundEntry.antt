@@ -16,7 +16,7 @@ use Rattle.entry.specs.declared.Entry.{Entry}
 use Rattle.entry.specs.Entry.{entry, apart}
 use Rattle.entry.specs.Results.{Results, entriesOf, roomFor}
 use Rattle.entry.proofs.Results.{length-entries, entry-at}
-use Rattle.campaign.specs.Grid.{jobOf, settled, stripHolding}
+use Rattle.campaign.specs.Grid.{Job, jobOf, settled, stripHolding}
 use Rattle.campaign.specs.Soundness.{soundEntry}
 use Rattle.site.proofs.Distance.{unnumbered, numberless}
 use Rattle.site.proofs.Tests.{and-first, and-second}
@@ -104,6 +104,20 @@ sound-of-job marks ends ends' a b e h =
       },
       and-second right mark r,
     )
+
+-- Each pair of a settled job is one with no fault.
+pub of-job-sound : (marks ends ends' : List ℕ) (a b : List Site) (j : Job) (e : Entry) → OfJob ends ends' a b j e
+    → settled marks j ≡ true → soundEntry marks ends ends' a b e ≡ true
+unfolding soundEntry
+of-job-sound marks ends ends' a b j e o h =
+    simp (
+      lt-ltb (e .first) (length a) (o .first),
+      lt-ltb (e .second) (length b) (o .second),
+      o .counts,
+      eq-eqb _ _ (o .distance),
+      o .holding,
+      o .holding',
+    ) h
 
 -- The squared distance of the sites at two places, whatever their numbers.
 pub apart-at : (a b : Columns) → Level a → Level b → (i j : ℕ) → i < length (a .x) → j < length (b .x) → {d : ℕ}

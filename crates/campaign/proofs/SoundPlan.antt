@@ -20,7 +20,8 @@ use Rattle.customers.specs.declared.Campaign.{Campaign}
 use Rattle.campaign.specs.declared.Strip.{Strip}
 use Rattle.campaign.specs.Grid.{lawfulEnds, stripAt, jobOf, jobs, settled, settledJobs, jobPairs}
 use Rattle.campaign.specs.Soundness.{firstEnds, secondEnds}
-use Rattle.campaign.specs.Internal.{LawfulColumns, stripFrom, stripTo, StripOf, lawfulSlots, JobAsked, soundPlan}
+use Rattle.campaign.specs.Terms.{LawfulColumns, lawfulSlots, JobAsked, soundPlan}
+use Rattle.campaign.specs.Internal.{stripFrom, stripTo, StripOf}
 use Rattle.campaign.proofs.LawfulEnds.{lawful-cut, strip-inside}
 
 -- ---- the tests in their order
@@ -102,6 +103,9 @@ module _ {c : Campaign} {n m s t : ℕ} (w : JobAsked c n m (jobOf s t)) where
 
   pub some-k : (0 < c .k) × (c .k ≤ 4_096)
   some-k = k-limits (c .k) (asked-parts .k)
+
+  pub job-few : (s < 32) × (t < 32)
+  job-few = (omega (arith, w .row, asked-parts .rows), omega (arith, w .column, asked-parts .cols))
 
   pub first-strip : length (c .«first_ends») ≡ 32 → (stripFrom (firstEnds c) s < stripTo (firstEnds c) s) ×
       (stripTo (firstEnds c) s ≤ n)

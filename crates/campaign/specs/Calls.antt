@@ -85,12 +85,16 @@ lowerRefusal customer g a b k r =
 unfoldable pub lowerAnswer : ℕ → Grid → Columns → Columns → ℕ → Results → Answer Grid
 lowerAnswer customer g a b k r = answerUnless (lowerRefusal customer g a b k r) (lowered customer g k)
 
--- A job tests for 15, 1, 2, 3 and 7, then "8: a strip number not below the strip count", then "9: the job is settled".
+-- "8: a strip number not below the strip count", then "9: the job is settled", by these marks of the customer's own.
+unfoldable pub jobFault : ℕ → ℕ → List ℕ → Job → ℕ
+jobFault rows cols marks j =
+    orElse (refuseIf (not (ltb (j .first) rows && ltb (j .second) cols)) 8) (refuseIf (settled marks j) 9)
+
+-- A job tests for 15, 1, 2, 3 and 7, then for these.
 unfoldable pub jobRefusal : ℕ → Grid → Columns → Columns → Results → Job → ℕ
 jobRefusal customer g a b r j =
     orElse (campaignRefusal customer g a b r)
-    (orElse (refuseIf (not (ltb (j .first) (g .«first_strips») && ltb (j .second) (g .«second_strips»))) 8)
-    (refuseIf (settled (campaignAs customer g .marks) j) 9))
+    (jobFault (g .«first_strips») (g .«second_strips») (campaignAs customer g .marks) j)
 
 -- "A job is skipped exactly when the list has K entries and the gap squared is greater than the last squared distance."
 unfoldable pub skips : Campaign → List Site → List Site → List Entry → Job → Bool
@@ -116,19 +120,20 @@ pub record JobValues : Type 0 where
 abbrev pub jobValues : Grid → Results → ℕ → Counts → JobValues
 jobValues g r swept counts = record { grid = g; results = r; swept = swept; counts = counts }
 
--- What a job answers: looks and distances, and so range pairs, are "both 0 when skipped".
-unfoldable pub jobAnswer : Join → ℕ → Grid → Columns → Columns → Results → Job → Answer JobValues
-jobAnswer way customer g a b r j =
+-- What a job that is not refused leaves and answers: looks and distances, and so range pairs, are "both 0 when skipped".
+unfoldable pub acceptedJob : Join → ℕ → Grid → List Site → List Site → Results → Job → JobValues
+acceptedJob way customer g a b r j =
     let c = campaignAs customer g in
     let old = entriesOf (c .entries) r in
-    let new = jobEntries c (sites a) (sites b) old j in
-    let skip = skips c (sites a) (sites b) old j in
-    let first = stripAt (firstEnds c) (sites a) (j .first) in
-    let second = stripAt (secondEnds c) (sites b) (j .second) in
-    let joined = join way (c .k) first second old in
-    answerUnless (jobRefusal customer g a b r j)
-    (jobValues (afterJob customer g (length new) j) (holding new r)
-    (cond skip 0 1) (cond skip noCounts (joined .counts)))
+    let new = jobEntries c a b old j in
+    let skip = skips c a b old j in
+    let joined = join way (c .k) (stripAt (firstEnds c) a (j .first)) (stripAt (secondEnds c) b (j .second)) old in
+    jobValues (afterJob customer g (length new) j) (holding new r) (cond skip 0 1) (cond skip noCounts (joined .counts))
+
+-- What a job answers.
+unfoldable pub jobAnswer : Join → ℕ → Grid → Columns → Columns → Results → Job → Answer JobValues
+jobAnswer way customer g a b r j =
+    answerUnless (jobRefusal customer g a b r j) (acceptedJob way customer g (sites a) (sites b) r j)
 
 -- "Status gives jobs settled, jobs in all, entries, and K."
 pub record StatusValues : Type 0 where

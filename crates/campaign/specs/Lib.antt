@@ -2,5 +2,6 @@
 pub mod Grid
 pub mod Soundness
 pub mod Calls
--- Nothing to believe: terms that only this crate's functions cite.
+-- Nothing to believe: terms of contracts that other crates cite, and those that only this crate's functions cite.
+pub mod Terms
 pub mod Internal

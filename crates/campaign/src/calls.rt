@@ -260,12 +260,9 @@ pub fn job(
     if refused != 0 {
         return jobs::refused(g, refused);
     }
-    let c = customers::campaign_as(customer, g);
-    if jobs::skips(c, ax, ay, ah, bx, by, bh, distance, s, t) {
-        return jobs::skipped(customer, g, s, t);
-    }
-    let joined = jobs::swept(
-        c,
+    jobs::work(
+        customer,
+        g,
         ax,
         ay,
         ah,
@@ -278,6 +275,5 @@ pub fn job(
         s,
         t,
         way,
-    );
-    jobs::done(customer, g, s, t, joined)
+    )
 }

@@ -6,7 +6,8 @@ ghost use Prim.Native.Nat.{_≤_, _<_};
 ghost use lib.ListN.{length, take};
 ghost use Rattle.campaign.specs.Grid.{lawfulEnds, sameEnds, stripHolding};
 ghost use Rattle.campaign.specs.Calls.{slots};
-ghost use Rattle.campaign.specs.Internal.{lawfulSlots, stripFrom, stripTo, StripOf};
+ghost use Rattle.campaign.specs.Terms.{lawfulSlots};
+ghost use Rattle.campaign.specs.Internal.{stripFrom, stripTo, StripOf};
 
 // Whether cut ends are lawful for a list of `n` sites.
 pub(super) fn lawful(n: usize, ends: &[u32]) -> bool

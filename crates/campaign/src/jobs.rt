@@ -22,8 +22,27 @@ ghost use Rattle.join.specs.Terms.{JoinedTo};
 ghost use Rattle.customers.specs.Customers.{campaignAs};
 ghost use Rattle.campaign.specs.Grid.{stripAt, jobOf};
 ghost use Rattle.campaign.specs.Soundness.{firstEnds, secondEnds};
-ghost use Rattle.campaign.specs.Internal.{BothCoordinates, JobAsked, jobDone};
-ghost use Rattle.campaign.specs.Calls.{jobRefusal, skips, afterJob};
+ghost use Rattle.campaign.specs.Terms.{BothCoordinates, JobAsked, ReadyFor, Worked};
+ghost use Rattle.campaign.specs.Internal.{jobDone};
+ghost use Rattle.campaign.specs.Calls.{jobFault, jobRefusal, skips, afterJob, acceptedJob};
+
+// The refusal of a job's strip numbers, or of its mark; 0 for none.
+pub fn fault(rows: u32, cols: u32, marks: &[u8], s: u32, t: u32) -> u32
+    requires { ⌜ (rows ≤ 32) × (cols ≤ 32) ⌝ }
+    ensures { λ r. ⌜ r ≡ jobFault rows cols (now (marks .entry)) (jobOf s t) ⌝ }
+{
+    if rows <= s {
+        return 8;
+    }
+    if cols <= t {
+        return 8;
+    }
+    if marks::is_settled(marks, s as usize, t as usize) {
+        9
+    } else {
+        0
+    }
+}
 
 // The refusal of a job; 0 for none.
 pub(super) fn refusal(
@@ -67,19 +86,9 @@ pub(super) fn refusal(
     if refused != 0 {
         return refused;
     }
-    if g.first_strips <= s {
-        return 8;
-    }
-    if g.second_strips <= t {
-        return 8;
-    }
     let c = customers::campaign_as(customer, g);
     let marks = c.marks;
-    if marks::is_settled(&marks, s as usize, t as usize) {
-        9
-    } else {
-        0
-    }
+    fault(g.first_strips, g.second_strips, &marks, s, t)
 }
 
 // Whether a job is skipped: the list has K entries and the gap squared is greater than the last squared distance.
@@ -213,4 +222,51 @@ pub(super) fn done(customer: u32, g: Grid, s: u32, t: u32, joined: Joined) -> Jo
         grid: settle(customer, g, s, t, joined.entries),
         outcome: Outcome::Swept(counters),
     }
+}
+
+// Does a job that is not refused, swept or skipped.
+pub fn work(
+    customer: u32,
+    g: Grid,
+    ax: &[i32],
+    ay: &[i32],
+    ah: &[i32],
+    bx: &[i32],
+    by: &[i32],
+    bh: &[i32],
+    distance: &mut [u64],
+    first: &mut [u32],
+    second: &mut [u32],
+    s: u32,
+    t: u32,
+    way: Join,
+) -> JobDone
+    requires { ⌜ BothCoordinates ax ay ah bx by bh ⌝ }
+    requires { ⌜ JobAsked (campaignAs customer g) (length (now ax)) (length (now bx)) (jobOf s t) ⌝ }
+    requires { ⌜ ReadyFor (campaignAs customer g) (results (now distance) (now first) (now second)) ⌝ }
+    ensures { λ r.
+        let l = lentResults distance first second in
+        ⌜ NumberedLent ax ay ah bx by bh (λ a b.
+        Worked (acceptedJob way customer g a b (l .entry) (jobOf s t)) (l .exit) r) ⌝ }
+{
+    let c = customers::campaign_as(customer, g);
+    if skips(c, ax, ay, ah, bx, by, bh, distance, s, t) {
+        return skipped(customer, g, s, t);
+    }
+    let joined = swept(
+        c,
+        ax,
+        ay,
+        ah,
+        bx,
+        by,
+        bh,
+        distance,
+        first,
+        second,
+        s,
+        t,
+        way,
+    );
+    done(customer, g, s, t, joined)
 }

@@ -1,12 +1,12 @@
 // Campaigns of strip jobs, one of each customer, on one grid: preparing, opening, a smaller K, a job, status.
 pub mod calls;
 mod ends;
-mod jobs;
+pub mod jobs;
 mod lowering;
 mod marks;
 mod opening;
 mod preparing;
-mod soundness;
+pub mod soundness;
 mod totals;
 
 use customers::Grid;

@@ -17,7 +17,8 @@ ghost use Rattle.site.specs.SiteList.{siteAt, lentList};
 ghost use Rattle.site.specs.Terms.{NumberedLent};
 ghost use Rattle.entry.specs.Entry.{rankBefore};
 ghost use Rattle.entry.specs.Results.{results, entriesOf, roomFor, lentResults};
-ghost use Rattle.campaign.specs.Internal.{BothCoordinates, Room, soundPlan, soundEntries};
+ghost use Rattle.campaign.specs.Terms.{BothCoordinates, soundPlan};
+ghost use Rattle.campaign.specs.Internal.{Room, soundEntries};
 ghost use Rattle.campaign.specs.Soundness.{soundEntry, sound, lawfulGrid, callerRefusal, keeperRefusal, campaignRefusal};
 
 // The squared distance of the sites at two places.
@@ -296,7 +297,7 @@ pub(super) fn keeper_refusal(
 }
 
 // The refusal of a customer's number, the lists, the campaign and its columns; 0 for none.
-pub(super) fn refusal(
+pub fn refusal(
     customer: u32,
     g: Grid,
     ax: &[i32],

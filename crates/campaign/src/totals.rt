@@ -11,7 +11,7 @@ ghost use Rattle.order.specs.Lists.{keep};
 ghost use Rattle.site.specs.Terms.{NumberedLent};
 ghost use Rattle.campaign.specs.Grid.{jobOf, countFrom, settled, settledJobs, jobPairs, jobsPairs};
 ghost use Rattle.campaign.specs.Soundness.{firstEnds, secondEnds};
-ghost use Rattle.campaign.specs.Internal.{BothCoordinates, soundPlan, JobAsked};
+ghost use Rattle.campaign.specs.Terms.{BothCoordinates, soundPlan, JobAsked};
 
 // How many pairs a job has.
 fn job(

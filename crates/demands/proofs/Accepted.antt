@@ -3,31 +3,23 @@ use mathlib.Core.Path.{_≡_, refl, ap₂}
 use mathlib.Core.Bool.{true, not, _&&_, and-eq-true-iff}
 use mathlib.Core.List.{List, [], _∷_}
 use Prim.Native.Nat.{ℕ, _≤_}
-use lib.Dec.{ltb, eqb}
+use lib.Dec.{eqb}
 use lib.ListN.{length, take}
-use borrow.Author.Tests.{ltb-true, eqb-true}
+use borrow.Author.Tests.{eqb-true}
 use Rattle.order.proofs.Order.{never-both}
 use Rattle.site.specs.Answer.{refuseIf}
-use Rattle.site.specs.SiteList.{Columns, sites}
+use Rattle.site.specs.SiteList.{Columns}
 use Rattle.site.specs.Refusal.{listsRefusal}
 use Rattle.site.proofs.Answer.{orElse-first, orElse-second, fault-none}
 use Rattle.entry.specs.Entry.{lawfulK}
 use Rattle.entry.specs.Results.{Results, roomFor}
 use Rattle.customers.specs.declared.Grid.{Grid}
 use Rattle.customers.specs.Customers.{isCustomer, campaignAs}
-use Rattle.campaign.specs.Grid.{lawfulEnds, sameNumbers, sameEnds, Job}
-use Rattle.campaign.specs.Soundness.{sound, lawfulGrid, callerRefusal, keeperRefusal, campaignRefusal}
-use Rattle.campaign.specs.Calls.{lawfulCuts, gridCuts, openRefusal, lowerRefusal, jobRefusal}
-use Rattle.campaign.proofs.Grid.{InGrid}
-use Rattle.campaign.proofs.SoundPlan.{asked-parts}
+use Rattle.campaign.specs.Grid.{lawfulEnds, sameNumbers, sameEnds}
+use Rattle.campaign.specs.Soundness.{lawfulGrid, callerRefusal, campaignRefusal}
+use Rattle.campaign.specs.Calls.{lawfulCuts, gridCuts, openRefusal, lowerRefusal}
 use Rattle.campaign.proofs.Sound.{accepted-caller}
-use Rattle.campaign.proofs.JobRefusal.{job-asked}
-
--- Both strip numbers are below the strip counts.
-pub in-grid : (rows cols : ℕ) (j : Job) → (ltb (j .first) rows && ltb (j .second) cols) ≡ true → InGrid rows cols j
-in-grid rows cols j h =
-    let w = and-eq-true-iff (ltb (j .first) rows) (ltb (j .second) cols) .0 h in
-    record { row = ltb-true (j .first) rows (w .0); column = ltb-true (j .second) cols (w .1) }
+use Rattle.campaign.proofs.SoundCampaign.{sound-caller, sound-grid, sound-campaign, campaign-parts}
 
 -- ---- the ends of a grid
 
@@ -100,26 +92,20 @@ unfolding lowerRefusal
 accepted-lowering customer g a b k r ok =
     accepted-caller customer a b (orElse-first (callerRefusal customer a b) _ ok) .0
 
--- ---- an accepted job
+-- ---- accepted jobs
 
-pub record JobAccepted (customer : ℕ) (g : Grid) (j : Job) : Type 0 where
+-- What is tested before the jobs, one or several.
+pub record CampaignAccepted (customer : ℕ) (g : Grid) : Type 0 where
   pub number : isCustomer customer ≡ true
   pub lawful : lawfulGrid g ≡ true
   pub few : g .«second_strips» ≤ 32
-  pub inside : InGrid (g .«first_strips») (g .«second_strips») j
 
-pub accepted-job : (customer : ℕ) (g : Grid) (a b : Columns) (r : Results) (j : Job) → jobRefusal customer g a b r j ≡ 0
-    → JobAccepted customer g j
-unfolding jobRefusal campaignRefusal keeperRefusal campaignAs
-accepted-job customer g a b r j ok =
-    let c = campaignAs customer g in
-    let asked = job-asked customer g a b r (j .first) (j .second) ok in
-    let caller = callerRefusal customer a b in
-    let ok1 = orElse-first (campaignRefusal customer g a b r) _ ok in
-    let sevens = fault-none (lawfulGrid g && sound c (sites a) (sites b) r) 6 (orElse-second caller _ ok1) in
+pub accepted-campaign : (customer : ℕ) (g : Grid) (a b : Columns) (r : Results) → campaignRefusal customer g a b r ≡ 0
+    → CampaignAccepted customer g
+unfolding campaignAs
+accepted-campaign customer g a b r ok =
     record {
-      number = accepted-caller customer a b (orElse-first caller _ ok1) .0;
-      lawful = and-eq-true-iff (lawfulGrid g) (sound c (sites a) (sites b) r) .0 sevens .0;
-      few = asked-parts asked .cols;
-      inside = record { row = asked .row; column = asked .column };
+      number = accepted-caller customer a b (sound-caller customer g a b r ok) .0;
+      lawful = sound-grid customer g a b r ok;
+      few = campaign-parts (campaignAs customer g) a b r (sound-campaign customer g a b r refl ok) .cols;
     }

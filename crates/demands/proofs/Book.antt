@@ -1,8 +1,8 @@
 -- The laws of the book: its settled jobs and its entries.
-use mathlib.Core.Path.{_≡_, refl, sym, ap}
+use mathlib.Core.Path.{_≡_, refl, ap}
 use mathlib.Core.Logic.{⊎-elim}
 use mathlib.Core.Bool.{Bool, true, false, _&&_, _||_, or-true, and-eq-true-iff}
-use mathlib.Core.List.{List, [], _∷_, _++_, List·Memᴰ, List·Memᴰ·head, List·Memᴰ·tail, List·Memᴰ·not-nil, List·Memᴰ·cases-cons, List·Memᴰ·eq-of-singleton, Memᴰ·cast, List·Permᴰ, List·Permᴰ·trans, Permᴰ·symm}
+use mathlib.Core.List.{List, [], _∷_, _++_, List·Memᴰ, List·Memᴰ·head, List·Memᴰ·tail, List·Memᴰ·not-nil, List·Memᴰ·cases-cons, List·Permᴰ, List·Permᴰ·trans, Permᴰ·symm}
 use Prim.Native.Nat.{ℕ, _≤_}
 use native.Mathlib.Omega.{arith}
 use lib.Dec.{eqb}
@@ -11,7 +11,7 @@ use lib.Seq.{take-take}
 use borrow.Author.Tests.{eqb-true, eq-eqb}
 use Rattle.order.specs.Lists.{all, keep, All, Distinct}
 use Rattle.order.proofs.Order.{byTest, never-both}
-use Rattle.order.proofs.Lists.{all-holds, keep-whole, keep-same, all-append, all-cons, all-nil, distinct-append, perm-eq}
+use Rattle.order.proofs.Lists.{all-holds, keep-whole, keep-same, distinct-snoc, perm-eq}
 use Rattle.order.proofs.Best.{length-best, best-perm}
 use Rattle.site.specs.Site.{Site}
 use Rattle.entry.specs.declared.Entry.{Entry}
@@ -60,21 +60,13 @@ done-other j i (x ∷ l) h =
 module _ (rows cols : ℕ) where
   -- A job not yet settled joins them.
   pub once-more : (j : Job) (l : List Job) → Distinct l → isDone j l ≡ false → Distinct (l ++ (j ∷ []))
-  unfolding Distinct All
   once-more j l d h =
-      distinct-append l (j ∷ []) d (tt, tt)
-      (λ x m n. never-both (mem-done j l (Memᴰ·cast (sym (List·Memᴰ·eq-of-singleton n)) m)) h)
-
-  pub inside-more : (j : Job) (l : List Job) → InGrid rows cols j → All (InGrid rows cols) l
-      → All (InGrid rows cols) (l ++ (j ∷ []))
-  inside-more j l g h =
-      let inside = InGrid rows cols in
-      all-append inside l (j ∷ []) h (all-cons inside j [] g (all-nil inside))
+      distinct-snoc j l d (λ m. never-both (mem-done j l m) h)
 
   module _ (l : List Job) (once : Distinct l) (inside : All (InGrid rows cols) l) where
     -- They are the jobs of the grid that the book has.
     pub done-kept : List·Permᴰ l (keep (λ j. isDone j l) (jobs rows cols))
-    done-kept = kept-jobs rows cols (λ j. isDone j l) l once inside (λ j h. done-mem j l h) (λ j m. mem-done j l m)
+    done-kept = kept-jobs rows cols (λ j. isDone j l) l once inside (λ j g h. done-mem j l h) (λ j m. mem-done j l m)
 
     -- Where none is open they are all jobs.
     pub all-done : all (λ j. isDone j l) (jobs rows cols) ≡ true → List·Permᴰ l (jobs rows cols)

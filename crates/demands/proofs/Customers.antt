@@ -5,7 +5,6 @@ use mathlib.Core.List.{List, [], _∷_}
 use Prim.Native.Nat.{ℕ, zero, suc}
 use native.Mathlib.Omega.{arith}
 use lib.Dec.{leb, eqb}
-use lib.ListN.{length}
 use borrow.Author.Tests.{lt-leb, eqb-true, eqb-false, eq-eqb, ne-eqb}
 use Rattle.order.specs.Lists.{keep}
 use Rattle.order.proofs.Order.{byTest, never-both}
@@ -13,87 +12,112 @@ use Rattle.site.specs.Answer.{Answer, refused, answered, answerUnless, afterwar
 use Rattle.site.specs.Site.{Site}
 use Rattle.site.specs.SiteList.{Columns, sites}
 use Rattle.site.proofs.Answer.{answered-values}
-use Rattle.entry.specs.declared.Entry.{Entry}
 use Rattle.entry.specs.Entry.{kUpTo, lawfulK}
-use Rattle.entry.specs.Results.{Results, entriesOf, holding}
+use Rattle.entry.specs.Results.{Results, below}
 use Rattle.join.specs.Join.{Counts}
 use Rattle.customers.specs.declared.Campaign.{Campaign}
 use Rattle.customers.specs.declared.Grid.{Grid}
 use Rattle.customers.specs.Customers.{isCustomer, campaignAs}
 use Rattle.campaign.specs.Soundness.{sound, customerRefusal, callerRefusal, keeperRefusal, campaignRefusal}
-use Rattle.campaign.specs.Calls.{prepareRefusal, prepared, prepareAnswer, openAnswer, lowerRefusal, lowerAnswer, jobRefusal, jobEntries, jobAnswer, statusAnswer}
+use Rattle.campaign.specs.Calls.{prepareRefusal, prepared, prepareAnswer, openAnswer, lowerRefusal, lowerAnswer, jobRefusal, jobAnswer, statusAnswer}
+use Rattle.batch.specs.Batch.{rowsOf, batchRefusal, noJob, batchAnswer}
 use Rattle.campaign.proofs.CustomerLaws.{prepared-lawful}
-use Rattle.demands.specs.Customers.{Reading, readingOf, reading, Act, opening, lowering, job, status, Told, grid, done, Success, mapAnswer, answerTo, told, gridAfter, columnsAfter, Alike, ToldByOwn, OtherStays, BeforeOpening, MarksStay, PreparedGrid}
+use Rattle.demands.specs.Customers.{Reading, readingOf, reading, Act, opening, lowering, job, batch, status, Told, grid, done, allDone, Success, success, mapAnswer, answerTo, told, gridAfter, columnsAfter, Alike, ToldByOwn, OtherStays, BeforeOpening, MarksStay, PreparedGrid}
 use Rattle.demands.specs.Customers.{Call, preparing, by, State, stateOf, stateAfter, concerns, toldBy, heard, HistoriesAgree, CustomersApart}
+use Rattle.demands.specs.SmallerK.{entriesTold}
 use Rattle.demands.proofs.GridAfter.{grid-lawful, campaign-kept}
-use Rattle.demands.proofs.Readings.{SameColumns, skips-read, job-entries-read, joined-read, same, opening-read, lowering-read, campaign-read, job-read, opened-reading, lowered-reading, done-reading, done-count, status-read}
+use Rattle.demands.proofs.Readings.{SameColumns, opening-read, lowering-read, campaign-read, job-read, batch-read, opened-reading, lowered-reading, status-read, SameLeft, done-left, rows-left}
 
 -- ---- what a customer is told
 
--- On two grids alike, with columns in which a call finds the same. `view` is what is looked at of all that is told: of a
--- job's columns no more than `seen` shows to be the same.
+-- On two grids alike, with columns in which a call finds the same.
 module _ {customer : ℕ} {g h : Grid} (alike : Alike customer g h) {r r' : Results}
-    (even : SameColumns (campaignAs customer h .entries) r r') (view : Told → Told)
-    (seen : (read : Reading) (l : List Entry) (swept : ℕ) (counts : Counts) → read .entries ≡ length l
-    → view (done read (holding l r) swept counts) ≡ view (done read (holding l r') swept counts)) where
-  -- Two answers after which the customer is told the same, as far as it is viewed, and has the same to read; and the
-  -- same columns, if they were the same.
+    (even : SameColumns (campaignAs customer h .entries) r r') where
+  -- Two successes that tell the customer the same, the columns as far as the entries go, and leave the same to read; from the
+  -- same columns they tell and leave the same.
+  record SameSuccess (s t : Success) : Type 0 where
+    told : entriesTold (s .told) ≡ entriesTold (t .told)
+    whole : r ≡ r' → (s .told ≡ t .told) × (s .columns ≡ t .columns)
+    read : reading customer (s .grid) ≡ reading customer (t .grid)
+
+  -- So of two answers.
   Same : Answer Success → Answer Success → Type 0
   Same p q =
-      (mapAnswer view (mapAnswer (λ v. v .told) p) ≡ mapAnswer view (mapAnswer (λ v. v .told) q))
-      × (r ≡ r' → afterwards (λ v. v .columns) p r ≡ afterwards (λ v. v .columns) q r')
+      (mapAnswer entriesTold (mapAnswer (λ v. v .told) p) ≡ mapAnswer entriesTold (mapAnswer (λ v. v .told) q))
+      × (r ≡ r'
+      → (mapAnswer (λ v. v .told) p ≡ mapAnswer (λ v. v .told) q)
+      × (afterwards (λ v. v .columns) p r ≡ afterwards (λ v. v .columns) q r'))
       × (reading customer (afterwards (λ v. v .grid) p g) ≡ reading customer (afterwards (λ v. v .grid) q h))
 
-  same-answers : {A : Type 0} (f f' : A → Success) {n m : ℕ} (v w : A) → n ≡ m → view (f v .told) ≡ view (f' w .told)
-      → (r ≡ r' → f v .columns ≡ f' w .columns) → reading customer (f v .grid) ≡ reading customer (f' w .grid)
+  same-answers : {A : Type 0} (f f' : A → Success) {n m : ℕ} (v w : A) → n ≡ m → SameSuccess (f v) (f' w)
       → Same (mapAnswer f (answerUnless n v)) (mapAnswer f' (answerUnless m w))
   unfolding Same mapAnswer afterwards answerUnless
-  same-answers f f' {m = zero} v w e tells columns reads = rw e (ap answered tells, columns, reads)
-  same-answers f f' {m = suc m} v w e tells columns reads = rw e (refl, λ z. z, alike .read)
+  same-answers f f' {m = zero} v w e s =
+      rw e (ap answered (s .told), λ z. (ap answered (s .whole z .0), s .whole z .1), s .read)
+  same-answers f f' {m = suc m} v w e s = rw e (refl, λ z. (refl, z), alike .read)
+
+  -- A success that writes no column.
+  same-silent : {x y : Grid} {t t' : Told} → t ≡ t' → reading customer x ≡ reading customer y
+      → SameSuccess (success x r t) (success y r' t')
+  same-silent e reads = record { told = ap entriesTold e; whole = λ z. (e, z); read = reads }
+
+  -- One job, or several: `tell` is how they are told.
+  same-written : (tell : Reading → Results → ℕ → Counts → Told)
+      → ((read : Reading) (p : Results) (n : ℕ) (counts : Counts)
+      → entriesTold (tell read p n counts) ≡ tell read (below (read .entries) p) n counts)
+      → {x y : Grid} {p q : Results} {n m : ℕ} {counts counts' : Counts} → SameLeft customer (r ≡ r') x y p q → n ≡ m
+      → counts ≡ counts'
+      → SameSuccess (success x p (tell (reading customer x) p n counts))
+      (success y q (tell (reading customer y) q m counts'))
+  same-written tell entries {y} {p} {q} {m} {counts'} left e f =
+      let read = reading customer y in
+      rw (e, f, left .read) (record {
+        told =
+            entries read p m counts'
+            ∙ ap (λ (c : Results). tell read c m counts') (left .shown)
+            ∙ sym (entries read q m counts');
+        whole = λ z. (ap (λ (c : Results). tell read c m counts') (left .whole z), left .whole z);
+        read = left .read;
+      })
+
+  -- What both have before their jobs.
+  start : SameLeft customer (r ≡ r') g h r r'
+  unfolding reading readingOf
+  start = record { read = alike .read; shown = even .shown; whole = λ z. z }
 
   same-act : (a b : Columns) (act : Act) → Same (answerTo customer g a b r act) (answerTo customer h a b r' act)
-  unfolding answerTo openAnswer lowerAnswer jobAnswer statusAnswer
+  unfolding answerTo openAnswer lowerAnswer jobAnswer batchAnswer statusAnswer entriesTold
   same-act a b (opening k ends ends') =
       let reads = opened-reading alike k in
-      same-answers _ _ _ _ (opening-read alike even a b k ends ends') (ap (λ w. view (grid w)) reads) (λ z. z) reads
+      same-answers _ _ _ _ (opening-read alike even a b k ends ends') (same-silent (ap grid reads) reads)
   same-act a b (lowering k) =
       let reads = lowered-reading alike k in
-      same-answers _ _ _ _ (lowering-read alike even a b k) (ap (λ w. view (grid w)) reads) (λ z. z) reads
+      same-answers _ _ _ _ (lowering-read alike even a b k) (same-silent (ap grid reads) reads)
   same-act a b (job j way) =
-      let l = sites a in
-      let m = sites b in
-      let parts = same alike in
-      let d = campaignAs customer h in
-      let new = jobEntries d l m (entriesOf (d .entries) r') j in
-      let entries = job-entries-read parts even l m j in
-      let after = done-reading alike _ j in
+      let w = done-left start (sites a) (sites b) way j in
       same-answers _ _ _ _ (job-read alike even a b j)
-      (rw (entries, skips-read parts even l m j, joined-read parts even l m j way, after)
-      (seen _ new _ _ (done-count alike _ j)))
-      (λ z. rw (entries, z)) (rw entries after)
+      (same-written done (λ read p n counts. refl) (w .0) (w .1) (w .2))
+  same-act a b (batch l) =
+      let w = rows-left (noJob g r) (noJob h r') start refl refl (sites a) (sites b) (rowsOf l) in
+      same-answers _ _ _ _ (batch-read alike even a b l)
+      (same-written allDone (λ read p n counts. refl) (w .0) (w .1) (w .2))
   same-act a b status =
-      same-answers _ _ _ _ (campaign-read alike even a b) (ap view (status-read alike)) (λ z. z) (alike .read)
+      same-answers _ _ _ _ (campaign-read alike even a b) (same-silent (status-read alike) (alike .read))
 
   pub same-told : (a b : Columns) (act : Act)
-      → mapAnswer view (told customer g a b r act) ≡ mapAnswer view (told customer h a b r' act)
+      → mapAnswer entriesTold (told customer g a b r act) ≡ mapAnswer entriesTold (told customer h a b r' act)
   unfolding told Same
   same-told a b act = same-act a b act .0
-
--- All of an answer viewed.
-whole-view : {A : Type 0} (p : Answer A) → mapAnswer (λ v. v) p ≡ p
-unfolding mapAnswer
-whole-view (refused number) = refl
-whole-view (answered values) = refl
 
 -- What a customer is told depends on what is the same on grids alike.
 told-by-own : ToldByOwn
 unfolding ToldByOwn told columnsAfter gridAfter Same
 told-by-own customer g h alike a b r act =
-    let even : SameColumns (campaignAs customer h .entries) r r = record { entries = refl; room = λ k. refl } in
-    let same = same-act alike even (λ t. t) (λ read l swept counts e. refl) a b act in
+    let even : SameColumns (campaignAs customer h .entries) r r = record { shown = refl; room = λ k. refl } in
+    let same = same-act alike even a b act in
     let lawful = grid-lawful customer g a b r act ∙ alike .lawful ∙ sym (grid-lawful customer h a b r act) in (
-      sym (whole-view (told customer g a b r act)) ∙ same .0 ∙ whole-view (told customer h a b r act),
-      same .1 refl,
+      same .1 refl .0,
+      same .1 refl .1,
       record { read = same .2; lawful = lawful },
     )
 
@@ -115,11 +139,12 @@ none-lower (suc k) = rw (lt-leb (suc k) 0 (omega arith)) (and-false (leb 1 (suc 
 
 before-opening : BeforeOpening
 unfolding
-    BeforeOpening reading readingOf told answerTo lowerAnswer jobAnswer statusAnswer lowerRefusal jobRefusal
-    campaignRefusal customerRefusal callerRefusal keeperRefusal mapAnswer answerUnless orElse
+    BeforeOpening reading readingOf told answerTo lowerAnswer jobAnswer batchAnswer statusAnswer lowerRefusal jobRefusal
+    batchRefusal campaignRefusal customerRefusal callerRefusal keeperRefusal mapAnswer answerUnless orElse
 before-opening customer known g none a b lists r =
     let unsound = not-sound (campaignAs customer g) (sites a) (sites b) r none in (
       λ j way. simp (known, lists, unsound, and-false),
+      λ l. simp (known, lists, unsound, and-false),
       simp (known, lists, unsound, and-false),
       λ k. simp (known, lists, none, none-lower k),
     )

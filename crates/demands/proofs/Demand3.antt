@@ -16,15 +16,16 @@ use Rattle.pairs.specs.KList.{kList}
 use Rattle.customers.specs.declared.Campaign.{Campaign}
 use Rattle.customers.specs.declared.Grid.{Grid}
 use Rattle.campaign.specs.Calls.{prepareAnswer, opened, openRefusal, openAnswer, lowerRefusal, lowerAnswer, jobRefusal, jobAnswer}
+use Rattle.batch.specs.Batch.{batchRefusal, batchAnswer}
 use Rattle.demands.specs.Book.{Book, openBook, bookEntries, noneOpen}
-use Rattle.demands.specs.History.{own, otherLists, otherColumns, Call, job, lowering, status, opening, others, preparing}
+use Rattle.demands.specs.History.{own, otherLists, otherColumns, Call, job, batch, lowering, status, opening, others, preparing}
 use Rattle.demands.specs.History.{Bench, benchOf, benchAfter, bookAfter}
 use Rattle.demands.specs.Demand3.{LikeBenchA, Agrees, AtCall, Throughout, Demand3}
 use Rattle.demands.proofs.KClosest.{k-list-none-better, k-list-values}
 use Rattle.demands.proofs.Accepted.{accepted-opening}
 use Rattle.demands.proofs.Book.{book-finished}
-use Rattle.demands.proofs.Invariant.{Invariant, lawful-book, few-entries, Fixed, fixedOf, Standing, job-refusal, lower-refusal, status-answer}
-use Rattle.demands.proofs.History.{after-job, after-lowering, after-refusal, after-others, after-opening}
+use Rattle.demands.proofs.Invariant.{Invariant, lawful-book, few-entries, Fixed, fixedOf, Standing, job-refusal, batch-refusal, lower-refusal, status-answer}
+use Rattle.demands.proofs.History.{after-job, after-batch, after-lowering, after-refusal, after-others, after-opening}
 
 module _ {a b : Columns} {c : Campaign} {r : Results} {book : Book} (i : Invariant a b c r book) where
   -- B's columns below the count are those of the entries alone.
@@ -56,13 +57,19 @@ module _ (customer : ℕ) (a b : Columns) (fixed : Fixed) where
   at-call : {bench : Bench} {book : Book} (s : Standing customer a b fixed bench book) (c : Call) (Next : Type 0)
       → (Standing customer a b fixed (benchAfter customer a b bench c) (bookAfter book c) → Next)
       → AtCall customer a b bench book c Next
-  unfolding AtCall benchAfter bookAfter jobAnswer lowerAnswer openAnswer prepareAnswer
+  unfolding AtCall benchAfter bookAfter jobAnswer batchAnswer lowerAnswer openAnswer prepareAnswer
   at-call {bench} s (job own j way) Next next = (
     answer-number (jobRefusal customer (bench .grid) a b (bench .results) j) _ ∙ job-refusal s j,
     next (after-job s j way),
   )
   at-call s (job (otherLists a' b') j way) Next next = λ h. next (after-refusal s _ _ h)
   at-call s (job (otherColumns a' b' r) j way) Next next = λ h. next (after-refusal s _ _ h)
+  at-call {bench} s (batch own l) Next next = (
+    answer-number (batchRefusal customer (bench .grid) a b (bench .results) l) _ ∙ batch-refusal s l,
+    next (after-batch s l),
+  )
+  at-call s (batch (otherLists a' b') l) Next next = λ h. next (after-refusal s _ _ h)
+  at-call s (batch (otherColumns a' b' r) l) Next next = λ h. next (after-refusal s _ _ h)
   at-call {bench} s (lowering own k) Next next = (
     answer-number (lowerRefusal customer (bench .grid) a b k (bench .results)) _ ∙ lower-refusal s k,
     next (after-lowering s k),

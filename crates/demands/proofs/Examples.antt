@@ -20,21 +20,21 @@ use Rattle.join.specs.Join.{join}
 use Rattle.pairs.specs.DistanceList.{distanceList}
 use Rattle.pairs.specs.KList.{kList}
 use Rattle.customers.specs.Customers.{campaignAs, cleared, isCustomer, ownMark, settledAt, withCampaign, withOwn}
-use Rattle.campaign.specs.Calls.{afterJob, gridCuts, jobAnswer, jobEntries, jobRefusal, lawfulCuts, openAnswer, opened, openRefusal, prepareAnswer, prepared, prepareRefusal, skips, slots, statusAnswer}
+use Rattle.campaign.specs.Calls.{acceptedJob, afterJob, gridCuts, jobAnswer, jobEntries, jobFault, jobRefusal, lawfulCuts, openAnswer, opened, openRefusal, prepareAnswer, prepared, prepareRefusal, skips, slots, statusAnswer}
 use Rattle.campaign.specs.Grid.{countFrom, jobPairs, jobs, jobsPairs, lawfulEnds, lawfulMark, lawfulMarks, markOf, sameEnds, sameNumbers, settled, settledJobs, stripAt, stripHolding}
 use Rattle.campaign.specs.Soundness.{callerRefusal, campaignRefusal, customerRefusal, firstEnds, keeperRefusal, lawfulGrid, secondEnds, sound, soundEntry}
 use Rattle.demands.specs.Examples.{examples, ExamplesHold, figures, places, run, steps}
 
 pub examples-hold : ExamplesHold
 unfolding
-    afterJob afterwards all allWithin answerUnless apart ascending bestK between beyond boxAround boxOf callerRefusal
-    campaignAs campaignRefusal classicOver cleared columnsOf contentRefusal coordinateColumns countFrom customerRefusal
-    distanceList edges entriesOf equalLengths examples ExamplesHold figures firstEnds firstOf flatMap foremost gap gaps
-    gridCuts heightWithin holding insert isCustomer jobAnswer jobEntries jobPairs jobRefusal jobs jobsPairs join keep
-    keeperRefusal kList last lastDistance lawfulCuts lawfulEnds lawfulGrid lawfulK lawfulMark lawfulMarks lawfulSite
-    leads lex listRefusal listsRefusal look markOf offer openAnswer opened openRefusal orElse overwritten ownMark pair
-    pairs placedFrom places prepareAnswer prepared prepareRefusal product rangeGap rankBefore reverseOver roomFor run
-    sameEnds sameNumbers scan secondEnds settled settledAt settledJobs siteAt siteBefore sites sizeFault skips slots
-    sort sound soundEntry square squaredBoxGap squaredDistance squaredStripGap statusAnswer steps strip stripAt
-    stripHolding sum sweep taken whole withCampaign withColumns within withOwn zipWith
+    acceptedJob afterJob afterwards all allWithin answerUnless apart ascending bestK between beyond boxAround boxOf
+    callerRefusal campaignAs campaignRefusal classicOver cleared columnsOf contentRefusal coordinateColumns countFrom
+    customerRefusal distanceList edges entriesOf equalLengths examples ExamplesHold figures firstEnds firstOf flatMap
+    foremost gap gaps gridCuts heightWithin holding insert isCustomer jobAnswer jobEntries jobFault jobPairs jobRefusal
+    jobs jobsPairs join keep keeperRefusal kList last lastDistance lawfulCuts lawfulEnds lawfulGrid lawfulK lawfulMark
+    lawfulMarks lawfulSite leads lex listRefusal listsRefusal look markOf offer openAnswer opened openRefusal orElse
+    overwritten ownMark pair pairs placedFrom places prepareAnswer prepared prepareRefusal product rangeGap rankBefore
+    reverseOver roomFor run sameEnds sameNumbers scan secondEnds settled settledAt settledJobs siteAt siteBefore sites
+    sizeFault skips slots sort sound soundEntry square squaredBoxGap squaredDistance squaredStripGap statusAnswer steps
+    strip stripAt stripHolding sum sweep taken whole withCampaign withColumns within withOwn zipWith
 examples-hold = refl

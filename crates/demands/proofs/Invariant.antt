@@ -1,15 +1,13 @@
 -- What holds of the grid, B and the book between any two calls, and what follows from it: B passes every test for 7.
 use mathlib.Core.Path.{_≡_, sym, ap, _∙_}
-use mathlib.Core.Bool.{Bool, true, not, cond, _&&_}
+use mathlib.Core.Bool.{Bool, true, not}
 use mathlib.Core.List.{List, List·Memᴰ, List·Permᴰ}
 use Prim.Native.Nat.{ℕ, _≤_, min}
 use native.Mathlib.Omega.{arith}
-use lib.Dec.{ltb}
 use lib.ListN.{length}
-use borrow.Author.Tests.{le-leb, lt-ltb, eq-eqb}
+use borrow.Author.Tests.{le-leb, eq-eqb}
 use Rattle.order.specs.Order.{ascending}
 use Rattle.order.specs.Lists.{all, keep, All, Distinct}
-use Rattle.order.proofs.Order.{byTest}
 use Rattle.order.proofs.Lists.{mem-all, all-mem, holds-all, perm-length, keep-same}
 use Rattle.order.proofs.Best.{length-best}
 use Rattle.order.proofs.Sorted.{mem-best, ascends-best, ascends-ascending}
@@ -27,12 +25,14 @@ use Rattle.customers.specs.Customers.{isCustomer, campaignAs}
 use Rattle.campaign.specs.Grid.{lawfulEnds, Job, jobs, settled, settledJobs, jobsPairs}
 use Rattle.campaign.specs.Soundness.{firstEnds, secondEnds, soundEntry, sound, lawfulGrid, customerRefusal, callerRefusal, keeperRefusal, campaignRefusal}
 use Rattle.campaign.specs.Calls.{lowerRefusal, jobRefusal, statusAnswer}
+use Rattle.batch.specs.Batch.{Batch, rowsOf, equalColumns, batchRefusal}
 use Rattle.campaign.proofs.LawfulEnds.{lawful-cut}
 use Rattle.campaign.proofs.Grid.{jobs-in-grid, jobs-entry, jobs-pairs-perm}
-use Rattle.demands.specs.Book.{Book, isDone, bookRefusal, bookLowering, bookEntries, bookStatus}
+use Rattle.campaign.proofs.SoundEntry.{of-job-sound}
+use Rattle.demands.specs.Book.{Book, isDone, bookRefusal, bookBatch, bookLowering, bookEntries, bookStatus}
 use Rattle.demands.specs.History.{Bench}
-use Rattle.demands.proofs.Accepted.{in-grid}
 use Rattle.demands.proofs.Book.{mem-done, done-kept, bookPairs, InBook, LawfulBook, settled-pairs-distinct, length-book}
+use Rattle.demands.proofs.Marked.{Marked, job-fault, rows-fault}
 
 -- B's lists, campaign and result columns beside the book.
 pub record Invariant (a b : Columns) (c : Campaign) (r : Results) (book : Book) : Type 0 where
@@ -47,11 +47,7 @@ pub record Invariant (a b : Columns) (c : Campaign) (r : Results) (book : Book) 
   pub columns : c .«second_strips» ≡ length (book .ends')
   pub firsts : firstEnds c ≡ book .ends
   pub seconds : secondEnds c ≡ book .ends'
-  pub size : length (c .marks) ≡ 1024
-  pub settles :
-      (j : Job)
-      → InBook book j
-      → settled (c .marks) j ≡ isDone j (book .done)
+  pub marks : Marked book (c .marks)
   pub room : roomFor (book .k) r ≡ true
   pub count : c .entries ≡ length (bookEntries (sites a) (sites b) book)
   pub entries : entriesOf (c .entries) r ≡ bookEntries (sites a) (sites b) book
@@ -77,7 +73,7 @@ module _ {a b : Columns} {c : Campaign} {r : Results} {book : Book} (i : Invaria
       let done : Job → Bool = λ j. isDone j (book .done) in
       let same : keep (settled (c .marks)) (jobs rows cols) ≡ keep done (jobs rows cols) =
       keep-same (settled (c .marks)) done (jobs rows cols)
-      (λ j m. i .settles j (jobs-in-grid rows cols j m)) in
+      (λ j m. i .marks .settles j (jobs-in-grid rows cols j m)) in
       rw (i .rows, i .columns, same) (done-kept rows cols (book .done) (i .once) (i .inside))
 
   sound-order : ascending rankBefore (entriesOf (c .entries) r) ≡ true
@@ -89,25 +85,16 @@ module _ {a b : Columns} {c : Campaign} {r : Results} {book : Book} (i : Invaria
   -- An entry is of a settled job.
   sound-entry : (e : Entry) → List·Memᴰ e (entriesOf (c .entries) r)
       → soundEntry (c .marks) (book .ends) (book .ends') (sites a) (sites b) e ≡ true
-  unfolding soundEntry bookEntries bestK
+  unfolding bookEntries bestK
   sound-entry e m =
       let pairs = bookPairs (sites a) (sites b) book in
       let n : List·Memᴰ e pairs = mem-best rankBefore (book .k) pairs (rw (i .entries) at m) in
       let cut = lawful-book .cut in
       let cut' = lawful-book .cut' in
-      let w = jobs-entry (book .ends) (book .ends') (sites a) (sites b) cut cut' (book .done) (i .inside) e n in
+      let w = jobs-entry (book .ends) (book .ends') (sites a) (sites b) cut cut' (book .done) e n in
       let j = w .0 in
-      let o = w .2 in
-      let done : settled (c .marks) j ≡ true =
-      i .settles j (all-mem (InBook book) (i .inside) (w .1)) ∙ mem-done j (book .done) (w .1) in
-      simp (
-        lt-ltb (e .first) (length (sites a)) (o .first),
-        lt-ltb (e .second) (length (sites b)) (o .second),
-        o .counts,
-        eq-eqb _ _ (o .distance),
-        o .holding,
-        o .holding',
-      ) done
+      let done = i .marks .settles j (all-mem (InBook book) (i .inside) (w .1)) ∙ mem-done j (book .done) (w .1) in
+      of-job-sound (c .marks) (book .ends) (book .ends') (sites a) (sites b) j e (w .2) done
 
   -- The entries are as many as K or the settled jobs' pair total, the lesser.
   right-count : (let pairs = jobsPairs (book .ends) (book .ends') (sites a) (sites b) (settledJobs c) in
@@ -124,8 +111,8 @@ module _ {a b : Columns} {c : Campaign} {r : Results} {book : Book} (i : Invaria
       let l = entriesOf (c .entries) r in
       let test = soundEntry (c .marks) (book .ends) (book .ends') (sites a) (sites b) in
       let entries : all test l ≡ true = holds-all test l (mem-all (λ e. test e ≡ true) l sound-entry) in
-      let few = le-leb (length (book .ends)) 32 (lawful-book .cut .few) in
-      let few' = le-leb (length (book .ends')) 32 (lawful-book .cut' .few) in
+      let few = le-leb (length (book .ends)) 32 (i .marks .few) in
+      let few' = le-leb (length (book .ends')) 32 (i .marks .few') in
       simp (
         i .k,
         i .rows,
@@ -175,20 +162,23 @@ module _ {customer : ℕ} {a b : Columns} {fixed : Fixed} {bench : Bench} {book 
   unfolding campaignRefusal
   campaign-accepted = or-none (callerRefusal customer a b) _ caller-accepted ∙ keeper-accepted
 
-  -- "its job refusals .. are those of document 01's book".
+  -- "its job refusals .. are those of document 01's book", ..
   pub job-refusal : (j : Job) → jobRefusal customer (bench .grid) a b (bench .results) j ≡ bookRefusal book j
-  unfolding jobRefusal bookRefusal orElse campaignAs
+  unfolding jobRefusal campaignAs
   job-refusal j =
       let i = s .campaign in
       or-none (campaignRefusal customer (bench .grid) a b (bench .results)) _ campaign-accepted
-      ∙ rw (i .rows, i .columns)
-      (byTest (ltb (j .first) (length (book .ends)) && ltb (j .second) (length (book .ends')))
-      (λ t.
-      let inside = in-grid (length (book .ends)) (length (book .ends')) j t in
-      rw t (ap (λ (x : Bool). cond x 9 0) (i .settles j inside)))
-      (λ f. rw f))
+      ∙ rw (i .rows, i .columns) (job-fault (i .marks) j)
 
-  -- So are its lowerings' refusals.
+  -- .. and so are those of several in one call ..
+  pub batch-refusal : (l : Batch) → batchRefusal customer (bench .grid) a b (bench .results) l ≡ bookBatch book l
+  unfolding batchRefusal bookBatch campaignAs
+  batch-refusal l =
+      let i = s .campaign in
+      or-none (campaignRefusal customer (bench .grid) a b (bench .results)) _ campaign-accepted
+      ∙ rw (i .rows, i .columns) (ap (orElse (refuseIf (not (equalColumns l)) 8)) (rows-fault (i .marks) (rowsOf l)))
+
+  -- .. and of its lowerings.
   pub lower-refusal : (k : ℕ) → lowerRefusal customer (bench .grid) a b k (bench .results) ≡ bookLowering book k
   unfolding lowerRefusal bookLowering
   lower-refusal k =

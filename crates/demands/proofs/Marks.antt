@@ -13,9 +13,8 @@ use Rattle.order.proofs.Lists.{map-at}
 use Rattle.customers.specs.Customers.{ownMark}
 use Rattle.customers.proofs.CustomerLaws.{own-bit, own-none}
 use Rattle.campaign.specs.Grid.{Job, jobOf, markOf, settled, lawfulMark, lawfulMarks}
-use Rattle.campaign.proofs.Grid.{InGrid}
+use Rattle.campaign.proofs.Grid.{InGrid, in-grid}
 use Rattle.campaign.proofs.MarkLaws.{mark-at}
-use Rattle.demands.proofs.Accepted.{in-grid}
 
 -- Two numbers from 0 to 1, both 1 or neither.
 same-bit : (x y : ℕ) → x ≤ 1 → y ≤ 1 → eqb x 1 ≡ eqb y 1 → x ≡ y

@@ -1,40 +1,27 @@
 -- A smaller K in mid-campaign, whole.
 use mathlib.Core.Path.{_≡_, sym, ap, _∙_}
-use mathlib.Core.List.{List}
 use Prim.Native.Nat.{ℕ}
 use lib.ListN.{length}
 use Rattle.order.proofs.Best.{best-perm}
 use Rattle.site.specs.SiteList.{Columns, sites}
-use Rattle.entry.specs.declared.Entry.{Entry}
 use Rattle.entry.specs.Entry.{bestK}
-use Rattle.entry.specs.Results.{Results, below, entriesOf, holding}
+use Rattle.entry.specs.Results.{Results, below}
 use Rattle.entry.proofs.Rank.{rank-order}
-use Rattle.entry.proofs.Below.{columnsAlone, below-holding, room-same}
-use Rattle.join.specs.Join.{Counts}
+use Rattle.entry.proofs.Below.{columnsAlone, room-same}
 use Rattle.customers.specs.declared.Campaign.{Campaign}
 use Rattle.customers.specs.Customers.{campaignAs}
 use Rattle.campaign.specs.Soundness.{lawfulGrid}
 use Rattle.campaign.proofs.Grid.{jobs-pairs-perm}
 use Rattle.demands.specs.Book.{Book, bookEntries}
-use Rattle.demands.specs.Customers.{Reading, readingOf, reading, done, Alike}
+use Rattle.demands.specs.Customers.{readingOf, reading, Alike}
 use Rattle.demands.specs.History.{Bench}
-use Rattle.demands.specs.SmallerK.{entriesTold, AsIf, SameSettled, AsIfAlong, SmallerK}
+use Rattle.demands.specs.SmallerK.{AsIf, SameSettled, AsIfAlong, SmallerK}
 use Rattle.demands.proofs.Readings.{SameColumns, same}
 use Rattle.demands.proofs.Customers.{same-told}
 use Rattle.demands.proofs.Book.{same-done}
 use Rattle.demands.proofs.Invariant.{Invariant, Fixed, fixedOf, Standing}
 use Rattle.demands.proofs.Marks.{same-marks}
 use Rattle.demands.proofs.Demand3.{held-below, throughout, opened-standing}
-
--- What a job tells as far as the entries go, whatever they are written into.
-entries-seen : (r r' : Results) (read : Reading) (l : List Entry) (swept : ℕ) (counts : Counts)
-    → read .entries ≡ length l
-    → entriesTold (done read (holding l r) swept counts) ≡ entriesTold (done read (holding l r') swept counts)
-unfolding entriesTold
-entries-seen r r' read l swept counts e =
-    let same : below (read .entries) (holding l r) ≡ below (read .entries) (holding l r') =
-    rw e (below-holding l r ∙ sym (below-holding l r')) in
-    ap (λ (x : Results). done read x swept counts) same
 
 -- What B's customer reads is as the book has it, but for the marks.
 module _ {a b : Columns} {c : Campaign} {r : Results} {book : Book} (i : Invariant a b c r book) where
@@ -84,8 +71,8 @@ module _ {customer : ℕ} {a b : Columns} {fixed : Fixed} {bench bench' : Bench}
       let lawful = rw (i .rows, i .columns, ends, ends') at (s .lawful) in
       let lawful' = rw (i' .rows, i' .columns) at (s' .lawful) in
       same-marks (length (book' .ends)) (length (book' .ends')) customer (bench .grid .marks) (bench' .grid .marks)
-      lawful lawful' (i .size ∙ sym (i' .size))
-      (λ j inside. i .settles j (rw (ends, ends') inside) ∙ equal .jobs j ∙ sym (i' .settles j inside))
+      lawful lawful' (i .marks .size ∙ sym (i' .marks .size))
+      (λ j inside. i .marks .settles j (rw (ends, ends') inside) ∙ equal .jobs j ∙ sym (i' .marks .settles j inside))
 
   same-reading : reading customer (bench .grid) ≡ reading customer (bench' .grid)
   unfolding reading
@@ -96,31 +83,28 @@ module _ {customer : ℕ} {a b : Columns} {fixed : Fixed} {bench bench' : Bench}
   alike : Alike customer (bench .grid) (bench' .grid)
   alike = record { read = same-reading; lawful = s .lawful ∙ sym (s' .lawful) }
 
-  -- The entries in the columns of both benches.
+  -- The columns of both benches as far as the entries go.
+  same-below : (let count = campaignAs customer (bench' .grid) .entries in
+      below count (bench .results) ≡ below count (bench' .results))
+  same-below =
+      ap (λ (n : ℕ). below n (bench .results)) (sym (same alike .entries))
+      ∙ held-below (s .campaign)
+      ∙ ap columnsAlone same-entries
+      ∙ sym (held-below (s' .campaign))
+
+  -- A call finds the same in the columns of both benches.
   same-columns : SameColumns (campaignAs customer (bench' .grid) .entries) (bench .results) (bench' .results)
   same-columns = record {
-    entries =
-        ap (λ (n : ℕ). entriesOf n (bench .results)) (sym (same alike .entries))
-        ∙ s .campaign .entries
-        ∙ same-entries
-        ∙ sym (s' .campaign .entries);
+    shown = same-below;
     room = λ k. room-same k (bench .results) (bench' .results) (ap (λ (x : Fixed). x .lengths) stays);
   }
 
-  same-below : (let count = reading customer (bench .grid) .entries in
-      below count (bench .results) ≡ below count (bench' .results))
-  unfolding reading readingOf
-  same-below =
-      held-below (s .campaign)
-      ∙ ap columnsAlone same-entries
-      ∙ sym (held-below (s' .campaign))
-      ∙ ap (λ (n : ℕ). below n (bench' .results)) (sym (same alike .entries))
-
   as-if : AsIf customer bench bench'
+  unfolding reading readingOf
   as-if = record {
     campaign = same-reading;
-    entries = same-below;
-    answers = same-told alike same-columns entriesTold (entries-seen (bench .results) (bench' .results));
+    entries = rw (same alike .entries) same-below;
+    answers = same-told alike same-columns;
   }
 
 pub smaller-k : SmallerK

@@ -17,6 +17,7 @@ use Rattle.customers.specs.Customers.{isCustomer, campaignAs}
 use Rattle.campaign.specs.Grid.{Job}
 use Rattle.campaign.specs.Soundness.{firstEnds, secondEnds, lawfulGrid}
 use Rattle.campaign.specs.Calls.{prepareAnswer, openAnswer, lowerAnswer, jobAnswer, StatusValues, statusAnswer}
+use Rattle.batch.specs.Batch.{Batch, batchAnswer}
 
 -- "a customer reads the ends and their own K, marks and entry count": of the ends, for each list, those in use.
 pub record Reading : Type 0 where
@@ -44,18 +45,20 @@ unfoldable pub reading : ℕ → Grid → Reading
 reading customer g = readingOf (campaignAs customer g)
 
 -- A customer's call, beside the grid, the two lists and the columns that it gets: an opening with its K and ends, a
--- lowering to a smaller K, a job by any of the three ways, or status.
+-- lowering to a smaller K, a job by any of the three ways, several jobs in one call, or status.
 pub data Act : Type 0 where
   opening : ℕ → List ℕ → List ℕ → Act
   lowering : ℕ → Act
   job : Job → Join → Act
+  batch : Batch → Act
   status : Act
 
 -- What a success tells: an opening, a lowering or a preparing the grid, a job the grid, its columns, whether it was
--- swept, and its counts. "nothing else in it counts as told": of the grid, what the customer reads.
+-- swept, and its counts; several jobs in one call the grid, the columns, how many were skipped, and the sums of counts. "nothing else in it counts as told": of the grid, what the customer reads.
 pub data Told : Type 0 where
   grid : Reading → Told
   done : Reading → Results → ℕ → Counts → Told
+  allDone : Reading → Results → ℕ → Counts → Told
   counted : StatusValues → Told
 
 -- A success: the grid and the columns that it leaves, and what it tells.
@@ -82,6 +85,10 @@ answerTo customer g a b r (job j way) =
     mapAnswer
     (λ v. success (v .grid) (v .results) (done (reading customer (v .grid)) (v .results) (v .swept) (v .counts)))
     (jobAnswer way customer g a b r j)
+answerTo customer g a b r (batch l) =
+    mapAnswer
+    (λ v. success (v .grid) (v .results) (allDone (reading customer (v .grid)) (v .results) (v .skipped) (v .counts)))
+    (batchAnswer customer g a b r l)
 answerTo customer g a b r status = mapAnswer (λ v. success g r (counted v)) (statusAnswer customer g a b r)
 
 -- "Everything a customer is told, refusals included"; and the grid and the columns after the call.
@@ -103,6 +110,7 @@ BeforeOpening =
     (customer : ℕ) → isCustomer customer ≡ true → (g : Grid) → reading customer g .k ≡ 0
     → (a b : Columns) → listsRefusal a b ≡ 0 → (r : Results)
     → ((j : Job) (way : Join) → told customer g a b r (job j way) ≡ refused 7)
+    × ((l : Batch) → told customer g a b r (batch l) ≡ refused 7)
     × (told customer g a b r status ≡ refused 7)
     × ((k : ℕ) → told customer g a b r (lowering k) ≡ refused 4)
 

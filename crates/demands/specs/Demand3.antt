@@ -22,9 +22,10 @@ use Rattle.customers.specs.Customers.{campaignAs}
 use Rattle.campaign.specs.Soundness.{campaignRefusal}
 use Rattle.campaign.specs.Calls.{prepareRefusal, openRefusal, lowerRefusal, jobRefusal}
 use Rattle.campaign.specs.Calls.{openAnswer, lowerAnswer, jobAnswer, statusAnswer}
-use Rattle.demands.specs.Book.{Book, openBook, bookRefusal, bookLowering, bookEntries, bookStatus, noneOpen}
+use Rattle.batch.specs.Batch.{batchRefusal, batchAnswer}
+use Rattle.demands.specs.Book.{Book, openBook, bookRefusal, bookBatch, bookLowering, bookEntries, bookStatus, noneOpen}
 use Rattle.demands.specs.History.{own, otherLists, otherColumns}
-use Rattle.demands.specs.History.{Call, job, lowering, status, opening, others, preparing}
+use Rattle.demands.specs.History.{Call, job, batch, lowering, status, opening, others, preparing}
 use Rattle.demands.specs.History.{Bench, benchOf, benchAfter, bookAfter}
 
 -- "For every other choice of as many distinct pairs, its i-th smallest distance is no smaller than theirs, for each i."
@@ -51,8 +52,8 @@ pub record Agrees (a b : Columns) (c : Campaign) (r : Results) (book : Book) : T
   pub noneBetter : noneOpen book ≡ true → NoChoiceBetter (sites a) (sites b) (entriesOf (c .entries) r)
 
 module _ (customer : ℕ) (a b : Columns) (bench : Bench) (book : Book) where
-  -- "its job refusals and status answers are those of document 01's book", and so are its lowerings' refusals, lent B's
-  -- lists and columns; "only one that is refused may get other lists or columns"; of B's customer's openings, the
+  -- "its job refusals and status answers are those of document 01's book", and so are the refusals of several jobs in one
+  -- call and of lowerings, lent B's lists and columns; "only one that is refused may get other lists or columns"; of B's customer's openings, the
   -- refused ones; "the other's calls may stand between, and an accepted preparing ends both". `Next` is what holds then.
   unfoldable pub AtCall : Call → Type 0 → Type 0
   AtCall (job own j way) Next =
@@ -60,6 +61,11 @@ module _ (customer : ℕ) (a b : Columns) (bench : Bench) (book : Book) where
   AtCall (job (otherLists a' b') j way) Next =
       (jobRefusal customer (bench .grid) a' b' (bench .results) j ≡ 0 → ⊥) → Next
   AtCall (job (otherColumns a' b' r) j way) Next = (jobRefusal customer (bench .grid) a' b' r j ≡ 0 → ⊥) → Next
+  AtCall (batch own l) Next =
+      (numberOf (batchAnswer customer (bench .grid) a b (bench .results) l) ≡ bookBatch book l) × Next
+  AtCall (batch (otherLists a' b') l) Next =
+      (batchRefusal customer (bench .grid) a' b' (bench .results) l ≡ 0 → ⊥) → Next
+  AtCall (batch (otherColumns a' b' r) l) Next = (batchRefusal customer (bench .grid) a' b' r l ≡ 0 → ⊥) → Next
   AtCall (lowering own k) Next =
       (numberOf (lowerAnswer customer (bench .grid) a b k (bench .results)) ≡ bookLowering book k) × Next
   AtCall (lowering (otherLists a' b') k) Next =

@@ -10,7 +10,7 @@ use Rattle.customers.specs.declared.Grid.{Grid}
 use Rattle.campaign.specs.Grid.{Job}
 use Rattle.campaign.specs.Calls.{openAnswer}
 use Rattle.demands.specs.Book.{Book, openBook, isDone}
-use Rattle.demands.specs.Customers.{reading, Act, Told, grid, done, counted, mapAnswer, told}
+use Rattle.demands.specs.Customers.{reading, Act, Told, grid, done, allDone, counted, mapAnswer, told}
 use Rattle.demands.specs.History.{Call, Bench, benchOf}
 use Rattle.demands.specs.Demand3.{Throughout}
 
@@ -18,6 +18,7 @@ use Rattle.demands.specs.Demand3.{Throughout}
 unfoldable pub entriesTold : Told → Told
 entriesTold (grid read) = grid read
 entriesTold (done read r swept counts) = done read (below (read .entries) r) swept counts
+entriesTold (allDone read r skipped counts) = allDone read (below (read .entries) r) skipped counts
 entriesTold (counted values) = counted values
 
 -- Two benches "as if": to a customer their campaigns read the same, the entries are the same, and each call that gets

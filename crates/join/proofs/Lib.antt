@@ -2,3 +2,4 @@
 pub mod JoinLaws
 pub mod Alike
 pub mod JoinedStrips
+pub mod Counted

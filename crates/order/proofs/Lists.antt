@@ -2,7 +2,7 @@
 use mathlib.Core.Path.{_≡_, refl, sym, ap, _∙_, subst⁻¹}
 use mathlib.Core.Logic.{_⊎_, ⊎-elim, _↔_}
 use mathlib.Core.Bool.{Bool, true, false, not, _&&_}
-use mathlib.Core.List.{List, [], _∷_, _++_, map, zipWith, append-assoc, List·Memᴰ, List·Memᴰ·head, List·Memᴰ·tail, List·Memᴰ·not-nil, List·Memᴰ·cases-cons, List·Memᴰ·append-cases, Memᴰ·append-left, Memᴰ·append-right, Memᴰ·cast, List·Permᴰ, List·Permᴰ·nil, List·Permᴰ·cons, List·Permᴰ·swap, List·Permᴰ·trans, Permᴰ·refl, Permᴰ·symm, Permᴰ·middle}
+use mathlib.Core.List.{List, [], _∷_, _++_, map, zipWith, append-assoc, List·Memᴰ, List·Memᴰ·head, List·Memᴰ·tail, List·Memᴰ·not-nil, List·Memᴰ·cases-cons, List·Memᴰ·append-cases, List·Memᴰ·eq-of-singleton, Memᴰ·append-left, Memᴰ·append-right, Memᴰ·cast, List·Permᴰ, List·Permᴰ·nil, List·Permᴰ·cons, List·Permᴰ·swap, List·Permᴰ·trans, Permᴰ·refl, Permᴰ·symm, Permᴰ·middle}
 use Prim.Native.Nat.{ℕ, zero, suc, _+_, _-_, _≤_, _<_, min}
 use native.Mathlib.Nat.{add-zero, sub-zero, zero-sub, suc-sub-suc}
 use native.Mathlib.Omega.{arith}
@@ -207,6 +207,17 @@ module _ {A : Type 0} (test : A → Bool) where
             (λ k p q. after (suc k) (omega arith) (omega arith)),
       ))
 
+  -- One fewer is kept once an element of which the test holds gives way to one of which it does not.
+  pub length-keep-set : (l : List A) (i : ℕ) (v d : A) → i < length l → test (getD l i d) ≡ true → test v ≡ false
+      → length (keep test l) ≡ suc (length (keep test (set l i v)))
+  length-keep-set [] i v d lt h g = absurd (omega arith)
+  length-keep-set (a ∷ l) zero v d lt h g = rw (keep-yes a l h, keep-no v l g)
+  length-keep-set (a ∷ l) (suc i) v d lt h g =
+      let less = length-keep-set l i v d (omega arith) h g in
+      byTest (test a)
+      (λ p. rw (keep-yes a l p, keep-yes a (set l i v) p) (ap suc less))
+      (λ p. rw (keep-no a l p, keep-no a (set l i v) p) less)
+
   -- A test that implies another keeps no more.
   pub keep-fewer : (other : A → Bool) → ((a : A) → test a ≡ true → other a ≡ true) → (l : List A)
       → length (keep test l) ≤ length (keep other l)
@@ -289,6 +300,12 @@ module _ {A : Type 0} where
     all-append (λ b. a ≡ b → ⊥) l m (d .0) (mem-all (λ b. a ≡ b → ⊥) m (λ x r e. h a (List·Memᴰ·head refl) (Memᴰ·cast e r))),
     distinct-append l m (d .1) g (λ x r. h x (List·Memᴰ·tail r)),
   )
+
+  -- One element more.
+  pub distinct-snoc : (a : A) (l : List A) → Distinct l → (List·Memᴰ a l → ⊥) → Distinct (l ++ (a ∷ []))
+  unfolding Distinct All
+  distinct-snoc a l d new =
+      distinct-append l (a ∷ []) d (tt, tt) (λ x m n. new (Memᴰ·cast (sym (List·Memᴰ·eq-of-singleton n)) m))
 
   pub distinct-take : (k : ℕ) (l : List A) → Distinct l → Distinct (take k l)
   distinct-take k l d = distinct-left (take k l) (drop k l) (rw take-append-drop d)

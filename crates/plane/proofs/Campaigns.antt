@@ -1,7 +1,7 @@
--- Every height 0: preparing, opening, a smaller K, jobs and status.
-use mathlib.Core.Path.{_≡_, ap, ap₂, _∙_}
+-- Every height 0: preparing, opening, a smaller K, jobs, several in one call, and status.
+use mathlib.Core.Path.{_≡_, refl, ap, ap₂, _∙_}
 use mathlib.Core.Bool.{_&&_}
-use mathlib.Core.List.{List, map, flatMap}
+use mathlib.Core.List.{List, [], _∷_, map, flatMap}
 use Prim.Native.Nat.{ℕ}
 use lib.Dec.{ltb, eqb}
 use lib.ListN.{length-map}
@@ -23,7 +23,8 @@ use Rattle.customers.specs.declared.Grid.{Grid}
 use Rattle.customers.specs.Customers.{campaignAs}
 use Rattle.campaign.specs.Grid.{Job, jobOf, stripAt, stripHolding, settled, settledJobs, jobPairs, jobsPairs}
 use Rattle.campaign.specs.Soundness.{firstEnds, secondEnds, soundEntry, sound, callerRefusal, keeperRefusal, campaignRefusal}
-use Rattle.campaign.specs.Calls.{lawfulCuts, prepareRefusal, prepareAnswer, openRefusal, openAnswer, lowerRefusal, lowerAnswer, jobRefusal, skips, jobEntries, jobAnswer, statusAnswer}
+use Rattle.campaign.specs.Calls.{lawfulCuts, prepareRefusal, prepareAnswer, openRefusal, openAnswer, lowerRefusal, lowerAnswer, jobRefusal, skips, jobEntries, acceptedJob, jobAnswer, statusAnswer}
+use Rattle.batch.specs.Batch.{Batch, Row, rowsOf, wayOf, batchRefusal, BatchValues, noJob, acceptedRows, batchAnswer}
 use Rattle.plane.proofs.PairLists.{ground-join, ground-pairs}
 
 -- ---- strips of any sites
@@ -84,6 +85,26 @@ module _ (a b : List Site) where
   unfolding jobEntries
   job-entries-same c l j = rw (job-pairs-same (firstEnds c) (secondEnds c))
 
+  job-done-same : (way : Join) (customer : ℕ) (g : Grid) (r : Results) (j : Job)
+      → acceptedJob way customer g (map ground a) (map ground b) r j ≡ acceptedJob way customer g a b r j
+  unfolding acceptedJob
+  job-done-same way customer g r j =
+      let c = campaignAs customer g in
+      let old = entriesOf (c .entries) r in
+      rw (
+        job-entries-same c old j,
+        skips-same c old j,
+        job-join-same way (c .k) (firstEnds c) (secondEnds c) j old,
+      )
+
+  -- What several in one call do.
+  rows-same : (customer : ℕ) (v : BatchValues) (l : List Row)
+      → acceptedRows customer (map ground a) (map ground b) v l ≡ acceptedRows customer a b v l
+  unfolding acceptedRows
+  rows-same customer v [] = refl
+  rows-same customer v (x ∷ l) =
+      rw (job-done-same (wayOf (x .way)) customer (v .grid) (v .results) (x .job)) (rows-same customer _ l)
+
 -- ---- lists of the plane
 
 module _ (a b : Columns) (pa : Plane a) (pb : Plane b) where
@@ -124,19 +145,24 @@ module _ (a b : Columns) (pa : Plane a) (pb : Plane b) where
       unfolding statusAnswer
       status-same r = rw (refusal-same r)
 
+      pub batch-same : (r : Results) (l : Batch)
+          → batchAnswer customer g (onGround a) (onGround b) r l ≡ batchAnswer customer g a b r l
+      unfolding batchAnswer batchRefusal
+      batch-same r l =
+          rw (
+            refusal-same r,
+            ground-sites a pa,
+            ground-sites b pb,
+            rows-same (sites a) (sites b) customer (noJob g r) (rowsOf l),
+          )
+
   pub job-same : (way : Join) (customer : ℕ) (g : Grid) (r : Results) (j : Job)
       → jobAnswer way customer g (onGround a) (onGround b) r j ≡ jobAnswer way customer g a b r j
   unfolding jobAnswer jobRefusal
   job-same way customer g r j =
-      let c = campaignAs customer g in
-      let old = entriesOf (c .entries) r in
-      let l = sites a in
-      let m = sites b in
       rw (
         refusal-same customer g r,
         ground-sites a pa,
         ground-sites b pb,
-        job-entries-same l m c old j,
-        skips-same l m c old j,
-        job-join-same l m way (c .k) (firstEnds c) (secondEnds c) j old,
+        job-done-same (sites a) (sites b) way customer g r j,
       )

@@ -1,7 +1,7 @@
 -- Two lists with every height 0 give the answers of the plane.
 use Rattle.plane.specs.Plane.{HeightsOfZero}
 use Rattle.plane.proofs.PairLists.{k-list-same, distance-list-same, forecast-same}
-use Rattle.plane.proofs.Campaigns.{prepare-same, open-same, lower-same, job-same, status-same}
+use Rattle.plane.proofs.Campaigns.{prepare-same, open-same, lower-same, job-same, batch-same, status-same}
 
 pub heights-of-zero : HeightsOfZero
 unfolding HeightsOfZero
@@ -13,5 +13,6 @@ heights-of-zero a b p q = record {
   openings = open-same a b p q;
   lowerings = lower-same a b p q;
   jobs = job-same a b p q;
+  batches = batch-same a b p q;
   statuses = status-same a b p q;
 }

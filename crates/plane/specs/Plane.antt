@@ -11,6 +11,7 @@ use Rattle.pairs.specs.Forecast.{forecastAnswer}
 use Rattle.customers.specs.declared.Grid.{Grid}
 use Rattle.campaign.specs.Grid.{Job}
 use Rattle.campaign.specs.Calls.{prepareAnswer, openAnswer, lowerAnswer, jobAnswer, statusAnswer}
+use Rattle.batch.specs.Batch.{Batch, batchAnswer}
 
 -- What two lists of the plane are answered, they are answered with every height 0: refusals, counts and columns too.
 pub record PlaneAnswers (a b : Columns) : Type 0 where
@@ -32,6 +33,9 @@ pub record PlaneAnswers (a b : Columns) : Type 0 where
   pub jobs :
       (way : Join) (customer : ℕ) (g : Grid) (r : Results) (j : Job)
       → jobAnswer way customer g (onGround a) (onGround b) r j ≡ jobAnswer way customer g a b r j
+  pub batches :
+      (customer : ℕ) (g : Grid) (r : Results) (l : Batch)
+      → batchAnswer customer g (onGround a) (onGround b) r l ≡ batchAnswer customer g a b r l
   pub statuses :
       (customer : ℕ) (g : Grid) (r : Results)
       → statusAnswer customer g (onGround a) (onGround b) r ≡ statusAnswer customer g a b r

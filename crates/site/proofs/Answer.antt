@@ -72,6 +72,12 @@ unfolding orElse
 or-some zero n h = absurd (h refl)
 or-some (suc m) n h = refl
 
+-- It depends on the second one only where the first is none.
+pub or-same : (m : ℕ) {n k : ℕ} → (m ≡ 0 → n ≡ k) → orElse m n ≡ orElse m k
+unfolding orElse
+or-same zero h = h refl
+or-same (suc m) h = refl
+
 -- No second one, and the first of three.
 pub or-nothing : (n : ℕ) → orElse n 0 ≡ n
 unfolding orElse

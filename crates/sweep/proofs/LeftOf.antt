@@ -1,7 +1,7 @@
 -- Strips of a list of sites in order, by place and by x.
 use mathlib.Core.Path.{_≡_}
 use mathlib.Core.Bool.{Bool, true, false}
-use mathlib.Core.List.{List, [], _∷_}
+use mathlib.Core.List.{List, [], _∷_, map}
 use Prim.Native.Nat.{ℕ, suc, _-_}
 use lib.Signed.{ltZ}
 use lib.ListN.{drop}
@@ -10,7 +10,7 @@ use Rattle.order.specs.Terms.{Sorted}
 use Rattle.order.proofs.Sorted.{Ascends, ascending-ascends, sorted-take, sorted-drop}
 use Rattle.order.proofs.Order.{byTest, never-both, ltZ-order, lex-more}
 use Rattle.order.specs.Lists.{All}
-use Rattle.order.proofs.Lists.{all-weaken}
+use Rattle.order.proofs.Lists.{all-weaken, all-map, map-all}
 use Rattle.site.specs.Site.{Site, siteBefore}
 use Rattle.site.proofs.SiteBefore.{site-order}
 use Rattle.sweep.specs.Strip.{Placed, placedFrom, whole, strip}
@@ -31,19 +31,37 @@ unfolding placedFrom All
 all-placed P n [] h = tt
 all-placed P n (s ∷ l) h = (h .0, all-placed P (suc n) l (h .1))
 
-placed-sorted : (n : ℕ) (l : List Site) → Ascends siteBefore l → Sorted leftOf (placedFrom n l)
-unfolding placedFrom Ascends Sorted
+-- The x of a list in order never falls.
+rises : (l : List Site) → Ascends siteBefore l → Sorted ltZ (map (λ s. s .x) l)
+unfolding Ascends Sorted
+rises [] h = tt
+rises (s ∷ l) h = (
+  all-map (λ x. ltZ x (s .x) ≡ false) (λ t. t .x) l
+      (all-weaken (λ t. siteBefore s t ≡ true) (λ t. ltZ (t .x) (s .x) ≡ false) (before-x s) l (h .0)),
+  rises l (h .1),
+)
+
+x-sorted : (l : List Site) → ascending siteBefore l ≡ true → Sorted ltZ (map (λ s. s .x) l)
+x-sorted l h = rises l (ascending-ascends site-order l h)
+
+placed-sorted : (n : ℕ) (l : List Site) → Sorted ltZ (map (λ s. s .x) l) → Sorted leftOf (placedFrom n l)
+unfolding placedFrom Sorted
 placed-sorted n [] h = tt
 placed-sorted n (s ∷ l) h = (
-  all-placed (λ t. ltZ (t .x) (s .x) ≡ false) (suc n) l (all-weaken (λ t. siteBefore s t ≡ true) (λ t. ltZ (t .x) (s .x) ≡ false) (before-x s) l (h .0)),
+  all-placed (λ t. ltZ (t .x) (s .x) ≡ false) (suc n) l (map-all (λ x. ltZ x (s .x) ≡ false) (λ t. t .x) l (h .0)),
   placed-sorted (suc n) l (h .1),
 )
 
--- The sites of a list in order stand in the order of x.
+-- The sites of a strip stand in the order of x where the x of the list never falls, ..
+pub strip-by-x : (from to : ℕ) (l : List Site) → Sorted ltZ (map (λ s. s .x) l) → Sorted leftOf (strip from to l)
+unfolding strip whole
+strip-by-x from to l h =
+    sorted-take leftOf (to - from) (drop from (placedFrom 0 l)) (sorted-drop leftOf from (placedFrom 0 l) (placed-sorted 0 l h))
+
+-- .. and so where it is in order, those of the whole list too.
+pub strip-sorted : (from to : ℕ) (l : List Site) → ascending siteBefore l ≡ true → Sorted leftOf (strip from to l)
+strip-sorted from to l h = strip-by-x from to l (x-sorted l h)
+
 pub whole-sorted : (l : List Site) → ascending siteBefore l ≡ true → Sorted leftOf (whole l)
 unfolding whole
-whole-sorted l h = placed-sorted 0 l (ascending-ascends site-order l h)
-
-pub strip-sorted : (from to : ℕ) (l : List Site) → ascending siteBefore l ≡ true → Sorted leftOf (strip from to l)
-unfolding strip
-strip-sorted from to l h = sorted-take leftOf (to - from) (drop from (whole l)) (sorted-drop leftOf from (whole l) (whole-sorted l h))
+whole-sorted l h = placed-sorted 0 l (x-sorted l h)

@@ -15,7 +15,7 @@ use Rattle.customers.specs.declared.Grid.{Grid}
 use Rattle.customers.specs.Customers.{campaignAs}
 use Rattle.campaign.specs.Grid.{Job, stripAt}
 use Rattle.campaign.specs.Soundness.{firstEnds, secondEnds}
-use Rattle.campaign.specs.Calls.{skips, jobValues, jobAnswer}
+use Rattle.campaign.specs.Calls.{skips, jobValues, acceptedJob, jobAnswer}
 use Rattle.vumlintel.specs.Crosses.{Crosses}
 
 -- The counters of a sweep, and of a join by halves.
@@ -85,7 +85,7 @@ module _ (customer : ℕ) (g : Grid) (a b : Columns) (r : Results) (j : Job) whe
         (record { entry = jobValues d l s (counts x y 0); exit = jobValues d' l' s' (counts x' y' z') })
         → Crosses (jobAnswer (Sweep way) customer g a b r j) told
         (record { entry = jobValues d l s (bySweep x y); exit = jobValues d' l' s' (bySweep x' y') })
-    unfolding jobAnswer join
+    unfolding jobAnswer acceptedJob join
     job-by-sweep way crossed =
         crossed-own (λ v. v .counts) ofSweep (jobValues d' l' s') (λ c. refl) _ _ _
         (skipped-own ofSweep skip (counted (Sweep way)) refl refl) refl crossed
@@ -94,7 +94,7 @@ module _ (customer : ℕ) (g : Grid) (a b : Columns) (r : Results) (j : Job) whe
         (record { entry = jobValues d l s (counts 0 0 z); exit = jobValues d' l' s' (counts x' y' z') })
         → Crosses (jobAnswer Halves customer g a b r j) told
         (record { entry = jobValues d l s (byHalves z); exit = jobValues d' l' s' (byHalves z') })
-    unfolding jobAnswer join
+    unfolding jobAnswer acceptedJob join
     job-by-halves crossed =
         crossed-own (λ v. v .counts) ofHalves (jobValues d' l' s') (λ c. refl) _ _ _
         (skipped-own ofHalves skip (counted Halves) refl refl) refl crossed

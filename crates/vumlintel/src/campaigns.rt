@@ -1,4 +1,4 @@
-// Preparing a grid, opening a customer's campaign on it, a smaller K, its jobs and its status. A grid crosses in its parts, each behind a
+// Preparing a grid, opening a customer's campaign on it, a smaller K, its jobs, one or several in a call, and its status. A grid crosses in its parts, each behind a
 // reference.
 ghost use mathlib.Core.Path.{_≡_};
 ghost use Rattle.column.specs.Lent.{the, _of_, _with_};
@@ -18,8 +18,11 @@ ghost use Rattle.campaign.specs.Calls.{
   statusValues,
   statusAnswer,
 };
+ghost use Rattle.batch.specs.Batch.{lentBatch, batchValues, batchAnswer, batchDoneAnswer};
 ghost use Rattle.vumlintel.specs.Crosses.{Crosses};
 ghost use Rattle.vumlintel.specs.Lent.{lentGrid};
+use batch::BatchDone;
+use batch::BatchOutcome;
 use campaign::JobDone;
 use campaign::Outcome;
 use campaign::Status;
@@ -120,6 +123,33 @@ fn cross_done(
             0
         }
         Outcome::Refused(n) => n,
+    }
+}
+
+// What several jobs answer beside the grid, across the boundary.
+fn cross_batch(
+    done: BatchDone,
+    skipped: &mut u32,
+    looks: &mut u64,
+    distances: &mut u64,
+    range_pairs: &mut u64,
+) -> u32
+    ensures { λ r.
+        let counters = the counts of looks of distances of «range_pairs» in
+        ⌜ ((l : Results) →
+        Crosses (batchDoneAnswer done l) r (the (batchValues (done .grid) l) of skipped with counters)) ⌝ }
+{
+    let outcome = done.outcome;
+    match outcome {
+        BatchOutcome::Done(sums) => {
+            let counters = sums.counters;
+            *skipped = sums.skipped;
+            *looks = counters.looks.0;
+            *distances = counters.distances.0;
+            *range_pairs = counters.range_pairs.0;
+            0
+        }
+        BatchOutcome::Refused(n) => n,
     }
 }
 
@@ -652,6 +682,97 @@ pub extern "C" fn vumlintel_job_halves(
         &mut distances,
         range_pairs,
     )
+}
+
+// Several jobs in one call: the grid, how many were skipped, and the sums of looks, distances and range pairs.
+#[no_mangle]
+pub extern "C" fn vumlintel_jobs(
+    first_strips: &mut u32,
+    second_strips: &mut u32,
+    first_ends: &mut [u32; 32],
+    second_ends: &mut [u32; 32],
+    marks: &mut [u8; 1024],
+    k1: &mut u32,
+    entries1: &mut u32,
+    k2: &mut u32,
+    entries2: &mut u32,
+    customer: u32,
+    ax: &[i32],
+    ay: &[i32],
+    an: &[u32],
+    ah: &[i32],
+    bx: &[i32],
+    by: &[i32],
+    bn: &[u32],
+    bh: &[i32],
+    distance: &mut [u64],
+    first: &mut [u32],
+    second: &mut [u32],
+    job_first: &[u32],
+    job_second: &[u32],
+    job_way: &[u32],
+    skipped: &mut u32,
+    looks: &mut u64,
+    distances: &mut u64,
+    range_pairs: &mut u64,
+) -> u32
+    ensures { λ r.
+        let g = lentGrid «first_strips» «second_strips» «first_ends» «second_ends» marks k1 entries1 k2 entries2 in
+        let a = lentList ax ay an ah .entry in
+        let b = lentList bx by bn bh .entry in
+        let l = lentResults distance first second in
+        let jobs = lentBatch «job_first» «job_second» «job_way» .entry in
+        let counters = the counts of looks of distances of «range_pairs» in
+        ⌜ Crosses (batchAnswer customer (g .entry) a b (l .entry) jobs) r
+        (the batchValues with g with l of skipped with counters) ⌝ }
+{
+    let g = get(
+        first_strips,
+        second_strips,
+        first_ends,
+        second_ends,
+        marks,
+        k1,
+        entries1,
+        k2,
+        entries2,
+    );
+    let done = batch::jobs(
+        customer,
+        g,
+        ax,
+        ay,
+        an,
+        ah,
+        bx,
+        by,
+        bn,
+        bh,
+        distance,
+        first,
+        second,
+        job_first,
+        job_second,
+        job_way,
+    );
+    let ended = done.grid;
+    let told = cross_batch(done, skipped, looks, distances, range_pairs);
+    if told != 0 {
+        return told;
+    }
+    put(
+        ended,
+        first_strips,
+        second_strips,
+        first_ends,
+        second_ends,
+        marks,
+        k1,
+        entries1,
+        k2,
+        entries2,
+    );
+    0
 }
 
 // Status: a customer's jobs settled, the jobs in all, the entries and K.

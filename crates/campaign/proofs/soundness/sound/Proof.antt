@@ -8,7 +8,7 @@ use lib.ListN.{length}
 use borrow.Author.Tests.{not-true, not-false}
 use Rattle.site.specs.SiteList.{Columns, raised}
 use Rattle.entry.specs.Results.{results, roomFor}
-use Rattle.campaign.specs.Internal.{soundPlan}
+use Rattle.campaign.specs.Terms.{soundPlan}
 use Rattle.campaign.proofs.SoundPlan.{plan-parts}
 use Rattle.campaign.proofs.Sound.{plan-fails, room-fails, too-many, entries-fail, full-sound, total-decides}
 use Rattle.campaign.proofs.soundness.sound.Statement.{statement}
