@@ -1,7 +1,7 @@
 //! The exported calls, safe, with all that is lent between fences: a write outside a lent buffer is seen, and so is a
 //! changed element of what is lent to be read only, and an answer written by a refused call.
 
-use crate::model::{Columns, Counters, Grid, Opening, Results, Site, Status, Way};
+use crate::model::{Columns, Counters, Grid, Jobs, Opening, Results, Site, Status, Way};
 use crate::plane;
 use crate::raw::{self, Band};
 
@@ -372,6 +372,44 @@ pub fn job(
     q.unchanged(b);
     *r = l.back();
     told(number, (swept, counters), (U, unwritten(way)))
+}
+
+/// The number skipped and the sums; the grid and the columns are changed in place.
+pub fn jobs(
+    g: &mut Grid,
+    customer: u32,
+    a: &Columns,
+    b: &Columns,
+    r: &mut Results,
+    jobs: &Jobs,
+) -> Result<(u32, Counters), u32> {
+    let (p, q) = (LentList::new(a), LentList::new(b));
+    let mut l = LentResults::new(r);
+    let [f, s, w] = [&jobs.first, &jobs.second, &jobs.way].map(|column| Lent::new(column, U));
+    let unwritten = Counters { looks: L, distances: L, range_pairs: L };
+    let (mut skipped, mut sums) = (U, unwritten);
+    let [one, two] = &mut g.shares;
+    let number = unsafe {
+        raw::vumlintel_jobs(
+            &mut g.first_strips, &mut g.second_strips, &mut g.first_ends, &mut g.second_ends, &mut g.marks,
+            &mut one.k, &mut one.entries, &mut two.k, &mut two.entries,
+            customer,
+            p.x.shared(), p.x.len(), p.y.shared(), p.y.len(), p.n.shared(), p.n.len(), p.h.shared(), p.h.len(),
+            q.x.shared(), q.x.len(), q.y.shared(), q.y.len(), q.n.shared(), q.n.len(), q.h.shared(), q.h.len(),
+            l.distance.exclusive(), l.distance.len(),
+            l.first.exclusive(), l.first.len(),
+            l.second.exclusive(), l.second.len(),
+            f.shared(), f.len(), s.shared(), s.len(), w.shared(), w.len(),
+            &mut skipped, &mut sums.looks, &mut sums.distances, &mut sums.range_pairs,
+        )
+    };
+    p.unchanged(a);
+    q.unchanged(b);
+    f.unchanged(&jobs.first);
+    s.unchanged(&jobs.second);
+    w.unchanged(&jobs.way);
+    *r = l.back();
+    told(number, (skipped, sums), (U, unwritten))
 }
 
 pub fn status(g: &Grid, customer: u32, a: &Columns, b: &Columns, r: &Results) -> Result<Status, u32> {

@@ -1,10 +1,12 @@
-//! Preparing, opening, lowering K, jobs and status beside the brute force, and whole histories of one customer beside their
-//! book. The other customer's part of the grid holds anything meanwhile.
+//! Preparing, opening, lowering K, jobs, one by one and several in one call, and status beside the brute force, and whole
+//! histories of one customer beside their book. The other customer's part of the grid holds anything meanwhile.
 
 use crate::calls;
 use crate::harness::{Harness, progress};
 use crate::lists::{HIGHEST, LOWEST, MAX, damaged, even, f, lawful, stacked};
-use crate::model::{self, Book, CUSTOMERS, Columns, Counters, Grid, Opening, Results, Share, Status, Strip, WAYS, Way, site};
+use crate::model::{
+    self, Book, CUSTOMERS, Columns, Counters, Grid, Jobs, Opening, Results, Share, Status, Strip, WAYS, Way, site,
+};
 use crate::random::Random;
 use std::collections::BTreeMap;
 
@@ -176,6 +178,27 @@ pub fn same_job(way: Way, bench: &mut Bench, s: u32, t: u32) -> Result<bool, u32
     }
 }
 
+/// Several jobs in one call: how many were skipped.
+pub fn same_jobs(bench: &mut Bench, jobs: &Jobs) -> Result<u32, u32> {
+    let before = bench.clone();
+    let customer = bench.customer;
+    let expected = model::jobs(&before.g, customer, &before.a, &before.b, &before.r, jobs);
+    let answer = calls::jobs(&mut bench.g, customer, &bench.a, &bench.b, &mut bench.r, jobs);
+    match expected {
+        Ok(done) => {
+            assert_eq!(answer, Ok((done.skipped, done.counters)), "customer {customer} {jobs:?}");
+            assert!(bench.g == done.grid, "customer {customer} {jobs:?}: the grid differs");
+            assert!(bench.r == done.results, "customer {customer} {jobs:?}: a column differs");
+            Ok(done.skipped)
+        }
+        Err(refusal) => {
+            assert_eq!(answer, Err(refusal), "customer {customer} {jobs:?}");
+            assert!(bench.g == before.g && bench.r == before.r, "refused jobs changed something: {jobs:?}");
+            Err(refusal)
+        }
+    }
+}
+
 pub fn same_status(bench: &Bench) -> Result<Status, u32> {
     let answer = calls::status(&bench.g, bench.customer, &bench.a, &bench.b, &bench.r);
     let expected = model::status(&bench.g, bench.customer, &bench.a, &bench.b, &bench.r);
@@ -227,6 +250,53 @@ pub fn strip_number(r: &mut Random, strips: usize) -> u32 {
         return [strips as u32, 32, u32::MAX][r.below(3)];
     }
     r.below(strips) as u32
+}
+
+/// Numbers that are no way: beside 2, and such that their last bits are those of a way.
+pub const NO_WAY: [u32; 8] = [3, 4, 255, 0x100, 0x1_0001, 0x8000_0002, u32::MAX - 1, u32::MAX];
+
+/// A job and the number of its way.
+pub type Row = (u32, u32, u32);
+
+/// A customer's open jobs of so many strips a list, in any order, each by any way.
+pub fn open_jobs(r: &mut Random, g: &Grid, customer: u32, strips: [usize; 2]) -> Vec<Row> {
+    let mut jobs: Vec<_> = (0..strips[0]).flat_map(|s| (0..strips[1]).map(move |t| (s, t))).collect();
+    jobs.retain(|(s, t)| !g.settled(customer, *s, *t));
+    for i in (1..jobs.len()).rev() {
+        jobs.swap(i, r.below(i + 1));
+    }
+    jobs.into_iter().map(|(s, t)| (s as u32, t as u32, r.below(3) as u32)).collect()
+}
+
+/// A row that is at fault as a rule: a strip number or a way that is none, a job of the call once more, or any job.
+fn some_row(r: &mut Random, rows: &[Row], strips: [usize; 2]) -> Row {
+    let [s, t] = strips.map(|n| r.below(n.max(1)) as u32);
+    let way = r.below(3) as u32;
+    let beyond = |r: &mut Random, n: usize| [n as u32, 32, 0x100, u32::MAX][r.below(4)];
+    match r.below(5) {
+        0 => (beyond(r, strips[0]), t, way),
+        1 => (s, beyond(r, strips[1]), way),
+        2 => (s, t, NO_WAY[r.below(NO_WAY.len())]),
+        3 if !rows.is_empty() => rows[r.below(rows.len())],
+        _ => (s, t, way),
+    }
+}
+
+/// At most so many jobs for one call: open ones of the customer as a rule, now and then with a fault among them, or with a
+/// column that is one longer or shorter.
+pub fn some_jobs(r: &mut Random, g: &Grid, customer: u32, strips: [usize; 2], most: usize) -> Jobs {
+    let mut rows = open_jobs(r, g, customer, strips);
+    rows.truncate(r.below(most + 1));
+    if r.once_in(3) {
+        let row = some_row(r, &rows, strips);
+        rows.insert(r.below(rows.len() + 1), row);
+    }
+    let mut jobs = Jobs::of(&rows);
+    if r.once_in(15) {
+        let length = if r.once_in(2) { rows.len() + 1 } else { rows.len().saturating_sub(1) };
+        [&mut jobs.first, &mut jobs.second, &mut jobs.way][r.below(3)].resize(length, 0);
+    }
+    jobs
 }
 
 fn fixed_example() {
@@ -404,9 +474,15 @@ pub fn tamper(r: &mut Random, bench: &mut Bench) {
     }
 }
 
+/// Every fault of refusal 7.
+pub const FAULTS: [&str; 12] = [
+    "K", "strip count", "ends", "mark above 3", "mark outside the jobs", "column", "entry count", "place",
+    "squared distance", "co-sited", "unsettled job", "rank order",
+];
+
 /// What a history showed: refusals, faults of refusal 7, by each way jobs swept, skipped and repeated, jobs skipped though the
 /// x gap alone would not do, and though the x and y gaps would not, tampered grids that passed, lowerings that were accepted,
-/// and histories with no open job at their end.
+/// calls for several jobs by their number, those that skipped some, and histories with no open job at their end.
 #[derive(Default)]
 struct Seen {
     refusals: BTreeMap<u32, u32>,
@@ -418,6 +494,8 @@ struct Seen {
     by_height: u32,
     passed: u32,
     lowered: u32,
+    calls: BTreeMap<u32, u32>,
+    some_skipped: u32,
     complete: u32,
 }
 
@@ -447,6 +525,9 @@ fn tampered_calls(r: &mut Random, bench: &Bench, seen: &mut Seen) {
         let t = r.below(other.g.second_strips.min(32) as usize + 1) as u32;
         seen.told(same_job(way, &mut other, s, t));
     }
+    let strips = [other.g.first_strips, other.g.second_strips].map(|n| n.min(32) as usize);
+    let jobs = some_jobs(r, &other.g, other.customer, strips, 4);
+    seen.told(same_jobs(&mut other, &jobs));
 }
 
 /// Whether a job that is skipped would be swept by the first `gaps` of the x gap, the y gap and the height gap.
@@ -479,6 +560,17 @@ fn job_in_history(r: &mut Random, bench: &mut Bench, book: &mut Book, strips: [u
     seen.told(answer);
 }
 
+/// Several jobs in one call held to the brute force and to the book.
+fn jobs_in_history(r: &mut Random, bench: &mut Bench, book: &mut Book, strips: [usize; 2], seen: &mut Seen) {
+    let jobs = some_jobs(r, &bench.g, bench.customer, strips, 6);
+    let answer = same_jobs(bench, &jobs);
+    let number = answer.err().unwrap_or(0);
+    assert_eq!(number, book.jobs(&jobs), "the book answers otherwise: {jobs:?}");
+    *seen.calls.entry(number).or_default() += 1;
+    seen.some_skipped += answer.is_ok_and(|skipped| skipped > 1) as u32;
+    seen.told(answer);
+}
+
 /// One history of a customer: an opening, then calls of every kind, each held to the brute force and to the book.
 fn history(r: &mut Random, kind: usize, seen: &mut Seen) {
     let (n, m) = ([0, 1, 3, 10, 40][r.below(5)], [1, 2, 3, 10, 40][r.below(5)]);
@@ -508,6 +600,7 @@ fn history(r: &mut Random, kind: usize, seen: &mut Seen) {
                 seen.lowered += answer.is_ok() as u32;
                 seen.told(answer);
             }
+            4 if r.once_in(3) => jobs_in_history(r, &mut bench, &mut book, [first.len(), second.len()], seen),
             _ => job_in_history(r, &mut bench, &mut book, [first.len(), second.len()], seen),
         }
         let status = book.status();
@@ -530,11 +623,7 @@ fn histories(r: &mut Random) {
     for number in [0, 1, 2, 3, 4, 5, 7, 8, 9] {
         assert!(seen.refusals.get(&number).is_some_and(|n| *n > 50), "{:?}", seen.refusals);
     }
-    let faults = [
-        "K", "strip count", "ends", "mark above 3", "mark outside the jobs", "column", "entry count", "place",
-        "squared distance", "co-sited", "unsettled job", "rank order",
-    ];
-    for fault in faults {
+    for fault in FAULTS {
         assert!(seen.faults.get(fault).is_some_and(|n| *n > 5), "{fault}: {:?}", seen.faults);
     }
     for jobs in [seen.swept, seen.skipped, seen.repeated] {
@@ -542,6 +631,8 @@ fn histories(r: &mut Random) {
     }
     assert!(seen.passed > 50 && seen.complete > 50 && seen.lowered > 500, "{} {} {}", seen.passed, seen.complete, seen.lowered);
     assert!(seen.by_y > 100 && seen.by_height > 100, "{} {}", seen.by_y, seen.by_height);
+    assert!(seen.calls.keys().eq(&[0, 8, 9]) && seen.calls.values().all(|n| *n > 200), "{:?}", seen.calls);
+    assert!(seen.some_skipped > 200, "{}", seen.some_skipped);
 }
 
 /// The full grid of 32 strips a list, all 1,024 jobs in a random sequence.

@@ -3,12 +3,12 @@
 
 use crate::calls;
 use crate::campaigns::{
-    Bench, any_part, anything, cuts, either, lower_to, opened, other_customer, prepared, results, same_as_one_sweep, same_job,
-    same_lower, same_open, same_prepare, same_status, strip_number, tamper,
+    Bench, FAULTS, any_part, anything, cuts, either, lower_to, opened, other_customer, prepared, results, same_as_one_sweep,
+    same_job, same_jobs, same_lower, same_open, same_prepare, same_status, some_jobs, strip_number, tamper,
 };
 use crate::harness::{Harness, progress};
 use crate::lists::{MAX, damaged, f, lawful};
-use crate::model::{self, Book, CUSTOMERS, Columns, Counters, Grid, Opening, Results, Share, Status, WAYS, Way, site};
+use crate::model::{self, Book, CUSTOMERS, Columns, Counters, Grid, Jobs, Opening, Results, Share, Status, WAYS, Way, site};
 use crate::random::Random;
 use std::collections::BTreeMap;
 
@@ -22,6 +22,7 @@ pub enum Call {
     Open(u32, [Vec<u32>; 2]),
     Lower(u32),
     Job(Way, u32, u32),
+    Jobs(Jobs),
     Status,
 }
 
@@ -34,6 +35,7 @@ impl Call {
             Call::Job(Way::Classic, ..) => "classic job",
             Call::Job(Way::ReverseRun, ..) => "Reverse Run job",
             Call::Job(Way::Halves, ..) => "job by halves",
+            Call::Jobs(_) => "jobs",
             Call::Status => "status",
         }
     }
@@ -48,6 +50,7 @@ pub fn opening(k: u32, ends: &[Vec<u32>; 2]) -> Opening<'_> {
 pub enum Answer {
     Grid,
     Job(u32, Counters),
+    Jobs(u32, Counters),
     Status(Status),
 }
 
@@ -61,6 +64,7 @@ pub fn told(call: &Call, bench: &mut Bench) -> Result<Answer, u32> {
         Call::Job(way, s, t) => {
             calls::job(*way, g, *customer, a, b, r, *s, *t).map(|(swept, counters)| Answer::Job(swept, counters))
         }
+        Call::Jobs(jobs) => calls::jobs(g, *customer, a, b, r, jobs).map(|(skipped, sums)| Answer::Jobs(skipped, sums)),
         Call::Status => calls::status(g, *customer, a, b, r).map(Answer::Status),
     }
 }
@@ -92,6 +96,7 @@ pub fn same(call: &Call, bench: &mut Bench) -> u32 {
         Call::Open(k, ends) => same_open(bench, *k, &ends[0], &ends[1]),
         Call::Lower(k) => same_lower(bench, *k),
         Call::Job(way, s, t) => same_job(*way, bench, *s, *t).map(|_| ()),
+        Call::Jobs(jobs) => same_jobs(bench, jobs).map(|_| ()),
         Call::Status => same_status(bench).map(|_| ()),
     };
     let after = &bench.g;
@@ -167,11 +172,13 @@ fn some_k(r: &mut Random, room: usize) -> u32 {
 
 /// A customer's call.
 fn own_call(r: &mut Random, bench: &Bench, ends: &[Vec<u32>; 2]) -> Call {
-    match r.below(15) {
+    let strips = ends.each_ref().map(|e| e.len().min(32));
+    match r.below(17) {
         0 => Call::Status,
         1 if r.once_in(2) => Call::Lower(lower_to(r, bench.share().k)),
         1 => Call::Lower(some_k(r, bench.r.shortest())),
         2 | 3 => Call::Open(some_k(r, bench.r.shortest()), some_ends(r, bench, ends, 3)),
+        4 | 5 => Call::Jobs(some_jobs(r, &bench.g, bench.customer, strips, 4)),
         _ => Call::Job(WAYS[r.below(3)], strip_number(r, ends[0].len()), strip_number(r, ends[1].len())),
     }
 }
@@ -217,12 +224,13 @@ impl Seen {
     /// Each call answers these numbers to either customer, often, and no other.
     fn all_answers(&self, least: u32) {
         let jobs = [0, 1, 2, 3, 7, 8, 9];
-        let answered: [(&str, &[u32]); 6] = [
+        let answered: [(&str, &[u32]); 7] = [
             ("open", &[0, 1, 2, 3, 4, 5, 6, 7]),
             ("lower", &[0, 1, 2, 3, 4, 7]),
             ("classic job", &jobs),
             ("Reverse Run job", &jobs),
             ("job by halves", &jobs),
+            ("jobs", &jobs),
             ("status", &[0, 1, 2, 3, 7]),
         ];
         let mut expected: Vec<(&str, u32, u32)> = [0, 1, 2, 3, 5].map(|n| ("prepare", 0, n)).to_vec();
@@ -251,8 +259,9 @@ fn tampered_calls(r: &mut Random, bench: &Bench, ends: &[Vec<u32>; 2], seen: &mu
     let mut calls = vec![Call::Status, Call::Prepare(ends.clone())];
     calls.extend([0; 2].map(|_| Call::Open(some_k(r, other.r.shortest()), some_ends(r, &other, ends, 4))));
     calls.push(Call::Lower(lower_to(r, other.share().k)));
+    let strips = [other.g.first_strips, other.g.second_strips].map(|n| n.min(32) as usize);
+    calls.push(Call::Jobs(some_jobs(r, &other.g, other.customer, strips, 4)));
     for way in WAYS {
-        let strips = [other.g.first_strips, other.g.second_strips].map(|n| n.min(32) as usize);
         calls.push(Call::Job(way, r.below(strips[0] + 1) as u32, r.below(strips[1] + 1) as u32));
     }
     for call in &calls {
@@ -309,6 +318,7 @@ fn shares_not_read(r: &mut Random, bench: &Bench, ends: &[Vec<u32>; 2], seen: &m
 fn into_book(call: &Call, number: u32, book: &mut Option<Book>, bench: &Bench) {
     let expected = match (call, book.as_mut()) {
         (Call::Job(_, s, t), book) => book.map_or(7, |book| book.job(*s, *t)),
+        (Call::Jobs(jobs), book) => book.map_or(7, |book| book.jobs(jobs)),
         (Call::Lower(k), book) => book.map_or(4, |book| book.lower(*k)),
         _ => number,
     };
@@ -398,22 +408,18 @@ fn histories(r: &mut Random) {
         history(r, round, &mut seen);
     }
     seen.all_answers(20);
-    let faults = [
-        "none", "K", "strip count", "ends", "mark above 3", "mark outside the jobs", "column", "entry count", "place",
-        "squared distance", "co-sited", "unsettled job", "rank order",
-    ];
     for customer in CUSTOMERS {
-        for fault in faults {
+        for fault in ["none"].into_iter().chain(FAULTS) {
             assert!(seen.faults.get(&(fault, customer)).is_some_and(|n| *n > 5), "{fault}: {:?}", seen.faults);
         }
         for fault in ["mark above 3", "mark outside the jobs"] {
             assert!(seen.opening_faults.get(&(fault, customer)).is_some_and(|n| *n > 20), "{:?}", seen.opening_faults);
         }
     }
-    for name in ["open", "lower", "classic job", "Reverse Run job", "job by halves", "status"] {
+    for name in ["open", "lower", "classic job", "Reverse Run job", "job by halves", "jobs", "status"] {
         assert!(seen.slots.get(name).is_some_and(|n| *n > 20), "{:?}", seen.slots);
     }
-    let jobs = ["classic job", "Reverse Run job", "job by halves"];
+    let jobs = ["classic job", "Reverse Run job", "job by halves", "jobs"];
     let mut unread: Vec<_> = jobs.iter().flat_map(|name| [0, 7, 8, 9].map(|number| (*name, number))).collect();
     unread.extend([0, 4, 5, 6, 7].map(|number| ("open", number)));
     unread.extend([0, 4, 7].map(|number| ("lower", number)));
@@ -540,6 +546,7 @@ fn nothing_is_told(r: &mut Random) {
             ("classic job", &[0, 7, 8, 9, 15]),
             ("Reverse Run job", &[0, 7, 8, 9, 15]),
             ("job by halves", &[0, 7, 8, 9, 15]),
+            ("jobs", &[0, 7, 8, 9, 15]),
             ("status", &[0, 7, 15]),
         ] {
             for number in numbers {
@@ -713,7 +720,8 @@ fn every_mark(r: &mut Random) {
 
 /// Before a customer has opened they get 7, after 15 and the lists' 1 to 3, whatever the other has done; a preparing ends both.
 fn before_opening(r: &mut Random) {
-    let calls = || WAYS.map(|way| Call::Job(way, 9, 0)).into_iter().chain([Call::Status]);
+    let far = || Call::Jobs(Jobs::of(&[(9, 0, 0)]));
+    let calls = || WAYS.map(|way| Call::Job(way, 9, 0)).into_iter().chain([far(), Call::Jobs(Jobs::default()), Call::Status]);
     for customer in CUSTOMERS {
         let mut bench = on_f(r, other_customer(customer), [5; 3]);
         assert_eq!(same(&Call::Open(5, ends_f()), &mut bench), 0);
@@ -735,7 +743,8 @@ fn before_opening(r: &mut Random) {
             let mut lent = Bench { customer, ..bench.clone() };
             assert_eq!(same(&call, &mut lent), 7);
             assert_eq!(same(&Call::Open(5, ends_f()), &mut lent), 0);
-            assert_eq!(same(&call, &mut lent), if matches!(call, Call::Status) { 0 } else { 8 });
+            let allowed = matches!(&call, Call::Status) || matches!(&call, Call::Jobs(jobs) if jobs.way.is_empty());
+            assert_eq!(same(&call, &mut lent), if allowed { 0 } else { 8 });
             assert_eq!(same(&Call::Prepare(ends_f()), &mut lent), 0);
             for customer in CUSTOMERS {
                 lent.customer = customer;

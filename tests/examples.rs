@@ -66,6 +66,30 @@ fn m6() {
     }
 }
 
+/// M6's jobs in one call: 2, 4 and 2 looks and 2, 2 and 1 distances by the classic sweep, 3, 7 and 3 range pairs by halves.
+fn several_jobs() {
+    let (a, b) = f();
+    let (a, b) = (Columns::of(&a), Columns::of(&b));
+    let opening = Opening { k: 2, first_ends: &[2, 3], second_ends: &[1, 3] };
+    let g = open(&prepare(&a, &b, &[2, 3], &[1, 3]).unwrap(), 2, &a, &b, opening, &results(2)).unwrap();
+    let call = |rows: &[(u32, u32, u32)]| jobs(&g, 2, &a, &b, &results(2), &Jobs::of(rows));
+    let by = |ways: [u32; 4]| [(0, 0, ways[0]), (1, 0, ways[1]), (0, 1, ways[2]), (1, 1, ways[3])];
+    for (ways, looks, distances, range_pairs) in [([0; 4], 8, 5, 0), ([2; 4], 0, 0, 13), ([0, 2, 2, 0], 4, 3, 7)] {
+        let done = call(&by(ways)).unwrap();
+        assert_eq!((done.skipped, done.counters), (1, Counters { looks, distances, range_pairs }));
+        assert_eq!((&done.results.first[..], &done.results.second[..]), (&[2, 1][..], &[2, 1][..]));
+        assert_eq!([0, 1, 32, 33].map(|mark| done.grid.marks[mark]), [2; 4]);
+    }
+    let done = call(&[]).unwrap();
+    assert!(done.grid == g && (done.skipped, done.counters) == (0, Counters::default()));
+    assert_eq!(call(&by([0, 0, 0, 3])).err(), Some(8));
+    assert_eq!(call(&[(0, 0, 0), (1, 1, 0), (0, 0, 1), (2, 0, 0)]).err(), Some(9));
+    assert_eq!(call(&[(0, 0, 0), (1, 1, 0), (0, 2, 1), (0, 0, 0)]).err(), Some(8));
+    let unequal = Jobs { way: vec![0], ..Jobs::default() };
+    assert_eq!(jobs(&g, 2, &a, &b, &results(2), &unequal).err(), Some(8));
+    assert_eq!(jobs(&g, 1, &a, &b, &results(2), &unequal).err(), Some(7));
+}
+
 fn m7_m8_and_m10() {
     let (a, b) = (vec![site(0, 0, 1), site(5, 5, 2)], vec![site(5, 0, 3)]);
     for way in WAYS {
@@ -224,6 +248,7 @@ pub fn run(h: &mut Harness) {
     h.test("model: M1, M2, M3, M9", m1_to_m3_and_m9);
     h.test("model: M4, M5", m4_and_m5);
     h.test("model: M6", m6);
+    h.test("model: M6 in one call", several_jobs);
     h.test("model: M7, M8, M10", m7_m8_and_m10);
     h.test("model: two customers", two_customers);
     h.test("model: own examples", own_examples);

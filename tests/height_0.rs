@@ -4,7 +4,7 @@ use crate::calls;
 use crate::campaigns::{Bench, cuts, either, opened, results};
 use crate::harness::{Harness, progress};
 use crate::lists::{KINDS, lawful, stacked};
-use crate::model::{Columns, Counters, Site, WAYS, Way};
+use crate::model::{Columns, Counters, Jobs, Site, WAYS, Way, way_number};
 use crate::pair_lists::numbers;
 use crate::plane::{self, flat};
 use crate::random::Random;
@@ -103,18 +103,46 @@ fn same_lowering(r: &mut Random, bench: &mut Bench, book: &mut plane::Campaign) 
     (book.status().entries < before.entries) as u32
 }
 
-/// A campaign of the plane beside the library's, of either customer, status after each job, and now and then a smaller K: jobs
-/// swept and skipped, and lowerings that cut entries.
-fn same_campaign(r: &mut Random, a: &Level, b: &Level, k: u32, ends: [&[u32]; 2]) -> [u32; 3] {
+/// Several jobs in one call beside a campaign of the plane, where they are done one after another: how many were skipped.
+fn same_jobs(r: &mut Random, bench: &mut Bench, book: &mut plane::Campaign, jobs: &[(usize, usize)]) -> u32 {
+    let Bench { a, b, r: columns, g, customer } = bench;
+    let before = columns.clone();
+    let (mut rows, mut skipped, mut sums) = (Vec::new(), 0, Counters::default());
+    for (s, t) in jobs {
+        let way = WAYS[r.below(3)];
+        match book.job(way, *s, *t) {
+            Some(counters) => sums = sums.plus(counters),
+            None => skipped += 1,
+        }
+        rows.push((*s as u32, *t as u32, way_number(way)));
+    }
+    let answer = calls::jobs(g, *customer, a, b, columns, &Jobs::of(&rows));
+    assert_eq!(answer, Ok((skipped, sums)), "{rows:?}");
+    assert!(*columns == before.holding(&book.entries), "{rows:?}: a column differs");
+    assert_eq!(calls::status(g, *customer, a, b, columns), Ok(book.status()));
+    skipped
+}
+
+/// A campaign of the plane beside the library's, of either customer, status after each job, and now and then a smaller K or
+/// several jobs in one call: jobs swept and skipped, lowerings that cut entries, and jobs done in a call for several.
+fn same_campaign(r: &mut Random, a: &Level, b: &Level, k: u32, ends: [&[u32]; 2]) -> [u32; 4] {
     let customer = either(r);
     let mut bench = opened(r, customer, [&a.columns, &b.columns], ends, k, [k as usize; 3]);
     let mut book = plane::Campaign::opened(&a.plane, &b.plane, k, ends[0], ends[1]);
-    let mut seen = [0; 3];
+    let mut seen = [0; 4];
     let mut jobs: Vec<(usize, usize)> =
         (0..ends[0].len()).flat_map(|s| (0..ends[1].len()).map(move |t| (s, t))).collect();
     while !jobs.is_empty() {
         if r.once_in(8) {
             seen[2] += same_lowering(r, &mut bench, &mut book);
+        }
+        if r.once_in(10) {
+            let number = r.below(jobs.len().min(8) + 1);
+            let several: Vec<_> = (0..number).map(|_| jobs.swap_remove(r.below(jobs.len()))).collect();
+            let skipped = same_jobs(r, &mut bench, &mut book, &several);
+            seen[1] += skipped;
+            seen[3] += number as u32;
+            continue;
         }
         let (s, t) = jobs.swap_remove(r.below(jobs.len()));
         let way = WAYS[r.below(3)];
@@ -133,17 +161,17 @@ fn same_campaign(r: &mut Random, a: &Level, b: &Level, k: u32, ends: [&[u32]; 2]
 
 fn campaigns(r: &mut Random) {
     let rounds = 1_500;
-    let mut seen = [0; 3];
+    let mut seen = [0; 4];
     for round in 0..rounds {
         progress(round, rounds);
         let (n, m) = ([1, 3, 10, 40][r.below(4)], [1, 3, 10, 40][r.below(4)]);
         let (a, b) = (Level::random(r, round, n), Level::random(r, round, m));
         let k = [1, 2, 5, 1 + r.below(30) as u32, 4_096][r.below(5)];
         let (first, second) = (cuts(r, a.plane.len()), cuts(r, b.plane.len()));
-        let [swept, skipped, cut] = same_campaign(r, &a, &b, k, [&first, &second]);
-        seen = [seen[0] + swept, seen[1] + skipped, seen[2] + cut];
+        let shown = same_campaign(r, &a, &b, k, [&first, &second]);
+        seen.iter_mut().zip(shown).for_each(|(all, one)| *all += one);
     }
-    assert!(seen[0] > 1_000 && seen[1] > 1_000 && seen[2] > 500, "{seen:?}");
+    assert!(seen[0] > 1_000 && seen[1] > 1_000 && seen[2] > 500 && seen[3] > 1_000, "{seen:?}");
 }
 
 pub fn run(h: &mut Harness) {

@@ -2,11 +2,11 @@
 
 use crate::calls;
 use crate::campaigns::{
-    Bench, any_part, either, opened, other_customer, results, same_job, same_open, same_prepare, same_status,
+    Bench, any_part, either, opened, other_customer, results, same_job, same_jobs, same_open, same_prepare, same_status,
 };
 use crate::harness::{Harness, progress};
 use crate::lists::{HIGHEST, LOWEST, MAX, MIN, stacked, tower};
-use crate::model::{self, CUSTOMERS, Columns, Entry, Share, Site, Status, Strip, WAYS, Way, site};
+use crate::model::{self, CUSTOMERS, Columns, Entry, Jobs, Share, Site, Status, Strip, WAYS, Way, site};
 use crate::pair_lists::{numbers, same_distance_list, same_k_list};
 use crate::random::Random;
 use crate::site_lists::{same_add, same_check};
@@ -25,7 +25,7 @@ fn one_job(r: &mut Random, customer: u32, a: &Columns, b: &Columns) -> model::Gr
     g
 }
 
-/// The number that K list, distance list, preparing, opening, job and status all answer on two lists.
+/// The number that K list, distance list, preparing, opening, job, a call for several and status all answer on two lists.
 fn number_of_every_call(r: &mut Random, a: &Columns, b: &Columns) -> u32 {
     let customer = either(r);
     let g = one_job(r, customer, a, b);
@@ -37,10 +37,12 @@ fn number_of_every_call(r: &mut Random, a: &Columns, b: &Columns) -> u32 {
         number(same_prepare(&mut bench.clone(), &ends_a, &ends_b)),
         number(same_open(&mut bench.clone(), 1, &ends_a, &ends_b)),
         number(same_status(&bench)),
+        number(same_jobs(&mut bench.clone(), &Jobs::default())),
     ];
     for way in WAYS {
         told.push(number(same_k_list(way, a, b, 1, &bench.r)));
         told.push(number(same_job(way, &mut bench.clone(), 0, 0)));
+        told.push(number(same_jobs(&mut bench.clone(), &Jobs::of(&[(0, 0, model::way_number(way))]))));
     }
     assert!(told.iter().all(|n| *n == told[0]), "{told:?}");
     told[0]

@@ -1,6 +1,7 @@
 //! Tests of the exported calls beside a brute force of documents 01 and 02.
 
 mod bands;
+mod batch;
 mod c_program;
 mod calls;
 mod campaigns;
@@ -38,6 +39,7 @@ fn main() {
     campaigns::run(&mut h);
     customers::run(&mut h);
     smaller_k::run(&mut h);
+    batch::run(&mut h);
     halves::run(&mut h);
     heights::run(&mut h);
     height_0::run(&mut h);

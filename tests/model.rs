@@ -1,4 +1,4 @@
-//! Documents 01 and 02 a, b, d, e, f, g, j, k and l in plain Rust, by brute force: what each call on lists with heights, and
+//! Documents 01 and 02 a, b, d, e, f, g, j, k, l and m in plain Rust, by brute force: what each call on lists with heights, and
 //! each on price bands, must answer and leave behind. What is of the plane, the site file and the case listing, is in `plane`.
 
 use crate::raw::Band;
@@ -280,6 +280,15 @@ impl Counters {
     /// Of a join by halves.
     pub fn halved(range_pairs: u64) -> Counters {
         Counters { looks: 0, distances: 0, range_pairs }
+    }
+
+    /// Each summed alone.
+    pub fn plus(self, other: Counters) -> Counters {
+        Counters {
+            looks: self.looks + other.looks,
+            distances: self.distances + other.distances,
+            range_pairs: self.range_pairs + other.range_pairs,
+        }
     }
 }
 
@@ -765,9 +774,23 @@ pub fn job(
     if g.settled(customer, s, t) {
         return Err(9);
     }
+    Ok(job_done(way, g, customer, &a, &b, r, s, t))
+}
+
+/// What a job that is not refused leaves and answers.
+fn job_done(
+    way: Way,
+    g: &Grid,
+    customer: u32,
+    a: &[Site],
+    b: &[Site],
+    r: &Results,
+    s: usize,
+    t: usize,
+) -> JobDone {
     let (p, q) = (strip_range(g.first_cut(), s), strip_range(g.second_cut(), t));
-    let p = Strip { sites: &a, from: p.0, to: p.1 };
-    let q = Strip { sites: &b, from: q.0, to: q.1 };
+    let p = Strip { sites: a, from: p.0, to: p.1 };
+    let q = Strip { sites: b, from: q.0, to: q.1 };
     let Share { k, entries } = *g.share(customer);
     let old = r.entries(entries as usize);
     let full = old.len() == k as usize;
@@ -779,7 +802,85 @@ pub fn job(
     let mut after = g.clone();
     after.share_mut(customer).entries = entries.len() as u32;
     after.marks[32 * s + t] = marked(customer, g.marks[32 * s + t], true);
-    Ok(JobDone { grid: after, results: r.holding(&entries), swept: !skipped, counters })
+    JobDone { grid: after, results: r.holding(&entries), swept: !skipped, counters }
+}
+
+/// The jobs of one call: "two columns of strips and one of ways", of whatever lengths.
+#[derive(Clone, Debug, PartialEq, Eq, Default)]
+pub struct Jobs {
+    pub first: Vec<u32>,
+    pub second: Vec<u32>,
+    pub way: Vec<u32>,
+}
+
+/// "ways (0 classic, 1 Reverse Run, 2 halves)"
+pub fn way_number(way: Way) -> u32 {
+    match way {
+        Way::Classic => 0,
+        Way::ReverseRun => 1,
+        Way::Halves => 2,
+    }
+}
+
+impl Jobs {
+    pub fn of(rows: &[(u32, u32, u32)]) -> Jobs {
+        Jobs {
+            first: rows.iter().map(|row| row.0).collect(),
+            second: rows.iter().map(|row| row.1).collect(),
+            way: rows.iter().map(|row| row.2).collect(),
+        }
+    }
+
+    /// The jobs with their ways, from the first on, where the columns are of one length; else 8.
+    pub fn rows(&self) -> Result<Vec<(u32, u32, u32)>, u32> {
+        let n = self.way.len();
+        if self.first.len() != n || self.second.len() != n {
+            return Err(8);
+        }
+        Ok((0..n).map(|i| (self.first[i], self.second[i], self.way[i])).collect())
+    }
+}
+
+/// "then the first job at fault refuses the call": 8 for a strip number or a way, else 9 for a job settled before, or by a job
+/// further up.
+fn rows_refusal(rows: &[(u32, u32, u32)], strips: [u32; 2], settled: impl Fn(u32, u32) -> bool) -> Result<(), u32> {
+    for (i, (s, t, way)) in rows.iter().enumerate() {
+        if *s >= strips[0] || *t >= strips[1] || *way > 2 {
+            return Err(8);
+        }
+        if settled(*s, *t) || rows[..i].iter().any(|row| (row.0, row.1) == (*s, *t)) {
+            return Err(9);
+        }
+    }
+    Ok(())
+}
+
+#[derive(Clone, Debug, PartialEq, Eq)]
+pub struct JobsDone {
+    pub grid: Grid,
+    pub results: Results,
+    pub skipped: u32,
+    pub counters: Counters,
+}
+
+/// Several jobs in one call: "It ends .. as those jobs one after another would."
+pub fn jobs(g: &Grid, customer: u32, a: &Columns, b: &Columns, r: &Results, l: &Jobs) -> Result<JobsDone, u32> {
+    customer_refusal(customer)?;
+    let (a, b) = lists(a, b)?;
+    if g.fault(customer, &a, &b, r).is_some() {
+        return Err(7);
+    }
+    let rows = l.rows()?;
+    rows_refusal(&rows, [g.first_strips, g.second_strips], |s, t| g.settled(customer, s as usize, t as usize))?;
+    let mut all = JobsDone { grid: g.clone(), results: r.clone(), skipped: 0, counters: Counters::default() };
+    for (s, t, way) in rows {
+        let way = WAYS.into_iter().find(|w| way_number(*w) == way).unwrap();
+        let done = job_done(way, &all.grid, customer, &a, &b, &all.results, s as usize, t as usize);
+        all.skipped += !done.swept as u32;
+        all.counters = all.counters.plus(done.counters);
+        (all.grid, all.results) = (done.grid, done.results);
+    }
+    Ok(all)
 }
 
 #[derive(Clone, Copy, Debug, PartialEq, Eq)]
@@ -834,6 +935,22 @@ impl Book {
         }
         self.settled.push((s, t));
         0
+    }
+
+    /// Several jobs in one call of the customer with their lists and columns: 8, 9, or 0 and all of them are settled.
+    pub fn jobs(&mut self, l: &Jobs) -> u32 {
+        let strips = [self.first_ends.len() as u32, self.second_ends.len() as u32];
+        let told = l.rows().and_then(|rows| {
+            rows_refusal(&rows, strips, |s, t| self.settled.contains(&(s, t)))?;
+            Ok(rows)
+        });
+        match told {
+            Ok(rows) => {
+                self.settled.extend(rows.iter().map(|row| (row.0, row.1)));
+                0
+            }
+            Err(refusal) => refusal,
+        }
     }
 
     /// A lowering by the customer with their lists and columns: 4, or 0 and this K is in force.

@@ -135,6 +135,18 @@ unsafe extern "C" {
         swept: *mut u32, range_pairs: *mut u64,
     ) -> u32;
 
+    pub fn vumlintel_jobs(
+        first_strips: *mut u32, second_strips: *mut u32,
+        first_ends: *mut [u32; 32], second_ends: *mut [u32; 32], marks: *mut [u8; 1024],
+        k1: *mut u32, entries1: *mut u32, k2: *mut u32, entries2: *mut u32,
+        customer: u32,
+        ax: X, axs: usize, ay: X, ays: usize, an: N, ans: usize, ah: X, ahs: usize,
+        bx: X, bxs: usize, by: X, bys: usize, bn: N, bns: usize, bh: X, bhs: usize,
+        distance: *mut u64, distances_len: usize, first: *mut u32, firsts: usize, second: *mut u32, seconds: usize,
+        job_first: N, job_firsts: usize, job_second: N, job_seconds: usize, job_way: N, job_ways: usize,
+        skipped: *mut u32, looks: *mut u64, distances: *mut u64, range_pairs: *mut u64,
+    ) -> u32;
+
     pub fn vumlintel_status(
         first_strips: *const u32, second_strips: *const u32,
         first_ends: *const [u32; 32], second_ends: *const [u32; 32], marks: *const [u8; 1024],

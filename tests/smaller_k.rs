@@ -3,8 +3,8 @@
 
 use crate::calls;
 use crate::campaigns::{
-    Bench, any_part, anything, cuts, either, lower_to, opened, other_customer, prepared, results, same_as_one_sweep, same_job,
-    same_lower, same_open, same_status, strip_number, tamper,
+    Bench, FAULTS, any_part, anything, cuts, either, lower_to, opened, other_customer, prepared, results, same_as_one_sweep,
+    same_job, same_lower, same_open, same_status, some_jobs, strip_number, tamper,
 };
 use crate::customers::{
     Answer, Call, FIRST, NOBODY, SECOND, Table, ends_f, lists_f, on_f, opening, reading, refused_lists, same, told,
@@ -114,14 +114,16 @@ struct Seen {
 fn some_call(r: &mut Random, bench: &Bench, ends: &[Vec<u32>; 2], open: bool) -> Call {
     let room = bench.r.shortest();
     let lawful_k = 1 + r.below(room) as u32;
-    match r.below(14) {
+    let strips = ends.each_ref().map(Vec::len);
+    match r.below(15) {
         _ if !open && r.once_in(2) => Call::Open(lawful_k, ends.clone()),
         0 if r.once_in(5) => Call::Open(lawful_k, ends.clone()),
         0 => Call::Open([0, 4_097, room as u32 + 1][r.below(3)], ends.clone()),
         1 => Call::Open(lawful_k, [vec![9, 8], ends[1].clone()]),
         2 | 3 => Call::Lower(lower_to(r, bench.share().k)),
         4 => Call::Status,
-        _ => Call::Job(WAYS[r.below(3)], strip_number(r, ends[0].len()), strip_number(r, ends[1].len())),
+        5 => Call::Jobs(some_jobs(r, &bench.g, bench.customer, strips, 5)),
+        _ => Call::Job(WAYS[r.below(3)], strip_number(r, strips[0]), strip_number(r, strips[1])),
     }
 }
 
@@ -164,9 +166,15 @@ fn step(r: &mut Random, bench: &mut Bench, ends: &[Vec<u32>; 2], run: &mut Optio
                 run.settled.push((*way, *s, *t));
             }
         }
+        (Call::Jobs(jobs), Some(run)) => {
+            assert_eq!(number, run.book.jobs(jobs), "the book answers otherwise: {call:?}");
+            if number == 0 {
+                run.settled.extend(jobs.rows().unwrap().into_iter().map(|(s, t, way)| (WAYS[way as usize], s, t)));
+            }
+        }
         // before opening K is 0
         (Call::Lower(_), None) => assert_eq!(number, 4),
-        (Call::Job(..) | Call::Status, None) => assert_eq!(number, 7),
+        (Call::Job(..) | Call::Jobs(_) | Call::Status, None) => assert_eq!(number, 7),
         _ => {}
     }
     if let Some(run) = run {
@@ -231,18 +239,19 @@ fn history(r: &mut Random, kind: usize, seen: &mut Seen) {
 
 fn histories(r: &mut Random) {
     let mut seen = Seen::default();
-    let rounds = 700;
+    let rounds = 1_000;
     for round in 0..rounds {
         progress(round, rounds);
         history(r, round, &mut seen);
     }
     let jobs = [0, 1, 2, 3, 7, 8, 9, 15];
-    let answered: [(&str, &[u32]); 6] = [
+    let answered: [(&str, &[u32]); 7] = [
         ("open", &[0, 1, 2, 3, 4, 5, 6, 7, 15]),
         ("lower", &[0, 1, 2, 3, 4, 7, 15]),
         ("classic job", &jobs),
         ("Reverse Run job", &jobs),
         ("job by halves", &jobs),
+        ("jobs", &jobs),
         ("status", &[0, 1, 2, 3, 7, 15]),
     ];
     for (name, number) in answered.into_iter().flat_map(|(name, numbers)| numbers.iter().map(move |n| (name, *n))) {
@@ -316,7 +325,7 @@ fn fixed_example(r: &mut Random) {
 
 /// A campaign in mid-work: some jobs are settled, anything stands in the slots that are not in use, and the other customer has
 /// anything. K is at most `most`.
-fn under_way(r: &mut Random, kind: usize, sites: usize, most: usize) -> Bench {
+pub fn under_way(r: &mut Random, kind: usize, sites: usize, most: usize) -> Bench {
     let [a, b] = [0; 2].map(|_| Columns::of(&lawful(r, kind, sites)));
     let (first, second) = (cuts(r, a.x.len()), cuts(r, b.x.len()));
     let k = 1 + r.below(most);
@@ -429,7 +438,7 @@ fn on_f_with_5(r: &mut Random, customer: u32) -> Bench {
 }
 
 /// A list that is refused with this number, and with those above it up to 3 if it were put right.
-fn refused_with(number: u32) -> Columns {
+pub fn refused_with(number: u32) -> Columns {
     let mut list = Columns::of(&[site(1, if number == 3 { 0 } else { MAX + 1 }, 0), site(0, 0, 0)]);
     if number == 1 {
         list.height.push(0);
@@ -570,11 +579,7 @@ fn tampered(r: &mut Random) {
         }
         *numbers.entry(status.err().unwrap_or(0)).or_insert(0) += 1;
     }
-    let every = [
-        "none", "K", "strip count", "ends", "mark above 3", "mark outside the jobs", "column", "entry count", "place",
-        "squared distance", "co-sited", "unsettled job", "rank order",
-    ];
-    for fault in every {
+    for fault in ["none"].into_iter().chain(FAULTS) {
         assert!(faults.get(&(fault, true)).is_some_and(|n| *n > 5), "{fault}: {faults:?}");
     }
     assert!(faults.get(&("K", false)).is_some_and(|n| *n > 5), "{faults:?}");

@@ -212,6 +212,45 @@ static void smaller_k(void)
     EXPECT(settled == 2 && jobs == 4 && entries == 1 && k == 1);
 }
 
+/* Several jobs: M6's campaign in one call, by customer 2, the third job by halves, and refused calls before it. */
+static void several_jobs(void)
+{
+    const uint32_t first_cuts[] = {2, 3}, second_cuts[] = {1, 3};
+    const uint32_t job_first[] = {0, 1, 0, 1, 0}, job_second[] = {0, 0, 1, 1, 0}, job_way[] = {0, 1, 2, 0, 3};
+    uint64_t distance[3] = {7, 7, 7}, looks = 99, distances = 99, range_pairs = 99;
+    uint32_t first[3] = {7, 7, 7}, second[3] = {7, 7, 7}, skipped = 99, settled, jobs, entries, k;
+    vumlintel_grid g, before;
+#define COLUMNS3 distance, 3, first, 3, second, 3
+#define ROWS(n) job_first, n, job_second, n, job_way, n
+#define SUMS &skipped, &looks, &distances, &range_pairs
+    EXPECT(vumlintel_prepare(A, B, first_cuts, 2, second_cuts, 2, VUMLINTEL_PARTS(&g)) == VUMLINTEL_OK);
+    EXPECT(vumlintel_jobs(VUMLINTEL_PARTS(&g), 2, A, B, COLUMNS3, ROWS(4), SUMS) == VUMLINTEL_CAMPAIGN);
+    EXPECT(vumlintel_open(VUMLINTEL_PARTS(&g), 2, A, B, 2, first_cuts, 2, second_cuts, 2, COLUMNS3) == VUMLINTEL_OK);
+    g.marks[0] = 1;
+    before = g;
+    EXPECT(vumlintel_jobs(VUMLINTEL_PARTS(&g), 3, A, B, COLUMNS3, ROWS(4), SUMS) == VUMLINTEL_CUSTOMER);
+    EXPECT(vumlintel_jobs(VUMLINTEL_PARTS(&g), 2, A, bx, 2, by, 3, bn, 3, bh, 3, COLUMNS3, ROWS(4), SUMS) ==
+           VUMLINTEL_LIST_SIZE);
+    EXPECT(vumlintel_jobs(VUMLINTEL_PARTS(&g), 2, A, B, COLUMNS3, job_first, 4, job_second, 3, job_way, 4, SUMS) ==
+           VUMLINTEL_RANGE);
+    EXPECT(vumlintel_jobs(VUMLINTEL_PARTS(&g), 2, A, B, COLUMNS3, ROWS(5), SUMS) == VUMLINTEL_RANGE);
+    EXPECT(vumlintel_jobs(VUMLINTEL_PARTS(&g), 2, A, B, COLUMNS3, job_first, 5, job_second, 5, job_first, 5, SUMS) ==
+           VUMLINTEL_SETTLED);
+    EXPECT(memcmp(&g, &before, sizeof g) == 0 && skipped == 99 && looks == 99 && distances == 99 && range_pairs == 99);
+    EXPECT(distance[0] == 7 && first[0] == 7 && second[0] == 7);
+    EXPECT(vumlintel_jobs(VUMLINTEL_PARTS(&g), 2, A, B, COLUMNS3, ROWS(4), SUMS) == VUMLINTEL_OK);
+    EXPECT(skipped == 1 && looks == 4 && distances == 3 && range_pairs == 7);
+    EXPECT(g.marks[0] == 3 && g.marks[1] == 2 && g.marks[32] == 2 && g.marks[33] == 2 && g.k1 == 0 && g.entries2 == 2);
+    EXPECT(distance[0] == 5 && distance[1] == 9 && distance[2] == 7 && first[0] == 2 && second[0] == 2);
+    EXPECT(first[1] == 1 && second[1] == 1 && first[2] == 7 && second[2] == 7);
+    EXPECT(vumlintel_status(VUMLINTEL_PARTS(&g), 2, A, B, COLUMNS3, &settled, &jobs, &entries, &k) == VUMLINTEL_OK);
+    EXPECT(settled == 4 && jobs == 4 && entries == 2 && k == 2);
+    before = g;
+    EXPECT(vumlintel_jobs(VUMLINTEL_PARTS(&g), 2, A, B, COLUMNS3, ROWS(1), SUMS) == VUMLINTEL_SETTLED && skipped == 1);
+    EXPECT(vumlintel_jobs(VUMLINTEL_PARTS(&g), 2, A, B, COLUMNS3, ROWS(0), SUMS) == VUMLINTEL_OK);
+    EXPECT(skipped == 0 && looks == 0 && distances == 0 && range_pairs == 0 && memcmp(&g, &before, sizeof g) == 0);
+}
+
 static void site_files(void)
 {
     uint8_t file[100];
@@ -261,6 +300,7 @@ int main(void)
     heights();
     campaigns();
     smaller_k();
+    several_jobs();
     site_files();
     bands();
     printf("%d failures\n", failures);
