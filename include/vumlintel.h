@@ -22,8 +22,10 @@
  *                                or one that is not 0 outside the jobs, is one for either customer, at opening too; pricing: a
  *                                squared distance not below 2,828,427,125 squared
  *   VUMLINTEL_RANGE           8  a strip number not below the strip count, a place not below the list's count, or (editing a
- *                                band) a place not below the number of bands
- *   VUMLINTEL_SETTLED         9  the job is settled already, for this customer
+ *                                band) a place not below the number of bands; several jobs in one call: columns of unequal
+ *                                length, or a way other than 0, 1 or 2
+ *   VUMLINTEL_SETTLED         9  the job is settled already, for this customer; several jobs in one call: before it, or by a
+ *                                job further up in it
  *   VUMLINTEL_FILE           10  the file's contents or length are wrong
  *   VUMLINTEL_PRESENT        11  the same x, y and number is in the list already
  *   VUMLINTEL_BAND_GAP       12  a band that starts above the end of the band before, a first band that starts above 0, or a
@@ -37,7 +39,9 @@
  * Order: 15 before all else, then the first list's 1, 2, 3, then the second list's, then the rest by number. Adding tests the
  * new site (2) after the list; removing does not, and a site outside the limits gets 16. A file below 16 bytes gets 10; any
  * other is tested for 1 (counts), then 10, then its lists for 2 and 3. Pricing tests the bands for 14, then band by band, from
- * the first on, for 13 and then 12, so that the first band at fault decides; then for 6, then for 7.
+ * the first on, for 13 and then 12, so that the first band at fault decides; then for 6, then for 7. Several jobs in one call
+ * are tested, after 7, for 8 (their columns), then job by job, from the first on, for 8 and then 9, so that the first job at
+ * fault decides.
  *
  * A list is four columns: x, y, number and height, each a pointer and an element count. Its order does not look at the height.
  * A site's place is its index from 0. The squared distance of two sites is the sum of the squares of the differences of x, y
@@ -258,6 +262,26 @@ uint32_t vumlintel_job_halves(uint32_t *first_strips, uint32_t *second_strips, u
                               size_t bhs, uint64_t *distance, size_t distance_length, uint32_t *first, size_t first_length,
                               uint32_t *second, size_t second_length, uint32_t first_strip, uint32_t second_strip,
                               uint32_t *swept, uint64_t *range_pairs);
+
+/*
+ * Does several jobs for one customer in one call, from the first row of three columns of equal length to the last: job i is
+ * that of the strips job_first[i] and job_second[i], and job_way[i] is 0 for the classic sweep, 1 for Reverse Run and 2 for
+ * halves, in any mixture. Both lists and the grid are tested once, not for each job. The call ends as those jobs would, one
+ * after another in calls of their own: each is skipped or not by the entries that those before it left.
+ * Answers the grid, in which the customer's bit of each job's mark is set and their entry count is the new one, how many of
+ * the jobs were skipped, and looks, distances and range pairs, each summed alone over the jobs, to which a skipped one adds
+ * nothing; or 15, 1, 2, 3 for each list, 7, 8, 9. No row at all is accepted: the grid and the columns stay, and all four
+ * numbers are 0. A job at fault refuses the whole call, and none of its jobs is done: more than 1,024 rows cannot be accepted.
+ */
+uint32_t vumlintel_jobs(uint32_t *first_strips, uint32_t *second_strips, uint32_t first_ends[32], uint32_t second_ends[32],
+                        uint8_t marks[1024], uint32_t *k1, uint32_t *entries1, uint32_t *k2, uint32_t *entries2,
+                        uint32_t customer, const int32_t *ax, size_t axs, const int32_t *ay, size_t ays, const uint32_t *an,
+                        size_t ans, const int32_t *ah, size_t ahs, const int32_t *bx, size_t bxs, const int32_t *by, size_t bys,
+                        const uint32_t *bn, size_t bns, const int32_t *bh, size_t bhs, uint64_t *distance,
+                        size_t distance_length, uint32_t *first, size_t first_length, uint32_t *second, size_t second_length,
+                        const uint32_t *job_first, size_t job_first_length, const uint32_t *job_second,
+                        size_t job_second_length, const uint32_t *job_way, size_t job_way_length, uint32_t *skipped,
+                        uint64_t *looks, uint64_t *distances, uint64_t *range_pairs);
 
 /*
  * Answers the jobs settled for one customer, the jobs in all, their entries and their K; or 15, 1, 2, 3 for each list, 7.
