@@ -541,7 +541,17 @@ fn opened(a: &Columns, b: &Columns, k: usize, strips: usize, g: &mut Grid, r: &R
 /// A job: whether it was swept, and its looks or its range pairs.
 type Job = fn(&Columns, &Columns, usize, &mut Grid, &mut Results, (u32, u32)) -> (u32, u64);
 
-fn classic_job(
+/// A job by a sweep, as the library has it.
+type SweptJob = unsafe extern "C" fn(
+    *mut u32, *mut u32, *mut [u32; 32], *mut [u32; 32], *mut [u8; 1024], *mut u32, *mut u32, *mut u32, *mut u32, u32,
+    *const i32, usize, *const i32, usize, *const u32, usize, *const i32, usize,
+    *const i32, usize, *const i32, usize, *const u32, usize, *const i32, usize,
+    *mut u64, usize, *mut u32, usize, *mut u32, usize,
+    u32, u32, *mut u32, *mut u64, *mut u64,
+) -> u32;
+
+fn swept_job(
+    call: SweptJob,
     a: &Columns,
     b: &Columns,
     k: usize,
@@ -552,7 +562,7 @@ fn classic_job(
     let ([fs, ss], [k1, e1, k2, e2]) = (&mut g.strips, &mut g.shares);
     let (mut swept, mut looks, mut distances) = (0, 0, 0);
     let number = unsafe {
-        raw::vumlintel_job_classic(
+        call(
             fs, ss, &mut g.first_ends, &mut g.second_ends, &mut g.marks, k1, e1, k2, e2, 1,
             a.x.as_ptr(), a.x.len(), a.y.as_ptr(), a.y.len(), a.number.as_ptr(), a.number.len(),
             a.height.as_ptr(), a.height.len(),
@@ -564,6 +574,14 @@ fn classic_job(
     };
     assert_eq!(number, 0);
     (swept, looks)
+}
+
+fn classic_job(a: &Columns, b: &Columns, k: usize, g: &mut Grid, r: &mut Results, job: (u32, u32)) -> (u32, u64) {
+    swept_job(raw::vumlintel_job_classic, a, b, k, g, r, job)
+}
+
+fn reverse_run_job(a: &Columns, b: &Columns, k: usize, g: &mut Grid, r: &mut Results, job: (u32, u32)) -> (u32, u64) {
+    swept_job(raw::vumlintel_job_reverse_run, a, b, k, g, r, job)
 }
 
 fn halves_job(
@@ -610,6 +628,60 @@ fn all_jobs(
         skips += 1 - swept;
     }
     (count, skips)
+}
+
+/// The jobs of one call: two columns of strips and one of ways.
+#[derive(Default)]
+struct Rows {
+    first: Vec<u32>,
+    second: Vec<u32>,
+    way: Vec<u32>,
+}
+
+impl Rows {
+    /// Jobs by one way.
+    fn by(way: u32, jobs: &[(u32, u32)]) -> Rows {
+        Rows {
+            first: jobs.iter().map(|job| job.0).collect(),
+            second: jobs.iter().map(|job| job.1).collect(),
+            way: vec![way; jobs.len()],
+        }
+    }
+}
+
+/// All jobs by mark.
+fn by_mark(strips: u32) -> Vec<(u32, u32)> {
+    (0..strips * strips).map(|mark| (mark / strips, mark % strips)).collect()
+}
+
+/// The jobs that are swept when all are done by mark.
+fn swept_jobs(job: Job, a: &Columns, b: &Columns, k: usize, strips: usize) -> Vec<(u32, u32)> {
+    let (mut g, mut r) = (Grid::prepared(a, b, strips), Results::new(k));
+    opened(a, b, k, strips, &mut g, &r);
+    let mut jobs = by_mark(strips as u32);
+    jobs.retain(|one| job(a, b, k, &mut g, &mut r, *one).0 == 1);
+    jobs
+}
+
+/// Several jobs of customer 1 in one call: looks or range pairs, and jobs skipped.
+fn in_one_call(rows: &Rows, a: &Columns, b: &Columns, k: usize, g: &mut Grid, r: &mut Results) -> (u64, u32) {
+    let ([fs, ss], [k1, e1, k2, e2]) = (&mut g.strips, &mut g.shares);
+    let (mut skipped, mut looks, mut distances, mut range_pairs) = (0, 0, 0, 0);
+    let number = unsafe {
+        raw::vumlintel_jobs(
+            fs, ss, &mut g.first_ends, &mut g.second_ends, &mut g.marks, k1, e1, k2, e2, 1,
+            a.x.as_ptr(), a.x.len(), a.y.as_ptr(), a.y.len(), a.number.as_ptr(), a.number.len(),
+            a.height.as_ptr(), a.height.len(),
+            b.x.as_ptr(), b.x.len(), b.y.as_ptr(), b.y.len(), b.number.as_ptr(), b.number.len(),
+            b.height.as_ptr(), b.height.len(),
+            r.distance.as_mut_ptr(), k, r.first.as_mut_ptr(), k, r.second.as_mut_ptr(), k,
+            rows.first.as_ptr(), rows.first.len(), rows.second.as_ptr(), rows.second.len(),
+            rows.way.as_ptr(), rows.way.len(),
+            &mut skipped, &mut looks, &mut distances, &mut range_pairs,
+        )
+    };
+    assert!(number == 0 && (looks == 0 || range_pairs == 0));
+    (looks + range_pairs, skipped)
 }
 
 /// A status of customer 1 with all jobs settled: the tests of both lists and refusal 7.
@@ -734,6 +806,65 @@ fn campaign_by_halves(name: &str, a: &Columns, b: &Columns, k: usize) {
     );
 }
 
+/// A way by which all jobs of a campaign are done: its name, its number, a job by it, and what it counts.
+type JobWay = (&'static str, u32, Job, &'static str);
+
+const JOB_WAYS: [JobWay; 3] = [
+    ("classic", 0, classic_job, "looks"),
+    ("Reverse Run", 1, reverse_run_job, "looks"),
+    ("halves", 2, halves_job, "range pairs"),
+];
+
+/// A campaign, its opening and all 256 jobs in one call, beside one classic sweep of the same lists in ordinary Rust, as a K
+/// list with its tests, and beside the same jobs in calls of their own. Where its time goes: the opening; the call's tests,
+/// which are all that a call with no job does, the lists' being measured by two checks; the jobs that are skipped, which are
+/// left out of another call; the rest.
+fn campaign_in_one_call((way, way_number, job, counted): JobWay, name: &str, a: &Columns, b: &Columns, k: usize) {
+    let [mut r, mut apart, mut fewer, mut none] = [0; 4].map(|_| Results::new(k));
+    let [mut g, mut h, mut f] = [0; 3].map(|_| Grid::prepared(a, b, 16));
+    let d = RefCell::new(Grid::prepared(a, b, 16));
+    let [rows, swept] = [by_mark(16), swept_jobs(job, a, b, k, 16)].map(|jobs| Rows::by(way_number, &jobs));
+    let (mut told, mut apart_told, mut fewer_told) = ((0, 0), (0, 0), (0, 0));
+    let (mut sorted, mut heaped, mut buffered) = (None, None, None);
+    let (la, lb, empty) = (a.lent(), b.lent(), Results::new(k));
+    let [whole, singles, without, opening, tests, checks, by_sorting, by_heap, by_buffer] = least([
+        &mut || {
+            opened(a, b, k, 16, &mut g, &r);
+            told = in_one_call(&rows, a, b, k, &mut g, &mut r);
+        },
+        &mut || apart_told = all_jobs(job, a, b, k, 16, &mut h, &mut apart),
+        &mut || {
+            opened(a, b, k, 16, &mut f, &fewer);
+            fewer_told = in_one_call(&swept, a, b, k, &mut f, &mut fewer);
+        },
+        &mut || opened(a, b, k, 16, &mut d.borrow_mut(), &empty),
+        &mut || assert_eq!(in_one_call(&Rows::default(), a, b, k, &mut d.borrow_mut(), &mut none), (0, 0)),
+        &mut || [a, b].into_iter().for_each(checked),
+        &mut || sorted = Some(plain_k_list(true, la, lb, Sorted::new(k, Vec::new())).0),
+        &mut || heaped = Some(plain_k_list(true, la, lb, Heap::new(k, Vec::new())).0),
+        &mut || buffered = Some(plain_k_list(true, la, lb, Buffered::new(k, Vec::new())).0),
+    ]);
+    let answer = Some(r.entries());
+    assert!([sorted, heaped, buffered].iter().all(|l| *l == answer), "the answers differ");
+    assert!(told == apart_told && answer == Some(apart.entries()) && g.marks == h.marks, "one by one they end otherwise");
+    assert!(fewer_told == (told.0, 0) && answer == Some(fewer.entries()), "without the skipped ones they end otherwise");
+    let sweep = by_sorting.min(by_heap).min(by_buffer);
+    let rest = without - opening - tests;
+    println!(
+        "campaign in one call, {way}, {name}, 256 jobs, K {k}: {whole:.2} ms; one classic sweep in Rust {by_sorting:.2} ms by \
+         insertion, {by_heap:.2} ms by heap, {by_buffer:.2} ms by buffer, ratio {:.2}; in calls of their own {singles:.2} ms, \
+         ratio {:.2}; {} {counted}, {:.0} million a second; opening {opening:.2} ms, list tests {checks:.2} ms, refusal 7 \
+         {:.2} ms, {} jobs skipped {:.2} ms, the rest {rest:.2} ms",
+        whole / sweep,
+        singles / sweep,
+        told.0,
+        told.0 as f64 / rest / 1_000.0,
+        tests - checks,
+        told.1,
+        whole - without,
+    );
+}
+
 /// Statuses of a campaign on even lists of 65,535 sites, and lowerings of its K, and statuses of one on lists of that length at
 /// one position, each with all jobs settled. There the jobs are settled by hand: doing them takes 65,535 times 65,535 looks.
 fn one_position(r: &mut Random, k: usize, strips: usize) {
@@ -782,6 +913,7 @@ fn main() {
     campaigns(&kinds, &[1_000, 4_096]);
     let long_in_y = [("band long in y", band(r, SITES), band(r, SITES)), ("road along y", road(r), road(r))];
     campaigns(&long_in_y, &[1_000]);
+    campaigns_in_one_call([&kinds[0], &kinds[1], &long_in_y[0]]);
     by_halves(&kinds, &long_in_y[1]);
     for strips in [1, 32] {
         for k in [1, 4_096] {
@@ -825,6 +957,15 @@ fn forecasts(kinds: &[(&str, Columns, Columns)]) {
     for (name, a, b) in kinds {
         for e in [0, 30_000, 10_000_000, u32::MAX] {
             forecast(name, a, b, e);
+        }
+    }
+}
+
+/// By each of the three ways.
+fn campaigns_in_one_call(kinds: [&(&str, Columns, Columns); 3]) {
+    for (name, a, b) in kinds {
+        for way in JOB_WAYS {
+            campaign_in_one_call(way, name, a, b, 1_000);
         }
     }
 }
