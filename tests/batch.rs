@@ -100,7 +100,7 @@ fn full_grid(r: &mut Random, customer: u32, kind: usize, k: u32) -> Bench {
 /// Calls of every number of jobs from 0 to 1,024, and of the rest after each: as after so many jobs in calls of their own, each
 /// of which is held to the brute force.
 fn every_number(r: &mut Random) {
-    for (customer, kind, k) in [(1, 2, 25), (2, 7, 200)] {
+    for (customer, kind, k) in [(1, 2, 25), (2, 7, 60)] {
         let good = full_grid(r, customer, kind, k);
         let rows = open_jobs(r, &good.g, customer, [32, 32]);
         let mut after = vec![(good.clone(), (0, Counters::default()))];
