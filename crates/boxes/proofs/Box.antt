@@ -99,6 +99,12 @@ gap-of-six p q h g =
     ap₂ squaredBoxGap (by-places p (pos 0) 6 h) (by-places q (pos 0) 6 g) in
     places ∙ omega arith
 
+-- Along the first coordinate alone it is no greater.
+pub gap-across : (c d : List ℤ) (l m : List (List ℤ))
+    → squaredBoxGap (boxAround (c ∷ [] ∷ [] ∷ [])) (boxAround (d ∷ [] ∷ [] ∷ [])) ≤ squaredBoxGap (boxAround (c ∷ l)) (boxAround (d ∷ m))
+unfolding squaredBoxGap boxAround flatMap edges gaps sum foremost rangeGap square
+gap-across c d l m = omega arith
+
 within-at : (p : List ℤ) (i : ℕ) → All (λ c. within c ≡ true) p → within (getD p i (pos 0)) ≡ true
 unfolding All within between
 within-at [] i h = refl

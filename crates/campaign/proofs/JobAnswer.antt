@@ -66,8 +66,9 @@ module _ (c : Campaign) {s t : ℕ} {p q : Strip} (is : StripOf (take (c .«firs
   -- ---- the test of a skip
 
   pub gap-decides : (a b : List Site) (r : Results) → roomFor (c .k) r ≡ true → 0 < c .k → c .entries ≡ c .k
-      → {n : ℕ} → n ≡ squaredStripGap (strip (p .from) (p .to) a) (strip (q .from) (q .to) b)
-      → ltb (getD (r .distance) (c .entries - 1) 0) n ≡ skips c a b (entriesOf (c .entries) r) (jobOf s t)
+      → {test : Bool}
+      → test ≡ ltb (getD (r .distance) (c .entries - 1) 0) (squaredStripGap (strip (p .from) (p .to) a) (strip (q .from) (q .to) b))
+      → test ≡ skips c a b (entriesOf (c .entries) r) (jobOf s t)
   unfolding skips beyond
   gap-decides a b r room some h e =
       let full = length-entries (c .k) (c .entries) r room (omega arith) in

@@ -118,11 +118,22 @@ pub(super) fn skips(
     }
     let first_ends = c.first_ends;
     let second_ends = c.second_ends;
-    let p = ends::strip(first_ends, c.first_strips, s);
-    let q = ends::strip(second_ends, c.second_strips, t);
-    let gap = halves::squared_gap(ax, ay, ah, bx, by, bh, p.from, p.to, q.from, q.to);
+    let one = ends::strip(first_ends, c.first_strips, s);
+    let other = ends::strip(second_ends, c.second_strips, t);
     let last = c.entries as usize - 1;
-    distance[last] < gap
+    halves::gap_beyond(
+        ax,
+        ay,
+        ah,
+        bx,
+        by,
+        bh,
+        one.from,
+        one.to,
+        other.from,
+        other.to,
+        distance[last],
+    )
 }
 
 // Joins the strips of a job that is not skipped, by the way named.

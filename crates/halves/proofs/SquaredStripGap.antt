@@ -4,7 +4,9 @@ use mathlib.Core.Bool.{true}
 use mathlib.Core.List.{List, [], _∷_, map, zipWith}
 use Prim.Native.Nat.{ℕ, _-_, _≤_, _<_}
 use native.Mathlib.Omega.{arith}
+use borrow.Author.Tests.{lt-ltb}
 use lib.IntN.{ℤ}
+use lib.Dec.{ltb}
 use lib.Signed.{ltZ}
 use lib.ListN.{length, take, drop, replicate, length-replicate}
 use Rattle.order.specs.Lists.{all, All}
@@ -17,7 +19,7 @@ use Rattle.site.specs.Terms.{Level}
 use Rattle.site.proofs.Distance.{unnumbered, numberless}
 use Rattle.site.proofs.PositionOrder.{coordinates-sorted}
 use Rattle.boxes.specs.Box.{boxAround, boxOf, coordinateColumns, squaredBoxGap}
-use Rattle.boxes.proofs.Box.{box-within, heights-within, part-of-three}
+use Rattle.boxes.proofs.Box.{gap-across, box-within, heights-within, part-of-three}
 use Rattle.sweep.specs.Strip.{Placed, strip, sitesOf}
 use Rattle.sweep.specs.Terms.{StripIn}
 use Rattle.sweep.proofs.Alike.{each}
@@ -27,7 +29,7 @@ use Rattle.entry.specs.declared.Entry.{Entry}
 use Rattle.halves.specs.Gap.{squaredStripGap}
 use Rattle.halves.specs.Halves.{halves}
 use Rattle.halves.specs.Terms.{SomeStrip}
-use Rattle.halves.specs.Internal.{rangeSites}
+use Rattle.halves.specs.Internal.{rangeSites, boxAcross}
 use Rattle.halves.proofs.Alike.{sites-each, gap-alike, halves-alike}
 
 -- The part of a column that a range of places has.
@@ -96,6 +98,11 @@ module _ {xs ys hs : List ℤ} {from to : ℕ} (h : SomeStrip xs ys hs from to) 
         (part-inside ys (h .strip .lawful .ys-within), (part-inside hs (heights-within hs (h .strip .heights .within)), tt)),
       ))
 
+  -- So are those of its box by x alone.
+  pub across-within : all within (boxAcross xs from to) ≡ true
+  unfolding All all
+  across-within = box-within (part from to xs ∷ [] ∷ [] ∷ []) (part-inside xs (h .strip .lawful .xs-within), (refl, (refl, tt)))
+
 -- ---- strips, whatever the numbers of their sites
 
 same-boxes : (l m : List Site) → squaredBoxGap (boxOf (map unnumbered l)) (boxOf (map unnumbered m)) ≡ squaredBoxGap (boxOf l) (boxOf m)
@@ -114,6 +121,20 @@ pub strips-gap : {ax ay ah bx by bh : List ℤ} {aFrom aTo bFrom bTo : ℕ} (an 
 strips-gap an bn h g la lb =
     sym (ap₂ squaredStripGap (range-bare _ an (h .strip .inside) la) (range-bare _ bn (g .strip .inside) lb))
     ∙ gap-alike unnumbered same-boxes same-distances _ _
+
+beyond-more : {limit n less more : ℕ} → n ≡ less → limit < n → less ≤ more → true ≡ ltb limit more
+beyond-more {limit} {more = more} is beyond h = sym (lt-ltb limit more (omega arith))
+
+-- which is beyond a limit where that of the boxes by x alone is,
+pub across-decides : {ax ay ah bx by bh : List ℤ} {aFrom aTo bFrom bTo : ℕ} (an bn : List ℕ)
+    → SomeStrip ax ay ah aFrom aTo → SomeStrip bx by bh bFrom bTo
+    → Level (raised ax ay an ah) → Level (raised bx by bn bh) → {limit n : ℕ}
+    → n ≡ squaredBoxGap (boxAcross ax aFrom aTo) (boxAcross bx bFrom bTo) → limit < n
+    → true ≡ ltb limit (squaredStripGap (strip aFrom aTo (sites (raised ax ay an ah))) (strip bFrom bTo (sites (raised bx by bn bh))))
+unfolding squaredStripGap
+across-decides {ax} {bx = bx} {aFrom = aFrom} {aTo} {bFrom} {bTo} an bn h g la lb is beyond =
+    rw (← strips-gap an bn h g la lb, ← range-box h, ← range-box g)
+    (beyond-more is beyond (gap-across (part aFrom aTo ax) (part bFrom bTo bx) _ _))
 
 -- and their join by halves.
 pub halves-strips : {ax ay ah bx by bh : List ℤ} (aFrom bFrom : ℕ) {aTo bTo : ℕ} (an bn : List ℕ) (k : ℕ) (l : List Entry)

@@ -1,13 +1,13 @@
 -- Terms that only this crate's functions cite: a range of places with its box, its halves, and what a visit asks and promises.
 use mathlib.Core.Path.{_≡_}
 use mathlib.Core.Bool.{Bool, cond}
-use mathlib.Core.List.{List}
+use mathlib.Core.List.{List, [], _∷_}
 use Prim.Native.Nat.{ℕ, _-_, _<_, _^_}
 use lib.IntN.{ℤ}
-use lib.ListN.{getD}
+use lib.ListN.{getD, take, drop}
 use Rattle.entry.specs.Results.{Results}
 use Rattle.entry.specs.Terms.{queued, Queueing, Updated}
-use Rattle.boxes.specs.Box.{boxOf, squaredBoxGap}
+use Rattle.boxes.specs.Box.{boxAround, boxOf, squaredBoxGap}
 use Rattle.entry.specs.Entry.{apart}
 use Rattle.sweep.specs.Strip.{Placed, pair, sitesOf}
 use Rattle.sweep.specs.Terms.{rightward}
@@ -25,6 +25,10 @@ rangeSites xs ys hs from to = rightward xs ys hs from (to - from)
 
 abbrev pub sitesIn : List ℤ → List ℤ → List ℤ → Range → List Placed
 sitesIn xs ys hs r = rangeSites xs ys hs (r .from) (r .to)
+
+-- The box of a range of places by its x alone: two columns with nothing in them have their edges at 0.
+abbrev pub boxAcross : List ℤ → ℕ → ℕ → List ℤ
+boxAcross xs from to = boxAround (take (to - from) (drop from xs) ∷ [] ∷ [] ∷ [])
 
 -- A range of a lawful list, with a site or more, and their box.
 pub record RangeIn (xs ys hs : List ℤ) (r : Range) : Type 0 where

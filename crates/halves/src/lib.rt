@@ -3,7 +3,7 @@ mod gap;
 mod visits;
 
 use entry::Queue;
-pub use gap::squared_gap;
+pub use gap::gap_beyond;
 ghost use Prim.Native.Nat.{_≤_};
 ghost use Rattle.site.specs.Terms.{NumberedLent};
 ghost use Rattle.entry.specs.Results.{results, lentResults};

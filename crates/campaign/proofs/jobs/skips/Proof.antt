@@ -26,35 +26,35 @@ strip-requires-2 : tie.Need-strip-requires-2
 strip-requires-2 c κs =
     let asked = c .before .before .before .before .before .before .pre .1 .0 in (asked-parts asked .cols, asked .column)
 
-squared-gap-requires : tie.Need-squared-gap-requires
-squared-gap-requires c κs =
-    let s = c .before .before .before .before .before .before .before in
-    strips-in (s .args .c) (c .before .strip .ensures) (c .strip2 .ensures) (s .pre .0 .0) (s .pre .0 .1) (s .pre .1 .0)
-    (long s .0) (long s .1)
+-- From the second strip back to the test of room, and to what was lent.
+abbrev full : tie.After-strip2 → tie.Else1
+full c = c .before .before .before .before
+
+abbrev start : tie.After-strip2 → tie.Start
+start c = c .before .before .before .before .before .before .before
 
 sub-last : tie.Need-sub-last
-sub-last c =
-    omega (
-      arith,
-      c .before .before .before .before .before .before .if1 .left,
-      some-k
-          (c .before .before .before .before .before .before .before .before .before .pre .1 .0),
-    )
+sub-last c = let w = c .before in omega (arith, full w .if1 .left, some-k (start w .pre .1 .0))
 
-shared-slice-read-result : tie.Need-shared-slice-read-result
-shared-slice-read-result c =
-    let s = c .before .before .before .before .before .before .before .before .before .before in omega
-    (arith, c .before .before .before .before .before .before .before .if1 .left, some-k (s .pre .1 .0), s .pre .1 .1)
+shared-slice-read-gap-beyond : tie.Need-shared-slice-read-gap-beyond
+shared-slice-read-gap-beyond c =
+    let w = c .before .before in omega (arith, full w .if1 .left, some-k (start w .pre .1 .0), start w .pre .1 .1)
+
+gap-beyond-requires : tie.Need-gap-beyond-requires
+gap-beyond-requires c κs =
+    let w = c .before .before in
+    let s = start w in
+    strips-in (s .args .c) (w .before .strip .ensures) (w .strip2 .ensures) (s .pre .0 .0) (s .pre .0 .1) (s .pre .1 .0)
+    (long s .0) (long s .1)
 
 returns-2 : tie.Need-returns-2
 returns-2 c =
-    let s = c .before .before .before .before .before .before .before .before .before .before in
+    let w = c .before .before .before in
+    let s = start w in
     record {
       numbered = λ an bn la lb first second room.
-          gap-decides (s .args .c) (c .before .before .before .before .strip .ensures)
-          (c .before .before .before .strip2 .ensures) _ _ _ room (some-k (s .pre .1 .0) .0)
-          (c .before .before .before .before .before .before .before .if1 .left)
-          (c .before .before .squared-gap .ensures .numbered an bn la lb);
+          gap-decides (s .args .c) (w .before .strip .ensures) (w .strip2 .ensures) _ _ _ room (some-k (s .pre .1 .0) .0)
+          (full w .if1 .left) (c .gap-beyond .ensures .numbered an bn la lb);
     }
 
 pub skips-spec : {M : Type 1} → statement M
@@ -64,9 +64,9 @@ skips-spec =
     returns
     strip-requires
     strip-requires-2
-    squared-gap-requires
     (λ c. search needs)
     sub-last
     (λ c. search needs)
-    shared-slice-read-result
+    shared-slice-read-gap-beyond
+    gap-beyond-requires
     returns-2)
