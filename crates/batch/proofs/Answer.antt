@@ -1,42 +1,35 @@
 -- What several jobs in one call leave: from each job to the next, and their sums.
-use mathlib.Core.Path.{_≡_, refl, sym, ap, _∙_}
-use mathlib.Core.Bool.{Bool, true, false, cond}
+use mathlib.Core.Path.{_≡_, refl, ap, _∙_}
 use mathlib.Core.List.{List, [], _∷_}
 use Prim.Native.Nat.{ℕ, _+_, _*_, _-_, _^_, _≤_, _<_}
-use native.Mathlib.Nat.{add-zero}
 use native.Mathlib.Omega.{arith}
 use lib.IntN.{ℤ}
 use lib.ListN.{length}
 use Rattle.site.specs.Site.{Site}
-use Rattle.site.specs.Answer.{answered, afterwards}
+use Rattle.site.specs.Answer.{afterwards}
 use Rattle.site.specs.SiteList.{Columns, sites}
 use Rattle.site.specs.Terms.{Numbered}
 use Rattle.site.proofs.Numbered.{numbered-some}
 use Rattle.site.proofs.Answer.{answer-values, answer-refused, after-refused, after-answered}
-use Rattle.entry.specs.Results.{Results, entriesOf}
+use Rattle.entry.specs.Results.{Results}
 use Rattle.entry.proofs.Below.{lengthsOf}
-use Rattle.sweep.proofs.Strip.{length-strip}
 use Rattle.join.specs.declared.Join.{Join}
-use Rattle.join.proofs.Counted.{Few, join-few}
-use Rattle.join.specs.Join.{Counts, noCounts, countsOf, join}
-use Rattle.customers.specs.declared.Campaign.{Campaign}
+use Rattle.join.proofs.Counted.{Few}
+use Rattle.join.specs.Join.{Counts, noCounts, countsOf}
 use Rattle.customers.specs.declared.Grid.{Grid}
-use Rattle.customers.specs.Customers.{campaignAs, withCampaign}
+use Rattle.customers.specs.Customers.{campaignAs}
 use Rattle.campaign.specs.declared.Outcome.{Outcome}
 use Rattle.campaign.specs.declared.Outcome.the-variants as outcome
 use Rattle.batch.specs.declared.BatchOutcome.the-variants as ended
 use Rattle.campaign.specs.declared.JobDone.{JobDone}
 use Rattle.batch.specs.declared.BatchDone.{BatchDone}
 use Rattle.batch.specs.declared.Sums.{Sums}
-use Rattle.campaign.specs.Grid.{stripAt, Job}
-use Rattle.campaign.specs.Soundness.{firstEnds, secondEnds}
-use Rattle.campaign.specs.Calls.{skips, afterJob, JobValues, acceptedJob, jobDoneAnswer}
-use Rattle.batch.specs.Batch.{Batch, Row, rowsOf, wayOf, batchRefusal, BatchValues, batchValues, noJob, addCounts, withJobDone, acceptedRows, batchAnswer, batchDoneAnswer}
+use Rattle.campaign.specs.Calls.{JobValues, acceptedJob, jobDoneAnswer}
+use Rattle.batch.specs.Batch.{Batch, Row, rowsOf, wayOf, batchRefusal, BatchValues, batchValues, noJob, withJobDone, acceptedRows, batchAnswer, batchDoneAnswer}
 use Rattle.campaign.specs.Terms.{LawfulColumns, soundPlan, JobAsked, ReadyFor, Worked}
-use Rattle.campaign.specs.Internal.{stripFrom, stripTo, jobDone}
+use Rattle.campaign.specs.Internal.{jobDone}
 use Rattle.batch.specs.Internal.{RowsAsked, batchDone, RowsWorked, skippedBy, countsBy, SumsWith, SumsFit}
 use Rattle.campaign.proofs.CustomerLaws.{job-own}
-use Rattle.campaign.proofs.SoundPlan.{first-strip, second-strip}
 use Rattle.campaign.proofs.JobRefusal.{no-job-fault}
 use Rattle.batch.proofs.Refusal.{row-fault, rows-rest}
 use Rattle.campaign.proofs.JobAnswer.{job-lengths, job-ready, LongSlots, job-few-counts, job-long}

@@ -58,8 +58,8 @@ lawfulWay way = leb way 2
 unfoldable pub wayOf : ℕ → Join
 wayOf way = cond (eqb way 1) (Sweep ReverseRun) (cond (eqb way 2) Halves (Sweep Classic))
 
--- "then the first job at fault refuses the call, another way with 8, a repeat with 9": a job settled before, or by a job further
--- up in the call. The marks are the customer's own.
+-- "then the first job at fault refuses the call, another way with 8, a repeat with 9": a job settled before, or by a job
+-- further up in the call. The marks are the customer's own.
 unfoldable pub rowsRefusal : ℕ → ℕ → List ℕ → List Row → ℕ
 rowsRefusal rows cols marks [] = 0
 rowsRefusal rows cols marks (x ∷ l) =

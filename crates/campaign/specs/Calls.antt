@@ -73,8 +73,8 @@ opened customer g k = withCampaign customer k 0 (cleared customer (g .marks)) g
 unfoldable pub openAnswer : ℕ → Grid → Columns → Columns → ℕ → List ℕ → List ℕ → Results → Answer Grid
 openAnswer customer g a b k ends ends' r = answerUnless (openRefusal customer g a b k ends ends' r) (opened customer g k)
 
--- "Lower K to any number from 1 to the present K": "A K of 0, or above the present one, gets 4, before opening too", where the present one is 0: after 15 and the lists' 1 to
--- 3, and before 7. (02 j)
+-- "Lower K to any number from 1 to the present K": "A K of 0, or above the present one, gets 4, before opening too", where
+-- the present one is 0: after 15 and the lists' 1 to 3, and before 7. (02 j)
 unfoldable pub lowerRefusal : ℕ → Grid → Columns → Columns → ℕ → Results → ℕ
 lowerRefusal customer g a b k r =
     orElse (callerRefusal customer a b)

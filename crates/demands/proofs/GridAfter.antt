@@ -13,8 +13,8 @@ use Rattle.customers.specs.Customers.{isCustomer, campaignAs, withCampaign, low
 use Rattle.campaign.specs.Grid.{Job}
 use Rattle.campaign.specs.Soundness.{lawfulGrid, campaignRefusal}
 use Rattle.campaign.specs.Calls.{openRefusal, opened, openAnswer, lowerRefusal, lowerAnswer, statusAnswer}
-use Rattle.campaign.specs.Calls.{jobFault, jobRefusal, afterJob, acceptedJob, jobAnswer}
-use Rattle.batch.specs.Batch.{Row, rowsOf, equalColumns, lawfulWay, rowsRefusal, batchRefusal, BatchValues, noJob, withJobDone, acceptedRows, batchAnswer}
+use Rattle.campaign.specs.Calls.{jobRefusal, afterJob, acceptedJob, jobAnswer}
+use Rattle.batch.specs.Batch.{Row, rowsOf, equalColumns, rowsRefusal, batchRefusal, BatchValues, noJob, withJobDone, acceptedRows, batchAnswer}
 use Rattle.customers.proofs.CustomerLaws.{Other, two-customers, lowered-other}
 use Rattle.campaign.proofs.Grid.{InGrid}
 use Rattle.campaign.proofs.JobRefusal.{no-job-fault}

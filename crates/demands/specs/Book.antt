@@ -41,8 +41,8 @@ withJobs book l = record { k = book .k; ends = book .ends; ends' = book .ends'; 
 abbrev pub withJob : Book → Job → Book
 withJob book j = withJobs book (j ∷ [])
 
--- 02 m: of several jobs in one call, the first at fault: another way gets 8, and each job what the book has for it with the jobs
--- further up settled.
+-- 02 m: of several jobs in one call, the first at fault: another way gets 8, and each job what the book has for it with
+-- the jobs further up settled.
 unfoldable pub bookRows : Book → List Row → ℕ
 bookRows book [] = 0
 bookRows book (x ∷ l) =

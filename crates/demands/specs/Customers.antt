@@ -53,8 +53,9 @@ pub data Act : Type 0 where
   batch : Batch → Act
   status : Act
 
--- What a success tells: an opening, a lowering or a preparing the grid, a job the grid, its columns, whether it was
--- swept, and its counts; several jobs in one call the grid, the columns, how many were skipped, and the sums of counts. "nothing else in it counts as told": of the grid, what the customer reads.
+-- What a success tells: an opening, a lowering or a preparing the grid, a job the grid, its columns, whether it was swept,
+-- and its counts; several jobs in one call the grid, the columns, how many were skipped, and the sums of counts. "nothing
+-- else in it counts as told": of the grid, what the customer reads.
 pub data Told : Type 0 where
   grid : Reading → Told
   done : Reading → Results → ℕ → Counts → Told

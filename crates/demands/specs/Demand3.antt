@@ -53,8 +53,9 @@ pub record Agrees (a b : Columns) (c : Campaign) (r : Results) (book : Book) : T
 
 module _ (customer : ℕ) (a b : Columns) (bench : Bench) (book : Book) where
   -- "its job refusals and status answers are those of document 01's book", and so are the refusals of several jobs in one
-  -- call and of lowerings, lent B's lists and columns; "only one that is refused may get other lists or columns"; of B's customer's openings, the
-  -- refused ones; "the other's calls may stand between, and an accepted preparing ends both". `Next` is what holds then.
+  -- call and of lowerings, lent B's lists and columns; "only one that is refused may get other lists or columns"; of B's
+  -- customer's openings, the refused ones; "the other's calls may stand between, and an accepted preparing ends both".
+  -- `Next` is what holds then.
   unfoldable pub AtCall : Call → Type 0 → Type 0
   AtCall (job own j way) Next =
       (numberOf (jobAnswer way customer (bench .grid) a b (bench .results) j) ≡ bookRefusal book j) × Next

@@ -14,8 +14,8 @@ use Rattle.batch.specs.Batch.{Batch, batchAnswer}
 use Rattle.demands.specs.Book.{Book, bookRefusal, withJob, bookBatch, withBatch, bookLowering}
 use Rattle.demands.specs.Customers.{Act, gridAfter}
 
--- What a job, a call for several, a lowering or a status of B's is lent beside the grid: B's two lists and columns, other lists, or other
--- columns.
+-- What a job, a call for several, a lowering or a status of B's is lent beside the grid: B's two lists and columns, other
+-- lists, or other columns.
 pub data Lending : Type 0 where
   own : Lending
   otherLists : Columns → Columns → Lending
@@ -72,8 +72,8 @@ benchAfter customer a b bench (preparing a' b' ends ends') =
 abbrev pub withK : Book → ℕ → Book
 withK book k = record { k = k; ends = book .ends; ends' = book .ends'; done = book .done }
 
--- The book after a call, "kept from that customer's calls alone": a job that the book does not refuse is settled, and so are
--- several in one call; a lowering that it does not refuse sets its K. "Status and refused calls change nothing."
+-- The book after a call, "kept from that customer's calls alone": a job that the book does not refuse is settled, and so
+-- are several in one call; a lowering that it does not refuse sets its K. "Status and refused calls change nothing."
 unfoldable pub bookAfter : Book → Call → Book
 bookAfter book (job own j way) = cond (eqb (bookRefusal book j) 0) (withJob book j) book
 bookAfter book (job (otherLists a' b') j way) = book

@@ -17,8 +17,9 @@ unfoldable pub andThen : {A B : Type 0} → Answer A → (A → Answer B) → An
 andThen (refused number) next = refused number
 andThen (answered values) next = next values
 
--- Jobs in calls of their own: each gets both lists, and the grid and the columns as the one before left them; their counts are
--- summed, and the skipped ones counted. The first that is refused ends it with its number, and so does another way, with 8.
+-- Jobs in calls of their own: each gets both lists, and the grid and the columns as the one before left them; their counts
+-- are summed, and the skipped ones counted. The first that is refused ends it with its number, and so does another way,
+-- with 8.
 unfoldable pub inTurn : ℕ → Columns → Columns → BatchValues → List Row → Answer BatchValues
 inTurn customer a b v [] = answered v
 inTurn customer a b v (x ∷ l) =
@@ -27,8 +28,8 @@ inTurn customer a b v (x ∷ l) =
     (λ d. inTurn customer a b (withJobDone v d) l))
     (refused 8)
 
--- "It ends .. as those jobs one after another would": where the call passes 15, both lists' 1 to 3 and 7, and its columns are of
--- one length, its answer is theirs, campaign, columns, sums, and the first refusal.
+-- "It ends .. as those jobs one after another would": where the call passes 15, both lists' 1 to 3 and 7, and its columns
+-- are of one length, its answer is theirs, campaign, columns, sums, and the first refusal.
 unfoldable pub JobsInTurn : Type 0
 JobsInTurn =
     (customer : ℕ) (g : Grid) → length (g .marks) ≡ 1_024

@@ -21,7 +21,6 @@ use Rattle.site.proofs.PositionOrder.{coordinates-sorted}
 use Rattle.boxes.specs.Box.{boxAround, boxOf, coordinateColumns, squaredBoxGap}
 use Rattle.boxes.proofs.Box.{gap-across, box-within, heights-within, part-of-three}
 use Rattle.sweep.specs.Strip.{Placed, strip, sitesOf}
-use Rattle.sweep.specs.Terms.{StripIn}
 use Rattle.sweep.proofs.Alike.{each}
 use Rattle.sweep.proofs.Strip.{strip-sites}
 use Rattle.sweep.proofs.Unnumbered.{strip-bare}

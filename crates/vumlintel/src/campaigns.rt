@@ -1,5 +1,5 @@
-// Preparing a grid, opening a customer's campaign on it, a smaller K, its jobs, one or several in a call, and its status. A grid crosses in its parts, each behind a
-// reference.
+// Preparing a grid, opening a customer's campaign on it, a smaller K, its jobs, one or several in a call, and its status.
+// A grid crosses in its parts, each behind a reference.
 ghost use mathlib.Core.Path.{_≡_};
 ghost use Rattle.column.specs.Lent.{the, _of_, _with_};
 ghost use Rattle.site.specs.SiteList.{lentList};
