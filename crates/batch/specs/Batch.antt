@@ -55,6 +55,7 @@ equalColumns l = eqb (length (l .first)) (length (l .way)) && eqb (length (l .se
 unfoldable pub lawfulWay : ℕ → Bool
 lawfulWay way = leb way 2
 
+-- The way of a number: of 0, and of any that is no way's, which is refused, the classic sweep.
 unfoldable pub wayOf : ℕ → Join
 wayOf way = cond (eqb way 1) (Sweep ReverseRun) (cond (eqb way 2) Halves (Sweep Classic))
 
@@ -88,10 +89,11 @@ batchValues g r skipped counts = record { grid = g; results = r; skipped = skipp
 abbrev pub noJob : Grid → Results → BatchValues
 noJob g r = batchValues g r 0 noCounts
 
+-- "each summed alone".
 abbrev pub addCounts : Counts → Counts → Counts
 addCounts c d = counts (c .looks + d .looks) (c .distances + d .distances) (c .rangePairs + d .rangePairs)
 
--- With one job more, by what it leaves and answers: of 1 for swept and 0 for skipped, the number skipped.
+-- With one job more, by what it leaves and answers; swept is 1 and skipped 0, so that 1 less it is the number skipped.
 unfoldable pub withJobDone : BatchValues → JobValues → BatchValues
 withJobDone v d =
     batchValues (d .grid) (d .results) (v .skipped + (1 - d .swept)) (addCounts (v .counts) (d .counts))
