@@ -133,7 +133,7 @@ module _ {A : Type 0} {before : A → A → Bool} (o : StrictOrder before) where
       (λ p.
       let l = insert_later before a h s p in
       by_test (before g a)
-      (λ q. let r = insert_later before a g t q in let i : s ≡ t = insert_cancel a (cc) in cc)
+      (λ q. let r = insert_later before a g t q in let i : s ≡ t = insert_cancel a {s = s} (cc) in cc)
       (λ q. let r = insert_here before a g t q in never_both p (cc)))
       (λ p.
       let l = insert_here before a h s p in
