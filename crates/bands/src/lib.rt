@@ -1,4 +1,6 @@
 // Price bands: the sales desk edits a lent table of them and prices a case list from it. (02 b.)
+#![tactic(auto)]
+
 mod judging;
 mod pricing;
 

@@ -1,4 +1,6 @@
 // Several jobs of a customer's campaign in one call.
+#![tactic(auto)]
+
 mod adding;
 mod rows;
 mod ways;

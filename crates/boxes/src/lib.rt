@@ -1,4 +1,6 @@
 // The box around some sites, least and greatest x, y and height, and the gap squared of two boxes.
+#![tactic(auto)]
+
 ghost use Rattle.std.specs.Prelude.{◌≡◌, true, [], ◌∷◌, ◌+◌, ◌<◌};
 ghost use Rattle.std.specs.Int.Signed.{lt_z};
 ghost use Rattle.order.specs.Order.{after, first_of};

@@ -1,4 +1,6 @@
 // Campaigns of strip jobs, one of each customer, on one grid: preparing, opening, a smaller K, a job, status.
+#![tactic(auto)]
+
 pub mod calls;
 mod ends;
 pub mod jobs;

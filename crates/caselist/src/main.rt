@@ -1,4 +1,6 @@
 // Prints the case listing of standard input: K, then a site file.
+#![tactic(auto)]
+
 use libc::{STDIN_FILENO, STDOUT_FILENO};
 
 fn main() {

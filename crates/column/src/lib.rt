@@ -1,5 +1,7 @@
 // A lent column: its element at a place, a value put in with what stands behind it moved up by one, and an element taken out
 // with what stands behind it moved down, for each width.
+#![tactic(auto)]
+
 ghost use Rattle.std.specs.Prelude.{◌≡◌, ◌≤◌, ◌<◌, length, get_or};
 ghost use Rattle.column.specs.Column.{inserted, removed};
 

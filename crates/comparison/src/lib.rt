@@ -1,5 +1,7 @@
 // The comparison of two entries alone, as a static library of its own: its object code is looked at for jumps, and the
 // benchmark times it.
+#![tactic(auto)]
+
 ghost use Rattle.std.specs.Prelude.{◌≡◌};
 ghost use Rattle.entry.specs.Entry.{entry, rank_compare};
 ghost use Rattle.comparison.specs.Comparison.{ordering_number};

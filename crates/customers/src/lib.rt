@@ -1,4 +1,6 @@
 // The two customers of a grid: which numbers are customers', and what each one's own of the grid is.
+#![tactic(auto)]
+
 ghost use Rattle.std.specs.Prelude.{◌≡◌, map, ◌≤◌, min};
 ghost use Rattle.customers.specs.Customers.{
   is_customer,

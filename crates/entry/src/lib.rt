@@ -1,4 +1,6 @@
 // An entry of a result list, its rank, the three result columns, and a list under way in them.
+#![tactic(auto)]
+
 mod heap;
 mod queues;
 

@@ -1,4 +1,6 @@
 // The join by halves of two strips, on a list that may already hold entries; and the gap of two strips.
+#![tactic(auto)]
+
 mod gap;
 mod visits;
 

@@ -1,4 +1,6 @@
 // How many pairs of one height each of two columns are equal: each against each where they are short, by a table where not.
+#![tactic(auto)]
+
 ghost use Rattle.std.specs.Prelude.{◌≡◌, true, ◌≤◌, length};
 ghost use Rattle.order.specs.Lists.{all};
 ghost use Rattle.site.specs.Site.{height_within};

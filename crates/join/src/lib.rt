@@ -1,4 +1,6 @@
 // The three ways to join two strips, on a list that may already hold entries: the two sweeps, and the join by halves.
+#![tactic(auto)]
+
 ghost use Rattle.site.specs.Terms.{NumberedLent};
 ghost use Rattle.entry.specs.Results.{results, lent_results};
 ghost use Rattle.sweep.specs.Terms.{SweepAsked};

@@ -1,4 +1,6 @@
 // The case listing: decimal digits, and the text for an input of K and a site file.
+#![tactic(auto)]
+
 mod body;
 mod cases;
 mod digits;

@@ -1,4 +1,6 @@
 // The calls on two whole lists: the K list by any of the three ways, the distance list, and the forecast of its size.
+#![tactic(auto)]
+
 mod closest;
 mod nearby;
 mod partners;

@@ -1,5 +1,7 @@
 // A site and its limits, the squared distance of two sites, a lawful list: checking one, adding a site to one and removing one.
 // A list has heights; the plane, which the site file keeps, has none.
+#![tactic(auto)]
+
 mod adding;
 mod in_use;
 mod lists;

@@ -1,4 +1,6 @@
 // The site file: writing two lists, reading a file, and consulting it site by site.
+#![tactic(auto)]
+
 mod consulting;
 mod numbers;
 mod reading;

@@ -1,4 +1,6 @@
 // The two sweeps over two strips, on a list that may already hold entries.
+#![tactic(auto)]
+
 mod count;
 mod look;
 mod scan;

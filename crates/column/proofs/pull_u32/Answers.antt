@@ -1,0 +1,15 @@
+-- Taking out the first element of a column: the loop's invariant is the law of a run that moves down.
+use mathlib.Core.Path.{refl}
+use borrow.Author.Rules.{rules}
+use Prim.Native.Nat.{◌-◌}
+use Rattle.column.proofs.Removed.{ShiftedDown, shifted_down_none, shifted_down_more, shifted_down_all}
+use Rattle.column.proofs.pull_u32.Goals as goal
+
+pub loop-i-init : goal.loop-i-init
+loop-i-init c = shifted_down_none _ _
+
+pub loop-i-preserved : goal.loop-i-preserved
+loop-i-preserved c = shifted_down_more _ _ 0 _ _ (search rules) (search rules) refl c.loop-i.invariant
+
+pub returns : goal.returns
+returns c = shifted_down_all _ _ _ _ (search rules) c.loop-i.invariant
