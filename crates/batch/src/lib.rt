@@ -57,8 +57,7 @@ pub fn jobs(
 ) -> BatchDone
     ensures { let a = (lent_list ax ay an ah).entry in
         let b = (lent_list bx by bn bh).entry in
-        let l = lent_results distance first second in
-        let answer = batch_answer customer g a b l.entry (lent_batch job_first job_second job_way).entry in
+        let l = lent_results distance first second in let answer = batch_answer customer g a b l.entry (lent_batch job_first job_second job_way).entry in
         (batch_done_answer result l.exit ≡ answer) × ((result.grid ≡ afterwards (λ v. v.grid) answer g)
         × (l.exit ≡ afterwards (λ v. v.results) answer l.entry)) }
 {

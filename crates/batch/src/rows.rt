@@ -74,7 +74,7 @@ pub(super) fn refusal(
 ) -> u32
     ensures { let a = (lent_list ax ay an ah).entry in
         let b = (lent_list bx by bn bh).entry in
-        let l = (lent_results distance first second).entry in
+        let l = results distance.now first.now second.now in
         result ≡ batch_refusal customer g a b l (lent_batch job_first job_second job_way).entry }
 {
     let refused = campaign::soundness::refusal(
@@ -133,8 +133,7 @@ pub(super) fn work(
     requires rows_asked { RowsAsked (campaign_as customer g) (length ax.now) (length bx.now)
         (results distance.old first.old second.old)
         (rows_of (batch_of job_first.now job_second.now job_way.now)) }
-    ensures { let l = lent_results distance first second in
-        let rows = rows_of (lent_batch job_first job_second job_way).entry in
+    ensures { let l = lent_results distance first second in let rows = rows_of (lent_batch job_first job_second job_way).entry in
         NumberedLent ax ay ah bx by bh (λ a b.
         RowsWorked (accepted_rows customer a b (no_job g l.entry) rows) l.exit result) }
 {

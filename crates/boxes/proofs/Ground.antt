@@ -39,7 +39,7 @@ grounded s (t ∷ l) =
       ys = s.y ∷ g.ys;
       zeros = pos 0 ∷ g.zeros;
       rest = zip_with ◌∷◌ s.further g.rest;
-      flat_is = rw g.flat-is;
+      flat_is = rw g.flat_is;
       up_is = rw g.up_is;
       none = (refl, g.none);
     }
@@ -88,4 +88,4 @@ ground_gap (s ∷ l) (t ∷ m) =
     ap₂ (λ (p q : List (List ℤ)). squared_box_gap (box_around p) (box_around q)) g.up_is h.up_is
     ∙ ap₂ squared_box_gap (with_zeros g.xs g.ys g.zeros g.rest g.none) (with_zeros h.xs h.ys h.zeros h.rest h.none)
     ∙ zeros_gap g.xs g.ys h.xs h.ys g.rest h.rest
-    ∙ sym (ap₂ (λ (p q : List (List ℤ)). squared_box_gap (box_around p) (box_around q)) g.flat-is h.flat-is)
+    ∙ sym (ap₂ (λ (p q : List (List ℤ)). squared_box_gap (box_around p) (box_around q)) g.flat_is h.flat_is)

@@ -2,7 +2,7 @@
 ghost use Rattle.std.specs.Prelude.{◌≡◌};
 ghost use Rattle.site.specs.Answer.{afterwards};
 ghost use Rattle.site.specs.SiteList.{lent_list};
-ghost use Rattle.entry.specs.Results.{lent_results};
+ghost use Rattle.entry.specs.Results.{results, lent_results};
 ghost use Rattle.campaign.specs.Grid.{job_of};
 ghost use Rattle.campaign.specs.Calls.{
   no_grid,
@@ -72,7 +72,7 @@ pub fn open(
 ) -> Answered
     ensures { let a = (lent_list ax ay an ah).entry in
         let b = (lent_list bx by bn bh).entry in
-        let l = (lent_results distance first second).entry in
+        let l = results distance.now first.now second.now in
         let answer =
         open_answer customer g a b k first_ends.now second_ends.now l in
         (answered_grid result ≡ answer) × (result.grid ≡ afterwards (λ h. h) answer g) }
@@ -124,7 +124,7 @@ pub fn lower_k(
 ) -> Answered
     ensures { let a = (lent_list ax ay an ah).entry in
         let b = (lent_list bx by bn bh).entry in
-        let l = (lent_results distance first second).entry in
+        let l = results distance.now first.now second.now in
         let answer = lower_answer customer g a b k l in
         (answered_grid result ≡ answer) × (result.grid ≡ afterwards (λ h. h) answer g) }
 {
@@ -158,7 +158,7 @@ pub fn status(
 ) -> Status
     ensures { let a = (lent_list ax ay an ah).entry in
         let b = (lent_list bx by bn bh).entry in
-        let l = (lent_results distance first second).entry in
+        let l = results distance.now first.now second.now in
         status_of result ≡ status_answer customer g a b l }
 {
     let refused = soundness::refusal(
@@ -198,8 +198,7 @@ pub fn job(
 ) -> JobDone
     ensures { let a = (lent_list ax ay an ah).entry in
         let b = (lent_list bx by bn bh).entry in
-        let l = lent_results distance first second in
-        let answer = job_answer way customer g a b l.entry (job_of s t) in
+        let l = lent_results distance first second in let answer = job_answer way customer g a b l.entry (job_of s t) in
         (job_done_answer result l.exit ≡ answer) × ((result.grid ≡ afterwards (λ v. v.grid) answer g)
         × (l.exit ≡ afterwards (λ v. v.results) answer l.entry)) }
 {

@@ -3,7 +3,7 @@ ghost use Rattle.std.specs.Prelude.{◌≡◌, true, List, ℕ, ◌≤◌, ◌<�
 ghost use Rattle.site.specs.SiteList.{lent_list};
 ghost use Rattle.site.specs.Terms.{NumberedLent};
 ghost use Rattle.entry.specs.Terms.{Ready};
-ghost use Rattle.entry.specs.Results.{results, entries_of, room_for, lent_results};
+ghost use Rattle.entry.specs.Results.{results, lent_results, entries_of, room_for};
 ghost use Rattle.join.specs.Join.{join};
 ghost use Rattle.join.specs.Terms.{JoinedTo};
 ghost use Rattle.customers.specs.Customers.{campaign_as};
@@ -66,7 +66,7 @@ pub(super) fn refusal(
 ) -> u32
     ensures { let a = (lent_list ax ay an ah).entry in
         let b = (lent_list bx by bn bh).entry in
-        let l = (lent_results distance first second).entry in
+        let l = results distance.now first.now second.now in
         result ≡ job_refusal customer g a b l (job_of s t) }
 {
     let refused = soundness::refusal(
@@ -143,8 +143,7 @@ pub(super) fn swept(
     requires both_coordinates { BothCoordinates ax ay ah bx by bh }
     requires job_asked { JobAsked c (length ax.now) (length bx.now) (job_of s t) }
     requires ready { Ready c.k c.entries (results distance.old first.old second.old) }
-    ensures { let l = lent_results distance first second in
-        let old = entries_of c.entries l.entry in
+    ensures { let l = lent_results distance first second in let old = entries_of c.entries l.entry in
         NumberedLent ax ay ah bx by bh (λ a b.
         JoinedTo (join way c.k (strip_at (first_ends c) a s) (strip_at (second_ends c) b t) old)
         l.entry l.exit result) }

@@ -1,7 +1,7 @@
 // Lowering the K of a customer's campaign. (02 j)
 ghost use Rattle.std.specs.Prelude.{◌≡◌};
 ghost use Rattle.site.specs.SiteList.{lent_list};
-ghost use Rattle.entry.specs.Results.{lent_results};
+ghost use Rattle.entry.specs.Results.{results};
 ghost use Rattle.campaign.specs.Calls.{lower_refusal};
 
 use super::soundness;
@@ -26,7 +26,7 @@ pub(super) fn refusal(
 ) -> u32
     ensures { let a = (lent_list ax ay an ah).entry in
         let b = (lent_list bx by bn bh).entry in
-        let l = (lent_results distance first second).entry in
+        let l = results distance.now first.now second.now in
         result ≡ lower_refusal customer g a b k l }
 {
     let refused = soundness::caller_refusal(customer, ax, ay, an, ah, bx, by, bn, bh);

@@ -1,7 +1,7 @@
 // Opening a customer's campaign.
 ghost use Rattle.std.specs.Prelude.{◌≡◌, ◌≤◌, length};
 ghost use Rattle.site.specs.SiteList.{lent_list};
-ghost use Rattle.entry.specs.Results.{lent_results};
+ghost use Rattle.entry.specs.Results.{results};
 ghost use Rattle.campaign.specs.Calls.{grid_cuts, open_refusal, opened};
 
 use super::{ends, soundness};
@@ -41,7 +41,7 @@ pub(super) fn refusal(
 ) -> u32
     ensures { let a = (lent_list ax ay an ah).entry in
         let b = (lent_list bx by bn bh).entry in
-        let l = (lent_results distance first second).entry in
+        let l = results distance.now first.now second.now in
         result ≡ open_refusal customer g a b k first_ends.now second_ends.now l }
 {
     let refused = soundness::caller_refusal(customer, ax, ay, an, ah, bx, by, bn, bh);

@@ -7,7 +7,7 @@ ghost use Rattle.site.specs.Site.{squared_distance};
 ghost use Rattle.site.specs.SiteList.{site_at, lent_list};
 ghost use Rattle.site.specs.Terms.{NumberedLent};
 ghost use Rattle.entry.specs.Entry.{rank_before};
-ghost use Rattle.entry.specs.Results.{results, entries_of, room_for, lent_results};
+ghost use Rattle.entry.specs.Results.{results, entries_of, room_for};
 ghost use Rattle.campaign.specs.Terms.{BothCoordinates, sound_plan};
 ghost use Rattle.campaign.specs.Internal.{Room, sound_entries};
 ghost use Rattle.campaign.specs.Soundness.{sound_entry, sound, lawful_grid, caller_refusal, keeper_refusal, campaign_refusal};
@@ -37,7 +37,7 @@ fn distance_at(
 // Whether the entries stand in rank order.
 fn in_order(distance: &[u64], first: &[u32], second: &[u32], count: usize) -> bool
     requires { room_for count (results distance.now first.now second.now) ≡ true }
-    ensures { let l = (lent_results distance first second).entry in
+    ensures { let l = results distance.now first.now second.now in
         result ≡ ascending rank_before (entries_of count l) }
 {
     let mut i = 0;
@@ -111,7 +111,7 @@ fn all_sound(
     requires second_value { room_for count (results distance.now first.now second.now) ≡ true }
     requires both_coordinates { BothCoordinates ax ay ah bx by bh }
     requires first_ends_len_bound { (length first_ends.now ≤ 32) × (length second_ends.now ≤ 32) }
-    ensures { let l = (lent_results distance first second).entry in
+    ensures { let l = results distance.now first.now second.now in
         let faultless = sound_entry marks.now first_ends.now second_ends.now in
         NumberedLent ax ay ah bx by bh (λ a b. result ≡ all (faultless a b) (entries_of count l)) }
 {
@@ -157,7 +157,7 @@ fn sound_entries(
     requires both_coordinates { BothCoordinates ax ay ah bx by bh }
     requires first_strips_bound { (c.first_strips ≤ 32) × (c.second_strips ≤ 32) }
     requires room { Room c.k c.entries (results distance.now first.now second.now) }
-    ensures { let l = (lent_results distance first second).entry in
+    ensures { let l = results distance.now first.now second.now in
         NumberedLent ax ay ah bx by bh (λ a b. result ≡ sound_entries c a b l) }
 {
     let count = c.entries as usize;
@@ -204,7 +204,7 @@ fn sound(
     second: &[u32],
 ) -> bool
     requires { BothCoordinates ax ay ah bx by bh }
-    ensures { let l = (lent_results distance first second).entry in
+    ensures { let l = results distance.now first.now second.now in
         NumberedLent ax ay ah bx by bh (λ a b. result ≡ sound c a b l) }
 {
     if !sound_plan(c, ax.len(), bx.len()) {
@@ -270,7 +270,7 @@ pub fn keeper_refusal(
     second: &[u32],
 ) -> u32
     requires { BothCoordinates ax ay ah bx by bh }
-    ensures { let l = (lent_results distance first second).entry in
+    ensures { let l = results distance.now first.now second.now in
         NumberedLent ax ay ah bx by bh (λ a b. result ≡ keeper_refusal customer g a b l) }
 {
     if !lawful_grid(g) {
@@ -302,7 +302,7 @@ pub fn refusal(
 ) -> u32
     ensures { let a = (lent_list ax ay an ah).entry in
         let b = (lent_list bx by bn bh).entry in
-        let l = (lent_results distance first second).entry in
+        let l = results distance.now first.now second.now in
         result ≡ campaign_refusal customer g a b l }
 {
     let refused = caller_refusal(customer, ax, ay, an, ah, bx, by, bn, bh);

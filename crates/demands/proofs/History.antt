@@ -221,16 +221,16 @@ module _ {customer : ℕ} {g : Grid} {a b : Columns} {k : ℕ} {ends ends' : Lis
       let accepted = both_accepted a b o.lists in
       record {
         lists = o.lists;
-        lawful = o.lawful-k;
+        lawful = o.lawful_k;
         ends = rw (accepted_length a accepted.0) o.cut;
         ends' = rw (accepted_length b accepted.1) o.cut';
         once = tt;
         inside = all_nil (InGrid (length ends) (length ends'));
         k = refl;
-        rows = o.grid-ends.0;
-        columns = o.grid-ends'.0;
-        firsts = o.grid-ends.1;
-        seconds = o.grid-ends'.1;
+        rows = o.grid_ends.0;
+        columns = o.grid_ends'.0;
+        firsts = o.grid_ends.1;
+        seconds = o.grid_ends'.1;
         marks = record {
           size = length-replicate {A = ℕ} (length (campaign_as customer g).marks) 0 ∙ own_size customer g ∙ size;
           few = (lawful_cut (length a.x) ends o.cut).few;

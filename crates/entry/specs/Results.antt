@@ -2,7 +2,7 @@
 use Rattle.std.specs.Prelude.{Bool, ◌&&◌, ℕ, leb, length, take}
 use mathlib.Core.List.{List, map, zip_with}
 use Rattle.column.specs.Column.{overwritten}
-use Rattle.column.specs.Lent.{Lent, Held, the, ◌of◌}
+use Rattle.column.specs.Lent.{LentMut, Held, the, ◌of_mut◌}
 use Rattle.entry.specs.declared.Entry.{Entry}
 use Rattle.entry.specs.Entry.{entry}
 
@@ -16,8 +16,8 @@ abbrev pub results : List ℕ → List ℕ → List ℕ → Results
 results distance first second = record { distance = distance; first = first; second = second }
 
 -- The result columns as they are lent.
-abbrev pub lent_results : Lent (List ℕ) → Lent (List ℕ) → Lent (List ℕ) → Held Results
-lent_results distance first second = the results of distance of first of second
+abbrev pub lent_results : LentMut (List ℕ) → LentMut (List ℕ) → LentMut (List ℕ) → Held Results
+lent_results distance first second = the results of_mut distance of_mut first of_mut second
 
 -- All three columns below a count.
 abbrev pub below : ℕ → Results → Results

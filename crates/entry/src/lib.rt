@@ -6,7 +6,7 @@ mod queues;
 
 ghost use Rattle.std.specs.Prelude.{◌≡◌, ◌<◌, length};
 ghost use Rattle.entry.specs.Entry.{rank_before, rank_compare, k_up_to, lawful_k};
-ghost use Rattle.entry.specs.Results.{lent_results, room_for};
+ghost use Rattle.entry.specs.Results.{results, room_for};
 ghost use Rattle.entry.specs.Terms.{entry_at};
 
 pub use heap::put;
@@ -84,7 +84,7 @@ pub fn lawful_k(k: u32) -> bool
 
 // Whether no column is shorter than `k`.
 pub fn room(k: usize, distance: &[u64], first: &[u32], second: &[u32]) -> bool
-    ensures { result ≡ room_for k (lent_results distance first second).entry }
+    ensures { result ≡ room_for k (results distance.now first.now second.now) }
 {
     if distance.len() < k {
         return false;
@@ -97,7 +97,7 @@ pub fn room(k: usize, distance: &[u64], first: &[u32], second: &[u32]) -> bool
 
 // The entry at a place of the columns; numbers past a column's end are 0.
 pub fn entry_at(distance: &[u64], first: &[u32], second: &[u32], i: usize) -> Entry
-    ensures { result ≡ entry_at (lent_results distance first second).entry i }
+    ensures { result ≡ entry_at (results distance.now first.now second.now) i }
 {
     Entry {
         distance: column::get_u64(distance, i),
@@ -109,7 +109,7 @@ pub fn entry_at(distance: &[u64], first: &[u32], second: &[u32], i: usize) -> En
 // The entry at a place that all three columns have.
 fn entry_inside(distance: &[u64], first: &[u32], second: &[u32], i: usize) -> Entry
     requires { (i < length distance.now) × (i < length first.now) × (i < length second.now) }
-    ensures { result ≡ entry_at (lent_results distance first second).entry i }
+    ensures { result ≡ entry_at (results distance.now first.now second.now) i }
 {
     Entry {
         distance: distance[i],

@@ -111,8 +111,7 @@ pub fn offer(
 // Puts the entries in rank order; while the last stands at the end they stand so already.
 pub fn finish(distance: &mut [u64], first: &mut [u32], second: &mut [u32], queue: Queue)
     requires { FinishAsked queue (results distance.old first.old second.old) }
-    ensures { let l = lent_results distance first second in
-        l.exit ≡ holding (queued queue l.entry) l.entry }
+    ensures { let l = lent_results distance first second in l.exit ≡ holding (queued queue l.entry) l.entry }
 {
     if queue.last == 0 {
         heap::order(distance, first, second, queue.count);

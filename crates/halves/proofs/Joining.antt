@@ -112,7 +112,7 @@ module _ {ax ay ah bx by bh : List ℤ} {aFrom aTo bFrom bTo k old : ℕ} {befor
         let same = halves_strips aFrom bFrom an bn k (entries_of old before) asked.a.inside asked.b.inside la lb in
         let whole : HalvedTo (visited_of t r) before after answer = record {
           entries = a.entries;
-          range_pairs = a.range-pairs;
+          range_pairs = a.range_pairs;
           columns = updated_finished h.updated a.columns;
         } in
         rw (h.state ∙ same) at whole;

@@ -93,14 +93,14 @@ module _ {xs ys hs : List ℤ} {from to : ℕ} (h : SomeStrip xs ys hs from to) 
   range_within e =
       rw (e, ← range_box)
       (box_within (part from to xs ∷ part from to ys ∷ part from to hs ∷ []) (
-        part_inside xs h.strip.lawful.xs-within,
-        (part_inside ys h.strip.lawful.ys-within, (part_inside hs (heights_within hs h.strip.heights.within), tt)),
+        part_inside xs h.strip.lawful.xs_within,
+        (part_inside ys h.strip.lawful.ys_within, (part_inside hs (heights_within hs h.strip.heights.within), tt)),
       ))
 
   -- So are those of its box by x alone.
   pub across_within : all within (box_across xs from to) ≡ true
   unfolding All all
-  across_within = box_within (part from to xs ∷ [] ∷ [] ∷ []) (part_inside xs h.strip.lawful.xs-within, (refl, (refl, tt)))
+  across_within = box_within (part from to xs ∷ [] ∷ [] ∷ []) (part_inside xs h.strip.lawful.xs_within, (refl, (refl, tt)))
 
 -- ---- strips, whatever the numbers of their sites
 

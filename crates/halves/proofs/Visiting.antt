@@ -329,8 +329,8 @@ module _ {ax ay ah bx by bh : List ℤ} {p q : Range} {between k : ℕ} {old : T
       let g : List Placed → ℕ = λ half. squared_strip_gap half second in
       let same : gap_to false q.edges ≡ g = λ i half. gap_of false (box_of (sites_of half)) (asked.second.box i) in
       let halves : HalvesOf ax ay ah g p h = rw same at made in
-      let s = halves.sooner-half in
-      let l = halves.later-half in
+      let s = halves.sooner_half in
+      let l = halves.later_half in
       let n = length_first asked in
       let m = length_second asked in
       let parts = in_turn_lem g first (omega (arith, n, m)) in
@@ -359,8 +359,8 @@ module _ {ax ay ah bx by bh : List ℤ} {p q : Range} {between k : ℕ} {old : T
       let g : List Placed → ℕ = λ half. squared_strip_gap first half in
       let same : gap_to true p.edges ≡ g = λ i half. gap_of true (box_of (sites_of half)) (asked.first.box i) in
       let halves : HalvesOf bx by bh g q h = rw same at made in
-      let s = halves.sooner-half in
-      let l = halves.later-half in
+      let s = halves.sooner_half in
+      let l = halves.later_half in
       let n = length_first asked in
       let m = length_second asked in
       let parts = in_turn_lem g second (omega (arith, n, m, some_first asked)) in

@@ -90,8 +90,7 @@ pub fn run(
 ) -> Halved
     requires { SweepAsked ax.now ay.now ah.now bx.now by.now bh.now a_from a_to b_from b_to k count
         (results distance.old first.old second.old) }
-    ensures { let l = lent_results distance first second in
-        let halved = HalvedStrips a_from a_to b_from b_to k count l.entry l.exit result in
+    ensures { let l = lent_results distance first second in let halved = HalvedStrips a_from a_to b_from b_to k count l.entry l.exit result in
         NumberedLent ax ay ah bx by bh halved }
 {
     let tally = visits::join(

@@ -128,8 +128,7 @@ fn offer(
     requires tally_len { length tally.old ≡ 4 }
     requires i_bound { (i < 2 ^ 32)
         × ((j < 2 ^ 32) × Queueing k (tally_of tally.old).queue (results distance.old first.old second.old)) }
-    ensures { let l = lent_results distance first second in
-        let old = tally_of tally.old in
+    ensures { let l = lent_results distance first second in let old = tally_of tally.old in
         let list = taken apart k (entry squared i j) (queued old.queue l.entry) in
         let s = visited list old.range_pairs in
         let new = tally.new in
@@ -177,8 +176,7 @@ fn expand(
     requires tally_len { length tally.old ≡ 4 }
     requires expand_asked { ExpandAsked ax.now ay.now ah.now bx.now by.now bh.now p q between k (tally_of tally.old)
         (results distance.old first.old second.old) }
-    ensures { let l = lent_results distance first second in
-        let a = sites_in ax.now ay.now ah.now p in
+    ensures { let l = lent_results distance first second in let a = sites_in ax.now ay.now ah.now p in
         let b = sites_in bx.now by.now bh.now q in
         let old = tally_of tally.old in
         let expanded = expand_from k a b (visited_of old l.entry) in
@@ -252,8 +250,7 @@ pub(super) fn join(
 ) -> Tally
     requires { SweepAsked ax.now ay.now ah.now bx.now by.now bh.now a_from a_to b_from b_to k count
         (results distance.old first.old second.old) }
-    ensures { let l = lent_results distance first second in
-        let a = range_sites ax.now ay.now ah.now a_from a_to in
+    ensures { let l = lent_results distance first second in let a = range_sites ax.now ay.now ah.now a_from a_to in
         let b = range_sites bx.now by.now bh.now b_from b_to in
         VisitedTo k l.entry count (halves k a b (entries_of count l.entry)) l.exit result }
 {

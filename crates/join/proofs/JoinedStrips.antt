@@ -38,5 +38,5 @@ module _ (ax ay ah bx by bh : List ℤ) (aFrom aTo bFrom bTo k old : ℕ) (befor
   joined_by_halves w = record {
     numbered = λ an bn la lb.
         let s = w.numbered an bn la lb in
-        record { entries = s.entries; counts = ap by_halves s.range-pairs; columns = s.columns };
+        record { entries = s.entries; counts = ap by_halves s.range_pairs; columns = s.columns };
   }

@@ -1,7 +1,7 @@
 -- Terms that only this crate's functions cite: the parts of the text, and what those that write it ask and promise.
 use Rattle.std.specs.Prelude.{◌≡◌, true, List, [], ◌∷◌, ◌++◌, map, ℕ, ◌+◌, ◌/◌, ◌%◌, ◌≤◌, ◌<◌, ℤ, pos, length, get_or}
 use Rattle.column.specs.Column.{stored}
-use Rattle.column.specs.Lent.{Lent}
+use Rattle.column.specs.Lent.{LentMut}
 use Rattle.site.specs.SiteList.{Columns}
 use Rattle.site.specs.Refusal.{lists_refusal}
 use Rattle.entry.specs.declared.Entry.{Entry}
@@ -44,7 +44,7 @@ pub record Put (at : ℕ) (text before after : List ℕ) (next : ℕ) : Type 0 w
   pub buffer : after ≡ stored at text before
 
 -- The same of a buffer as it is lent.
-abbrev pub Puts : ℕ → List ℕ → Lent (List ℕ) → ℕ → Type 0
+abbrev pub Puts : ℕ → List ℕ → LentMut (List ℕ) → ℕ → Type 0
 Puts at text out next = Put at text out.entry.now out.exit.now next
 
 -- The number has `count` decimal digits.

@@ -1,6 +1,6 @@
 // The text for the entries in result columns.
 ghost use Rattle.std.specs.Prelude.{◌≡◌, true, suc, ◌+◌, ◌*◌, ◌≤◌, ◌<◌, length};
-ghost use Rattle.entry.specs.Results.{results, lent_results, entries_of, room_for};
+ghost use Rattle.entry.specs.Results.{results, entries_of, room_for};
 ghost use Rattle.entry.specs.Terms.{entry_at};
 ghost use Rattle.listing.specs.Listing.{entry_lines};
 ghost use Rattle.listing.specs.Internal.{entry_line, number_at, entries_text, Puts};
@@ -31,7 +31,7 @@ fn put_entry_at(
 ) -> usize
     requires i_in_bounds { (i < length distance.now) × (i < length first.now) × (i < length second.now) }
     requires at_in_bounds { at + 84 ≤ length out.old }
-    ensures { let e = entry_at (lent_results distance first second).entry i in
+    ensures { let e = entry_at (results distance.now first.now second.now) i in
         let a = number_at an.now e.first in
         let b = number_at bn.now e.second in
         Puts at (entry_line (suc i) e.distance a b) out result }
@@ -54,7 +54,7 @@ fn put_entries(
 ) -> usize
     requires second_value { room_for count (results distance.now first.now second.now) ≡ true }
     requires count_in_bounds { at + 84 * count ≤ length out.old }
-    ensures { let l = entries_of count (lent_results distance first second).entry in
+    ensures { let l = entries_of count (results distance.now first.now second.now) in
         Puts at (entry_lines (number_at an.now) (number_at bn.now) 1 l) out result }
 {
     let mut next = at;
@@ -79,7 +79,7 @@ pub(super) fn put_text(
 ) -> usize
     requires second_value { room_for count (results distance.now first.now second.now) ≡ true }
     requires count_in_bounds { 51 + 84 * count ≤ length out.old }
-    ensures { let l = entries_of count (lent_results distance first second).entry in
+    ensures { let l = entries_of count (results distance.now first.now second.now) in
         Puts 0 (entries_text an.now bn.now total l) out result }
 {
     let next = line::put_heading(out, 0, count as u64, total);

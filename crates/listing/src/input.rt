@@ -39,7 +39,7 @@ pub(super) fn read_sites(
 )
     requires file_value { contents_refusal file.now ≡ 0 }
     requires sized { Sized (count_in file.now which) (columns x.old y.old number.old) }
-    ensures { (lent_plane x y number).exit ≡ columns_of (sites_in file.now which) }
+    ensures { (lent_plane_mut x y number).exit ≡ columns_of (sites_in file.now which) }
 {
     let count = x.len();
     let mut i = 0;

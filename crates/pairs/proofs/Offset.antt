@@ -38,7 +38,7 @@ rising {xs} {ys} c = record {
 }
 
 pub across : {xs ys : List ℤ} → Coordinates xs ys → Across xs
-across c = record { few = c.few; inside = c.xs-within; rising = rising c }
+across c = record { few = c.few; inside = c.xs_within; rising = rising c }
 
 -- A difference is that of the offsets.
 gap_offsets : (a b : ℤ) → within a ≡ true → within b ≡ true

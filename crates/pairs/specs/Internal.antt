@@ -3,7 +3,7 @@
 use Rattle.std.specs.Prelude.{◌≡◌, ℕ, ◌+◌, ◌-◌, ◌*◌, ◌<◌, ◌≤◌, Bool, true, ◌&&◌, leb, List, map, length, ℤ, pos, negsuc, nat_le, slice_index_or}
 use Rattle.order.specs.Lists.{all, keep, sum}
 use Rattle.column.specs.Column.{overwritten, stored}
-use Rattle.column.specs.Lent.{Lent}
+use Rattle.column.specs.Lent.{LentMut}
 use Rattle.site.specs.Site.{Site, within, height_within, gap, square, squared_distance}
 use Rattle.site.specs.SiteList.{raised_site}
 use Rattle.site.specs.Terms.{Coordinates, Heights}
@@ -102,6 +102,6 @@ pub record Written (l : List Entry) (n : ℕ) (first second first' second' : Lis
   pub in_second : second' ≡ stored n (map (λ p. p.second) l) second
 
 -- The same of two columns as they are lent.
-abbrev pub Writes : List Entry → ℕ → Lent (List ℕ) → Lent (List ℕ) → ℕ → Type 0
+abbrev pub Writes : List Entry → ℕ → LentMut (List ℕ) → LentMut (List ℕ) → ℕ → Type 0
 Writes l n first second r =
     Written l n first.entry.now second.entry.now first.exit.now second.exit.now r

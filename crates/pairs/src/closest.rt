@@ -2,7 +2,7 @@
 ghost use Rattle.std.specs.Prelude.{◌≡◌};
 ghost use Rattle.site.specs.Answer.{afterwards};
 ghost use Rattle.site.specs.SiteList.{lent_list};
-ghost use Rattle.entry.specs.Results.{lent_results};
+ghost use Rattle.entry.specs.Results.{results, lent_results};
 ghost use Rattle.pairs.specs.KList.{k_list_refusal, k_list_answer, listed_answer};
 
 use super::Listed;
@@ -25,7 +25,7 @@ fn k_list_refusal(
 ) -> u32
     ensures { let a = (lent_list ax ay an ah).entry in
         let b = (lent_list bx by bn bh).entry in
-        result ≡ k_list_refusal a b k (lent_results distance first second).entry }
+        result ≡ k_list_refusal a b k (results distance.now first.now second.now) }
 {
     let refusal = site::lists_refusal(ax, ay, an, ah, bx, by, bn, bh);
     if refusal != 0 {
@@ -58,8 +58,7 @@ pub fn k_list(
 ) -> Listed
     ensures { let a = (lent_list ax ay an ah).entry in
         let b = (lent_list bx by bn bh).entry in
-        let l = lent_results distance first second in
-        let answer = k_list_answer way a b k l.entry in
+        let l = lent_results distance first second in let answer = k_list_answer way a b k l.entry in
         (listed_answer result l.exit ≡ answer) × (l.exit ≡ afterwards (λ v. v.results) answer l.entry) }
 {
     let refusal = k_list_refusal(ax, ay, an, ah, bx, by, bn, bh, k, distance, first, second);

@@ -66,10 +66,10 @@ height_at {n} {hs} h i inside =
 -- A coordinate at a place of columns inside the limits.
 module _ {xs ys : List ℤ} (h : Coordinates xs ys) (i : ℕ) (inside : i < length xs) where
   pub coordinate_x : within (get_or xs i (pos 0)) ≡ true
-  coordinate_x = all_at (λ z. within z ≡ true) xs i (pos 0) inside (all_holds within xs h.xs-within)
+  coordinate_x = all_at (λ z. within z ≡ true) xs i (pos 0) inside (all_holds within xs h.xs_within)
 
   pub coordinate_y : within (get_or ys i (pos 0)) ≡ true
-  coordinate_y = all_at (λ z. within z ≡ true) ys i (pos 0) (omega (arith, h.equal)) (all_holds within ys h.ys-within)
+  coordinate_y = all_at (λ z. within z ≡ true) ys i (pos 0) (omega (arith, h.equal)) (all_holds within ys h.ys_within)
 
 module _ (c : Columns) (ok : list_refusal c ≡ 0) where
   -- How many it has, and its tests.

@@ -36,7 +36,7 @@ pub cast_fits : {z : ℤ} → SFits w32 z → SFits w64 (to_z w32 (of_z w32 z))
 cast_fits {z} h = subst (λ (t : ℤ). SFits w64 t) (sym (to_z-of_z h)) (sfits_widen tt h)
 
 pub cast_back : {z : ℤ} → SFits w32 z → to_z w64 (of_z w64 (to_z w32 (of_z w32 z))) ≡ z
-cast_back {z} h = ap (λ (t : ℤ). to_z w64 (of_z w64 t)) (to_z-of_z h) ∙ to_z-of_z (sfits_widen tt h)
+cast_back {z} h = ap (λ (t : ℤ). to_z w64 (of_z w64 t)) (to_z-of_z h) ∙ to_z-of_z {w = w64} (sfits_widen {w = w32} {w' = w64} (tt {0}) h)
 
 sides_small : (z : ℤ) → SFits w32 z → (up z < 2 ^ 31) × (down z ≤ 2 ^ 31)
 unfolding up down

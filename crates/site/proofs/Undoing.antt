@@ -49,13 +49,13 @@ module _ (c : Columns) (n : ℕ) (s : Site) (fit : length s.further ≡ length c
   level = used_level c n (added_used c n s ok)
 
   low : p ≤ n
-  low = inserting.added-low c n s fit ok
+  low = inserting.added_low c n s fit ok
 
   room : n < length c.x
   room = added_room c n s ok
 
   larger_is : larger ≡ put p s (sites (in_use n c))
-  larger_is = inserting.added-put c n s fit ok
+  larger_is = inserting.added_put c n s fit ok
 
   there : present s larger ≡ true
   unfolding present
@@ -80,7 +80,7 @@ module _ (c : Columns) (n : ℕ) (s : Site) (fit : length s.further ≡ length c
   unfolding remove_answer
   back = record {
     values = change_values (remove_site (place_of s larger) (n + 1) d) (place_of s larger) ((n + 1) - 1);
-    answers = sym (answer_values (sym (remove_ok d (n + 1) s (inserting.after-used c n s fit ok) there)));
+    answers = sym (answer_values (sym (remove_ok d (n + 1) s (inserting.after_used c n s fit ok) there)));
     same_place = its_place;
     same_count = omega arith;
     same_used = ap (λ (q : ℕ). in_use n (remove_site q (n + 1) d)) its_place ∙ shrunk;
@@ -112,7 +112,7 @@ module _ (c : Columns) (n : ℕ) (s : Site) (ok : remove_refusal c n s ≡ 0) wh
   inside = used_inside c n (removed_used c n s ok)
 
   gone_low : gone < n
-  gone_low = removing.removed-low c n s ok
+  gone_low = removing.removed_low c n s ok
 
   gone_there : gone < length whole
   gone_there = omega (arith, gone_low, in_use_length c n old_level inside)
@@ -121,7 +121,7 @@ module _ (c : Columns) (n : ℕ) (s : Site) (ok : remove_refusal c n s ≡ 0) wh
   lawful = used_lawful c n (removed_used c n s ok)
 
   smaller_is : smaller ≡ without gone whole
-  smaller_is = removing.removed-without c n s ok
+  smaller_is = removing.removed_without c n s ok
 
   t_lawful : lawful_site t ≡ true
   unfolding site_at
@@ -140,7 +140,7 @@ module _ (c : Columns) (n : ℕ) (s : Site) (ok : remove_refusal c n s ≡ 0) wh
 
   acceptable : add_refusal rest (n - 1) t ≡ 0
   acceptable =
-      sym (add_ok rest (n - 1) t (removing.after-used c n s ok) t_lawful (omega (arith, long, inside, gone_low))
+      sym (add_ok rest (n - 1) t (removing.after_used c n s ok) t_lawful (omega (arith, long, inside, gone_low))
       (omega (arith, gone_low, used_few c n (removed_used c n s ok))) t_new)
 
   grown : in_use n (insert_site gone (n - 1) t rest) ≡ in_use n c
@@ -169,11 +169,11 @@ module _ (c : Columns) (n : ℕ) (s : Site) (ok : remove_refusal c n s ≡ 0) wh
 pub undoing : Undoing
 undoing = record {
   adding_undone = λ c n s v fit told.
-      let e = inserting.added-values c n s fit told in
+      let e = inserting.added_values c n s fit told in
       rw (← e.1, remove_flat) (back c n s fit e.0);
   removing_undone = λ c n s v told.
-      let e = removing.removed-values c n s told in
+      let e = removing.removed_values c n s told in
       rw (← e.1) (again c n s e.0);
-  asked = λ c n s v told. removing.removed-site c n s told;
-  lawful = λ c n s v told. removing.removed-accepted c n s told;
+  asked = λ c n s v told. removing.removed_site c n s told;
+  lawful = λ c n s v told. removing.removed_accepted c n s told;
 }

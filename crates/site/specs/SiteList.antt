@@ -1,7 +1,7 @@
 -- A list of sites in lent columns: three in the plane, a fourth with heights.
 use Rattle.std.specs.Prelude.{◌≡◌, ℕ, ℤ, pos, take, get_or}
 use mathlib.Core.List.{List, [], ◌∷◌, map, zip_with}
-use Rattle.column.specs.Lent.{Lent, Held, the, ◌of◌}
+use Rattle.column.specs.Lent.{Lent, LentMut, Held, the, ◌of◌, ◌of_mut◌}
 use Rattle.site.specs.Site.{Site}
 
 -- The columns of a list, as they are lent; `further` has one for each coordinate beside x and y. (01: list.)
@@ -18,12 +18,16 @@ columns x y number = record { x = x; y = y; number = number; further = [] }
 abbrev pub raised : List ℤ → List ℤ → List ℕ → List ℤ → Columns
 raised x y number height = record { x = x; y = y; number = number; further = height ∷ [] }
 
--- A list as it is lent, in the plane and with heights.
+-- A list as it is lent, in the plane and with heights; and one with heights as it is lent to be changed.
 abbrev pub lent_plane : Lent (List ℤ) → Lent (List ℤ) → Lent (List ℕ) → Held Columns
 lent_plane x y number = the columns of x of y of number
 
 abbrev pub lent_list : Lent (List ℤ) → Lent (List ℤ) → Lent (List ℕ) → Lent (List ℤ) → Held Columns
 lent_list x y number height = the raised of x of y of number of height
+
+abbrev pub lent_list_mut :
+    LentMut (List ℤ) → LentMut (List ℤ) → LentMut (List ℕ) → LentMut (List ℤ) → Held Columns
+lent_list_mut x y number height = the raised of_mut x of_mut y of_mut number of_mut height
 
 -- A list of the plane, and the same with every height 0.
 abbrev pub Plane : Columns → Type 0

@@ -2,7 +2,7 @@
 ghost use Rattle.std.specs.Prelude.{◌≡◌, ◌≤◌, ◌<◌, length};
 ghost use Rattle.site.specs.Site.{lawful_site};
 ghost use Rattle.site.specs.Answer.{afterwards};
-ghost use Rattle.site.specs.SiteList.{raised_site, lent_list};
+ghost use Rattle.site.specs.SiteList.{raised_site, lent_list, lent_list_mut};
 ghost use Rattle.site.specs.InUse.{changed_answer};
 ghost use Rattle.site.specs.Addition.{add_refusal, insert_site, site_of, add_answer};
 
@@ -66,7 +66,7 @@ fn insert_site(
     s: Site,
 )
     requires { (place ≤ n) × (n < length x.old) × (n < length y.old) × (n < length number.old) × (n < length height.old) }
-    ensures { let c = lent_list x y number height in c.exit ≡ insert_site place n (site_of s) c.entry }
+    ensures { let c = lent_list_mut x y number height in c.exit ≡ insert_site place n (site_of s) c.entry }
 {
     column::insert_i32(x, place, n, s.x);
     column::insert_i32(y, place, n, s.y);
@@ -83,8 +83,7 @@ pub fn add(
     count: u32,
     s: Site,
 ) -> Changed
-    ensures { let c = lent_list x y number height in
-        let answer = add_answer c.entry count (site_of s) in
+    ensures { let c = lent_list_mut x y number height in let answer = add_answer c.entry count (site_of s) in
         (changed_answer result c.exit ≡ answer) × (c.exit ≡ afterwards (λ v. v.columns) answer c.entry) }
 {
     let refusal = add_refusal(x, y, number, height, count, s.x, s.y, s.number, s.height);

@@ -1,7 +1,7 @@
 // Removing a site from the sites in use.
 ghost use Rattle.std.specs.Prelude.{◌≡◌, ◌≤◌, ◌<◌, length};
 ghost use Rattle.site.specs.Answer.{afterwards};
-ghost use Rattle.site.specs.SiteList.{site, lent_list};
+ghost use Rattle.site.specs.SiteList.{site, lent_list, lent_list_mut};
 ghost use Rattle.site.specs.InUse.{changed_answer};
 ghost use Rattle.site.specs.Removal.{remove_refusal, remove_site, remove_answer};
 
@@ -41,7 +41,7 @@ fn remove_site(
     n: usize,
 )
     requires { (place < n) × (n ≤ length x.old) × (n ≤ length y.old) × (n ≤ length number.old) × (n ≤ length height.old) }
-    ensures { let c = lent_list x y number height in c.exit ≡ remove_site place n c.entry }
+    ensures { let c = lent_list_mut x y number height in c.exit ≡ remove_site place n c.entry }
 {
     column::remove_i32(x, place, n);
     column::remove_i32(y, place, n);
@@ -60,8 +60,7 @@ pub fn remove(
     sy: i32,
     sn: u32,
 ) -> Changed
-    ensures { let c = lent_list x y number height in
-        let answer = remove_answer c.entry count (site sx sy sn) in
+    ensures { let c = lent_list_mut x y number height in let answer = remove_answer c.entry count (site sx sy sn) in
         (changed_answer result c.exit ≡ answer) × (c.exit ≡ afterwards (λ v. v.columns) answer c.entry) }
 {
     let refusal = remove_refusal(x, y, number, height, count, sx, sy, sn);

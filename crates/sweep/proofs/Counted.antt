@@ -120,10 +120,10 @@ sweep_counted ReverseRun k p q l = run_counted leads look apart k p q (state l 0
 
 -- A sweep makes at most one look for each pair, and works out no distance without a look.
 pub sweep_looks_bound : (w : Way) (k : ℕ) (p q : List Placed) (l : List Entry) → (sweep w k p q l).looks ≤ length p * length q
-sweep_looks_bound w k p q l = omega (arith, (sweep_counted w k p q l).looks-to)
+sweep_looks_bound w k p q l = omega (arith, (sweep_counted w k p q l).looks_to)
 
 pub sweep_distances_bound : (w : Way) (k : ℕ) (p q : List Placed) (l : List Entry) → (sweep w k p q l).distances ≤ (sweep w k p q l).looks
-sweep_distances_bound w k p q l = omega (arith, (sweep_counted w k p q l).distances-to)
+sweep_distances_bound w k p q l = omega (arith, (sweep_counted w k p q l).distances_to)
 
 -- Over lists of a lawful length both counters fit 32 bits.
 pub sweep_looks_fit : (w : Way) (k : ℕ) (p q : List Placed) (l : List Entry) → length p ≤ 65_535 → length q ≤ 65_535

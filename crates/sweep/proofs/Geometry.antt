@@ -38,13 +38,13 @@ widening f left P g (x ∷ l) h s =
 module _ {A B : Type 0} {leftA : A → A → Bool} {left_b : B → B → Bool} {leads : A → B → Bool} {look : A → B → Candidate}
     (G : Geometry leftA left_b leads look) where
   pub follows_on : (a c : A) (b d : B) → leads a b ≡ false → leftA c a ≡ false → left_b b d ≡ false → leads c d ≡ false
-  follows_on a c b d h p q = by_test (leads c d) (λ t. never_both (G.leads-on c a d b t p q) h) (λ f. f)
+  follows_on a c b d h p q = by_test (leads c d) (λ t. never_both (G.leads_on c a d b t p q) h) (λ f. f)
 
   -- Where `a` leads the first, it leads all to its right.
   pub leads_all : (a : A) (b : B) (q : List B) → leads a b ≡ true → Sorted left_b (b ∷ q) → All (λ d. leads a d ≡ true) (b ∷ q)
   unfolding All Sorted
   leads_all a b q h s =
-      (h, all_weaken (λ d. left_b d b ≡ false) (λ d. leads a d ≡ true) (λ d n. G.leads-on a a b d h (G.still_a a) n) q s.0)
+      (h, all_weaken (λ d. left_b d b ≡ false) (λ d. leads a d ≡ true) (λ d n. G.leads_on a a b d h (G.still_a a) n) q s.0)
 
   pub follows_all : (a : A) (b : B) (p : List A) → leads a b ≡ false → Sorted leftA (a ∷ p) → All (λ c. leads c b ≡ false) (a ∷ p)
   unfolding All Sorted
@@ -54,20 +54,20 @@ module _ {A B : Type 0} {leftA : A → A → Bool} {left_b : B → B → Bool} {
   -- From a reference of the first list to the right, and to the left.
   pub row_widening : (a : A) (q : List B) → All (λ b. leads a b ≡ true) q → Sorted left_b q → Widening (look a) q
   row_widening a q h s =
-      widening (look a) left_b (λ b. leads a b ≡ true) (λ b d l n. G.leads-wider a a b d l (G.still_a a) n) q h s
+      widening (look a) left_b (λ b. leads a b ≡ true) (λ b d l n. G.leads_wider a a b d l (G.still_a a) n) q h s
 
   pub row_widening_back : (a : A) (v : List B) → All (λ b. leads a b ≡ false) v → Sorted (λ b d. left_b d b) v → Widening (look a) v
   row_widening_back a v h s =
-      widening (look a) (λ b d. left_b d b) (λ b. leads a b ≡ false) (λ b d l n. G.follows-wider a a b d l (G.still_a a) n) v h s
+      widening (look a) (λ b d. left_b d b) (λ b. leads a b ≡ false) (λ b d l n. G.follows_wider a a b d l (G.still_a a) n) v h s
 
   -- From a reference of the second list.
   pub column_widening : (b : B) (p : List A) → All (λ a. leads a b ≡ false) p → Sorted leftA p → Widening (λ a. look a b) p
   column_widening b p h s =
-      widening (λ a. look a b) leftA (λ a. leads a b ≡ false) (λ a c l n. G.follows-wider a c b b l n (G.still_b b)) p h s
+      widening (λ a. look a b) leftA (λ a. leads a b ≡ false) (λ a c l n. G.follows_wider a c b b l n (G.still_b b)) p h s
 
   pub column_widening_back : (b : B) (u : List A) → All (λ a. leads a b ≡ true) u → Sorted (λ a c. leftA c a) u → Widening (λ a. look a b) u
   column_widening_back b u h s =
-      widening (λ a. look a b) (λ a c. leftA c a) (λ a. leads a b ≡ true) (λ a c l n. G.leads-wider a c b b l n (G.still_b b)) u h s
+      widening (λ a. look a b) (λ a c. leftA c a) (λ a. leads a b ≡ true) (λ a c l n. G.leads_wider a c b b l n (G.still_b b)) u h s
 
   pub row_bounding : (a : A) (q : List B) → Bounding (look a) q
   unfolding Bounding

@@ -144,11 +144,11 @@ module _ {ax ay ah bx by bh : List ℤ} {aFrom aTo bFrom bTo k old : ℕ} {befor
     module _ {o : Reference} where
       pub invariant_ask_first : b ≡ true → o ≡ reference_at ax ay ah i false → ScanAsked o bx by bh bLimit j k t r
       invariant_ask_first h is =
-          reference_asks false asked.a.lawful asked.a.heights (omega (arith, invariant_in h, asked.a.inside)) is asked.b.lawful asked.b.heights f.b-limit (omega (arith, f.b-most, asked.b.inside)) f.updated.queue fits
+          reference_asks false asked.a.lawful asked.a.heights (omega (arith, invariant_in h, asked.a.inside)) is asked.b.lawful asked.b.heights f.b_limit (omega (arith, f.b_most, asked.b.inside)) f.updated.queue fits
 
       pub invariant_ask_second : j < bTo → o ≡ reference_at bx by bh j true → ScanAsked o ax ay ah aLimit i k t r
       invariant_ask_second in_b is =
-          reference_asks true asked.b.lawful asked.b.heights (omega (arith, asked.b.inside)) is asked.a.lawful asked.a.heights f.a-limit (omega (arith, f.a-most, asked.a.inside)) f.updated.queue fits
+          reference_asks true asked.b.lawful asked.b.heights (omega (arith, asked.b.inside)) is asked.a.lawful asked.a.heights f.a_limit (omega (arith, f.a_most, asked.a.inside)) f.updated.queue fits
 
       module _ {after : Results} {n : Tally} where
         -- The first list's site is taken; the second list's limit is where the scan ended.
@@ -159,14 +159,14 @@ module _ {ax ay ah bx by bh : List ℤ} {aFrom aTo bFrom bTo k old : ℕ} {befor
         invariant_first h is done =
             let seen = looks_first ax ay ah i is in
             let step = step_first ax ay ah bx by bh aTo bTo k i j u v (state_of t r) (sym test ∙ h) in
-            let passed = passed_run bx by bh k (look (spot ax ay ah i)) (state_of t r) f.b-limit (rw seen at done.1) in
+            let passed = passed_run bx by bh k (look (spot ax ay ah i)) (state_of t r) f.b_limit (rw seen at done.1) in
             record {
-              a_limit = omega (arith, f.a-limit);
+              a_limit = omega (arith, f.a_limit);
               a_most = omega (arith, step.0);
               b_limit = passed.0;
-              b_most = f.b-most;
+              b_most = f.b_most;
               updated = updated_twice f.updated done.0.updated;
-              whole = rw (← leftward_more ax ay ah aLimit i f.a-limit, ← passed.1, rw seen at done.0.state) (sym step.1 ∙ f.whole);
+              whole = rw (← leftward_more ax ay ah aLimit i f.a_limit, ← passed.1, rw seen at done.0.state) (sym step.1 ∙ f.whole);
             }
 
         -- The second list's site is taken; the first list's limit is where the scan ended.
@@ -177,12 +177,12 @@ module _ {ax ay ah bx by bh : List ℤ} {aFrom aTo bFrom bTo k old : ℕ} {befor
         invariant_second h in_b is done =
             let seen = looks_second bx by bh j is in
             let step = step_second ax ay ah bx by bh aTo bTo k i j u v (state_of t r) (sym test ∙ h) in_b in
-            let passed = passed_run ax ay ah k (λ c. look c (spot bx by bh j)) (state_of t r) f.a-limit (rw seen at done.1) in
+            let passed = passed_run ax ay ah k (λ c. look c (spot bx by bh j)) (state_of t r) f.a_limit (rw seen at done.1) in
             record {
               a_limit = passed.0;
-              a_most = f.a-most;
-              b_limit = omega (arith, f.b-limit);
+              a_most = f.a_most;
+              b_limit = omega (arith, f.b_limit);
               b_most = omega arith;
               updated = updated_twice f.updated done.0.updated;
-              whole = rw (← leftward_more bx by bh bLimit j f.b-limit, ← passed.1, rw seen at done.0.state) (sym step ∙ f.whole);
+              whole = rw (← leftward_more bx by bh bLimit j f.b_limit, ← passed.1, rw seen at done.0.state) (sym step ∙ f.whole);
             }

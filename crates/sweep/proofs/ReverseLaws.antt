@@ -134,7 +134,7 @@ module _ {A B : Type 0} {leftA : A → A → Bool} {left_b : B → B → Bool} {
       (λ c n.
       all_zip (λ b. leads a b ≡ false) (λ b. beyond k E (look a b).gap ≡ true) (λ b. beyond k E (look c b).entry.distance ≡ true)
       (λ b f t. beyond_more k E (look c b).gap (look c b).entry.distance (G.bound c b)
-      (beyond_more k E (look a b).gap (look c b).gap (G.follows-wider a c b b f n (G.still_b b)) t))
+      (beyond_more k E (look a b).gap (look c b).gap (G.follows_wider a c b b f n (G.still_b b)) t))
       v l h)
       p s.0)
 
@@ -147,7 +147,7 @@ module _ {A B : Type 0} {leftA : A → A → Bool} {left_b : B → B → Bool} {
       (λ a f t.
       all_weaken (λ d. left_b d b ≡ false) (λ d. beyond k E (look a d).entry.distance ≡ true)
       (λ d n. beyond_more k E (look a d).gap (look a d).entry.distance (G.bound a d)
-      (beyond_more k E (look a b).gap (look a d).gap (G.leads-wider a a b d f (G.still_a a) n) t))
+      (beyond_more k E (look a b).gap (look a d).gap (G.leads_wider a a b d f (G.still_a a) n) t))
       q s.0)
       u l h)
 

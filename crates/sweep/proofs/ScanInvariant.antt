@@ -51,8 +51,8 @@ module _ {o : Reference} {xs ys hs : List ℤ} {from to k : ℕ} {before : Resul
         updated = updated_none asked.queue;
         state = refl;
         passed = refl;
-        looks_fit = omega (arith, asked.looks-fit);
-        distances_fit = omega (arith, asked.distances-fit);
+        looks_fit = omega (arith, asked.looks_fit);
+        distances_fit = omega (arith, asked.distances_fit);
       }
 
   module _ {all left : List Placed} {r : Results} {t : Tally} (p : ScanInvariant k before old o all left r t) where
@@ -73,8 +73,8 @@ module _ {o : Reference} {xs ys hs : List ℤ} {from to k : ℕ} {before : Resul
           lawful = asked.lawful;
           inside = omega (arith, asked.to_inside);
           queue = p.updated.queue;
-          looks_fit = omega (arith, p.looks-fit);
-          distances_fit = omega (arith, p.distances-fit);
+          looks_fit = omega (arith, p.looks_fit);
+          distances_fit = omega (arith, p.distances_fit);
         }
 
     module _ {x : Placed} {rest : List Placed} (is : left ≡ x ∷ rest) {after : Results} {l : Looked}
@@ -108,6 +108,6 @@ module _ {o : Reference} {xs ys hs : List ℤ} {from to k : ℕ} {before : Resul
             updated = joined;
             state = ap (λ (s : Scanned). s.state) (sym whole) ∙ p.state;
             passed = omega (arith, p.passed, ap (λ (s : Scanned). s.passed) whole);
-            looks_fit = omega (arith, p.looks-fit, ap (λ (s : State). s.looks) now);
-            distances_fit = omega (arith, p.distances-fit, ap (λ (s : State). s.distances) now);
+            looks_fit = omega (arith, p.looks_fit, ap (λ (s : State). s.looks) now);
+            distances_fit = omega (arith, p.distances_fit, ap (λ (s : State). s.distances) now);
           }

@@ -34,7 +34,7 @@ module _ (way : Way) (ax ay ah bx by bh : List ℤ) (aFrom aTo bFrom bTo k old :
       let n = length_rightward bx by bh bFrom (bTo - bFrom) in
       let f = sweep_looks_fit way k p q (entries_of old before) (omega (arith, asked.a.inside, asked.a.lawful.few)) (omega (arith, asked.b.inside, asked.b.lawful.few)) in
       let g = sweep_distances_bound way k p q (entries_of old before) in
-      omega (arith, c.looks-from, c.distances-from)
+      omega (arith, c.looks_from, c.distances_from)
 
   -- What the answer asks.
   pub swept_asks : {r : Results} {t : Tally} → Tallied k before old swept r t → (t.queue.count ≤ 4_096) × FinishAsked t.queue r

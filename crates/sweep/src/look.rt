@@ -92,8 +92,7 @@ pub(super) fn look(
     second: &mut [u32],
 ) -> Looked
     requires { LookAsked reference xs.now ys.now hs.now i k old (results distance.old first.old second.old) }
-    ensures { let l = lent_results distance first second in
-        let candidate = look_from reference (spot xs.now ys.now hs.now i) in
+    ensures { let l = lent_results distance first second in let candidate = look_from reference (spot xs.now ys.now hs.now i) in
         LookDone k candidate old l.entry l.exit result }
 {
     let mut tally = old;

@@ -23,8 +23,7 @@ pub(super) fn scan_right(
     second: &mut [u32],
 ) -> Tally
     requires { ScanAsked reference xs.now ys.now hs.now from to k old (results distance.old first.old second.old) }
-    ensures { let l = lent_results distance first second in
-        let run = rightward xs.now ys.now hs.now from (to - from) in
+    ensures { let l = lent_results distance first second in let run = rightward xs.now ys.now hs.now from (to - from) in
         let scanned = scan apart k (map (look_from reference) run) (state_of old l.entry) in
         Tallied k l.entry old.queue.count scanned.state l.exit result }
 {
@@ -57,8 +56,7 @@ pub(super) fn scan_left(
     second: &mut [u32],
 ) -> Tally
     requires { ScanAsked reference xs.now ys.now hs.now limit taken k old (results distance.old first.old second.old) }
-    ensures { let l = lent_results distance first second in
-        let run = leftward xs.now ys.now hs.now limit (taken - limit) in
+    ensures { let l = lent_results distance first second in let run = leftward xs.now ys.now hs.now limit (taken - limit) in
         let scanned = scan apart k (map (look_from reference) run) (state_of old l.entry) in
         Tallied k l.entry old.queue.count scanned.state l.exit result × (result.at + scanned.passed ≡ taken) }
 {

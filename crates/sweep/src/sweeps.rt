@@ -57,8 +57,7 @@ pub(super) fn classic(
 ) -> Tally
     requires { SweepAsked ax.now ay.now ah.now bx.now by.now bh.now a_from a_to b_from b_to k count
         (results distance.old first.old second.old) }
-    ensures { let l = lent_results distance first second in
-        let a = rightward ax.now ay.now ah.now a_from (a_to - a_from) in
+    ensures { let l = lent_results distance first second in let a = rightward ax.now ay.now ah.now a_from (a_to - a_from) in
         let b = rightward bx.now by.now bh.now b_from (b_to - b_from) in
         Tallied k l.entry count (sweep Classic k a b (entries_of count l.entry)) l.exit result }
 {
@@ -104,8 +103,7 @@ pub(super) fn reverse_run(
 ) -> Tally
     requires { SweepAsked ax.now ay.now ah.now bx.now by.now bh.now a_from a_to b_from b_to k count
         (results distance.old first.old second.old) }
-    ensures { let l = lent_results distance first second in
-        let a = rightward ax.now ay.now ah.now a_from (a_to - a_from) in
+    ensures { let l = lent_results distance first second in let a = rightward ax.now ay.now ah.now a_from (a_to - a_from) in
         let b = rightward bx.now by.now bh.now b_from (b_to - b_from) in
         Tallied k l.entry count (sweep ReverseRun k a b (entries_of count l.entry)) l.exit result }
 {

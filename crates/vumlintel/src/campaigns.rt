@@ -1,9 +1,9 @@
 // Preparing a grid, opening a customer's campaign on it, a smaller K, its jobs, one or several in a call, and its status.
 // A grid crosses in its parts, each behind a reference.
 ghost use Rattle.std.specs.Prelude.{◌≡◌};
-ghost use Rattle.column.specs.Lent.{the, ◌of◌, ◌with◌};
+ghost use Rattle.column.specs.Lent.{the, ◌with◌, ◌of_mut◌};
 ghost use Rattle.site.specs.SiteList.{lent_list};
-ghost use Rattle.entry.specs.Results.{Results, lent_results};
+ghost use Rattle.entry.specs.Results.{results, lent_results, Results};
 ghost use Rattle.sweep.specs.declared.Way.TheVariants.{Classic, ReverseRun};
 ghost use Rattle.join.specs.declared.Join.TheVariants.{Sweep, Halves};
 ghost use Rattle.join.specs.Join.{counts, by_sweep, by_halves};
@@ -40,8 +40,7 @@ fn get(
     k2: &u32,
     entries2: &u32,
 ) -> Grid
-    ensures { let parts = lent_grid first_strips second_strips first_ends second_ends marks k1 entries1 k2 entries2 in
-        result ≡ parts.entry }
+    ensures { let parts = lent_grid first_strips second_strips first_ends second_ends marks k1 entries1 k2 entries2 in result ≡ parts.entry }
 {
     let first_cut = *first_ends;
     let second_cut = *second_ends;
@@ -72,8 +71,7 @@ fn put(
     k2: &mut u32,
     entries2: &mut u32,
 )
-    ensures { let parts = lent_grid first_strips second_strips first_ends second_ends marks k1 entries1 k2 entries2 in
-        parts.exit ≡ g }
+    ensures { let parts = lent_grid first_strips second_strips first_ends second_ends marks k1 entries1 k2 entries2 in parts.exit ≡ g }
 {
     let first_cut = g.first_ends;
     let second_cut = g.second_ends;
@@ -97,9 +95,9 @@ fn cross_done(
     distances: &mut u64,
     range_pairs: &mut u64,
 ) -> u32
-    ensures { let counters = the counts of looks of distances of range_pairs in
+    ensures { let counters = the counts of_mut looks of_mut distances of_mut range_pairs in
         ((l : Results) →
-        Crosses (job_done_answer done l) result (the (job_values done.grid l) of swept with counters)) }
+        Crosses (job_done_answer done l) result (the (job_values done.grid l) of_mut swept with counters)) }
 {
     let outcome = done.outcome;
     match outcome {
@@ -129,9 +127,9 @@ fn cross_batch(
     distances: &mut u64,
     range_pairs: &mut u64,
 ) -> u32
-    ensures { let counters = the counts of looks of distances of range_pairs in
+    ensures { let counters = the counts of_mut looks of_mut distances of_mut range_pairs in
         ((l : Results) →
-        Crosses (batch_done_answer done l) result (the (batch_values done.grid l) of skipped with counters)) }
+        Crosses (batch_done_answer done l) result (the (batch_values done.grid l) of_mut skipped with counters)) }
 {
     let outcome = done.outcome;
     match outcome {
@@ -170,8 +168,7 @@ pub extern "C" fn vumlintel_prepare(
     k2: &mut u32,
     entries2: &mut u32,
 ) -> u32
-    ensures { let g = lent_grid first_strips second_strips first_ends second_ends marks k1 entries1 k2 entries2 in
-        let a = (lent_list ax ay an ah).entry in
+    ensures { let g = lent_grid first_strips second_strips first_ends second_ends marks k1 entries1 k2 entries2 in let a = (lent_list ax ay an ah).entry in
         let b = (lent_list bx by bn bh).entry in
         Crosses (prepare_answer a b first_cuts.now second_cuts.now) result g }
 {
@@ -235,10 +232,9 @@ pub extern "C" fn vumlintel_open(
     first: &[u32],
     second: &[u32],
 ) -> u32
-    ensures { let g = lent_grid first_strips second_strips first_ends second_ends marks k1 entries1 k2 entries2 in
-        let a = (lent_list ax ay an ah).entry in
+    ensures { let g = lent_grid first_strips second_strips first_ends second_ends marks k1 entries1 k2 entries2 in let a = (lent_list ax ay an ah).entry in
         let b = (lent_list bx by bn bh).entry in
-        let l = (lent_results distance first second).entry in
+        let l = results distance.now first.now second.now in
         let answer = open_answer customer g.entry a b k first_cuts.now second_cuts.now l in
         Crosses answer result g }
 {
@@ -317,10 +313,9 @@ pub extern "C" fn vumlintel_lower_k(
     first: &[u32],
     second: &[u32],
 ) -> u32
-    ensures { let g = lent_grid first_strips second_strips first_ends second_ends marks k1 entries1 k2 entries2 in
-        let a = (lent_list ax ay an ah).entry in
+    ensures { let g = lent_grid first_strips second_strips first_ends second_ends marks k1 entries1 k2 entries2 in let a = (lent_list ax ay an ah).entry in
         let b = (lent_list bx by bn bh).entry in
-        let l = (lent_results distance first second).entry in
+        let l = results distance.now first.now second.now in
         Crosses (lower_answer customer g.entry a b k l) result g }
 {
     let g = get(
@@ -388,13 +383,11 @@ fn job(
     distances: &mut u64,
     range_pairs: &mut u64,
 ) -> u32
-    ensures { let g = lent_grid first_strips second_strips first_ends second_ends marks k1 entries1 k2 entries2 in
-        let a = (lent_list ax ay an ah).entry in
+    ensures { let g = lent_grid first_strips second_strips first_ends second_ends marks k1 entries1 k2 entries2 in let a = (lent_list ax ay an ah).entry in
         let b = (lent_list bx by bn bh).entry in
-        let l = lent_results distance first second in
-        let answer = job_answer way customer g.entry a b l.entry (job_of first_strip second_strip) in
-        let counters = the counts of looks of distances of range_pairs in
-        Crosses answer result (the job_values with g with l of swept with counters) }
+        let l = lent_results distance first second in let answer = job_answer way customer g.entry a b l.entry (job_of first_strip second_strip) in
+        let counters = the counts of_mut looks of_mut distances of_mut range_pairs in
+        Crosses answer result (the job_values with g with l of_mut swept with counters) }
 {
     let g = get(
         first_strips,
@@ -475,13 +468,11 @@ pub extern "C" fn vumlintel_job_classic(
     looks: &mut u64,
     distances: &mut u64,
 ) -> u32
-    ensures { let g = lent_grid first_strips second_strips first_ends second_ends marks k1 entries1 k2 entries2 in
-        let a = (lent_list ax ay an ah).entry in
+    ensures { let g = lent_grid first_strips second_strips first_ends second_ends marks k1 entries1 k2 entries2 in let a = (lent_list ax ay an ah).entry in
         let b = (lent_list bx by bn bh).entry in
-        let l = lent_results distance first second in
-        let answer = job_answer (Sweep Classic) customer g.entry a b l.entry (job_of first_strip second_strip) in
-        let counters = the by_sweep of looks of distances in
-        Crosses answer result (the job_values with g with l of swept with counters) }
+        let l = lent_results distance first second in let answer = job_answer (Sweep Classic) customer g.entry a b l.entry (job_of first_strip second_strip) in
+        let counters = the by_sweep of_mut looks of_mut distances in
+        Crosses answer result (the job_values with g with l of_mut swept with counters) }
 {
     let mut range_pairs: u64 = 0;
     job(
@@ -546,13 +537,11 @@ pub extern "C" fn vumlintel_job_reverse_run(
     looks: &mut u64,
     distances: &mut u64,
 ) -> u32
-    ensures { let g = lent_grid first_strips second_strips first_ends second_ends marks k1 entries1 k2 entries2 in
-        let a = (lent_list ax ay an ah).entry in
+    ensures { let g = lent_grid first_strips second_strips first_ends second_ends marks k1 entries1 k2 entries2 in let a = (lent_list ax ay an ah).entry in
         let b = (lent_list bx by bn bh).entry in
-        let l = lent_results distance first second in
-        let answer = job_answer (Sweep ReverseRun) customer g.entry a b l.entry (job_of first_strip second_strip) in
-        let counters = the by_sweep of looks of distances in
-        Crosses answer result (the job_values with g with l of swept with counters) }
+        let l = lent_results distance first second in let answer = job_answer (Sweep ReverseRun) customer g.entry a b l.entry (job_of first_strip second_strip) in
+        let counters = the by_sweep of_mut looks of_mut distances in
+        Crosses answer result (the job_values with g with l of_mut swept with counters) }
 {
     let mut range_pairs: u64 = 0;
     job(
@@ -616,13 +605,11 @@ pub extern "C" fn vumlintel_job_halves(
     swept: &mut u32,
     range_pairs: &mut u64,
 ) -> u32
-    ensures { let g = lent_grid first_strips second_strips first_ends second_ends marks k1 entries1 k2 entries2 in
-        let a = (lent_list ax ay an ah).entry in
+    ensures { let g = lent_grid first_strips second_strips first_ends second_ends marks k1 entries1 k2 entries2 in let a = (lent_list ax ay an ah).entry in
         let b = (lent_list bx by bn bh).entry in
-        let l = lent_results distance first second in
-        let answer = job_answer Halves customer g.entry a b l.entry (job_of first_strip second_strip) in
-        let counters = the by_halves of range_pairs in
-        Crosses answer result (the job_values with g with l of swept with counters) }
+        let l = lent_results distance first second in let answer = job_answer Halves customer g.entry a b l.entry (job_of first_strip second_strip) in
+        let counters = the by_halves of_mut range_pairs in
+        Crosses answer result (the job_values with g with l of_mut swept with counters) }
 {
     let mut looks: u64 = 0;
     let mut distances: u64 = 0;
@@ -690,14 +677,12 @@ pub extern "C" fn vumlintel_jobs(
     distances: &mut u64,
     range_pairs: &mut u64,
 ) -> u32
-    ensures { let g = lent_grid first_strips second_strips first_ends second_ends marks k1 entries1 k2 entries2 in
-        let a = (lent_list ax ay an ah).entry in
+    ensures { let g = lent_grid first_strips second_strips first_ends second_ends marks k1 entries1 k2 entries2 in let a = (lent_list ax ay an ah).entry in
         let b = (lent_list bx by bn bh).entry in
-        let l = lent_results distance first second in
-        let jobs = (lent_batch job_first job_second job_way).entry in
-        let counters = the counts of looks of distances of range_pairs in
+        let l = lent_results distance first second in let jobs = (lent_batch job_first job_second job_way).entry in
+        let counters = the counts of_mut looks of_mut distances of_mut range_pairs in
         Crosses (batch_answer customer g.entry a b l.entry jobs) result
-        (the batch_values with g with l of skipped with counters) }
+        (the batch_values with g with l of_mut skipped with counters) }
 {
     let g = get(
         first_strips,
@@ -763,11 +748,10 @@ pub extern "C" fn vumlintel_status(
     entries: &mut u32,
     k: &mut u32,
 ) -> u32
-    ensures { let g = lent_grid first_strips second_strips first_ends second_ends marks k1 entries1 k2 entries2 in
-        let a = (lent_list ax ay an ah).entry in
+    ensures { let g = lent_grid first_strips second_strips first_ends second_ends marks k1 entries1 k2 entries2 in let a = (lent_list ax ay an ah).entry in
         let b = (lent_list bx by bn bh).entry in
-        let l = (lent_results distance first second).entry in
-        let places = the status_values of settled of jobs of entries of k in
+        let l = results distance.now first.now second.now in
+        let places = the status_values of_mut settled of_mut jobs of_mut entries of_mut k in
         Crosses (status_answer customer g.entry a b l) result places }
 {
     let g = get(

@@ -1,5 +1,5 @@
 // The site file: writing one, reading one, and its sites.
-ghost use Rattle.column.specs.Lent.{the, ◌of◌};
+ghost use Rattle.column.specs.Lent.{the, ◌of_mut◌};
 ghost use Rattle.site.specs.SiteList.{lent_plane, site};
 ghost use Rattle.site_file.specs.declared.Which.TheVariants.{First, Second};
 ghost use Rattle.site_file.specs.Calls.{write_values, write_answer, read_answer, site_answer, read_values};
@@ -21,7 +21,7 @@ pub extern "C" fn vumlintel_write_file(
 ) -> u32
     ensures { let a = (lent_plane ax ay an).entry in
         let b = (lent_plane bx by bn).entry in
-        Crosses (write_answer a b buffer.old) result (the write_values of buffer of length) }
+        Crosses (write_answer a b buffer.old) result (the write_values of_mut buffer of_mut length) }
 {
     let answer = site_file::write(ax, ay, an, bx, by, bn, buffer);
     match answer {
@@ -36,7 +36,7 @@ pub extern "C" fn vumlintel_write_file(
 // Reading a site file: both site counts.
 #[unsafe(no_mangle)]
 pub extern "C" fn vumlintel_read_file(file: &[u8], first: &mut u32, second: &mut u32) -> u32
-    ensures { Crosses (read_answer file.now) result (the read_values of first of second) }
+    ensures { Crosses (read_answer file.now) result (the read_values of_mut first of_mut second) }
 {
     let answer = site_file::read(file);
     match answer {
@@ -61,7 +61,7 @@ fn file_site(
     y: &mut i32,
     number: &mut u32,
 ) -> u32
-    ensures { Crosses (site_answer file.now which place) result (the site of x of y of number) }
+    ensures { Crosses (site_answer file.now which place) result (the site of_mut x of_mut y of_mut number) }
 {
     let answer = site_file::consult(file, which, place);
     match answer {
@@ -86,7 +86,7 @@ pub extern "C" fn vumlintel_file_site_first(
     y: &mut i32,
     number: &mut u32,
 ) -> u32
-    ensures { Crosses (site_answer file.now First place) result (the site of x of y of number) }
+    ensures { Crosses (site_answer file.now First place) result (the site of_mut x of_mut y of_mut number) }
 {
     file_site(file, Which::First, place, x, y, number)
 }
@@ -100,7 +100,7 @@ pub extern "C" fn vumlintel_file_site_second(
     y: &mut i32,
     number: &mut u32,
 ) -> u32
-    ensures { Crosses (site_answer file.now Second place) result (the site of x of y of number) }
+    ensures { Crosses (site_answer file.now Second place) result (the site of_mut x of_mut y of_mut number) }
 {
     file_site(file, Which::Second, place, x, y, number)
 }

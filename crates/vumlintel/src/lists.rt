@@ -1,6 +1,6 @@
 // Checking a site list, adding a site to one, and removing one.
-ghost use Rattle.column.specs.Lent.{the, ◌of◌, ◌with◌};
-ghost use Rattle.site.specs.SiteList.{Columns, lent_list, site, raised_site};
+ghost use Rattle.column.specs.Lent.{the, ◌with◌, ◌of_mut◌};
+ghost use Rattle.site.specs.SiteList.{Columns, lent_list, site, raised_site, lent_list_mut};
 ghost use Rattle.site.specs.Refusal.{check_answer};
 ghost use Rattle.site.specs.InUse.{change_values, changed_answer};
 ghost use Rattle.site.specs.Addition.{add_answer};
@@ -18,7 +18,7 @@ pub extern "C" fn vumlintel_check(
     height: &[i32],
     count: &mut u32,
 ) -> u32
-    ensures { Crosses (check_answer (lent_list x y number height).entry) result (the (λ n. n) of count) }
+    ensures { Crosses (check_answer (lent_list x y number height).entry) result (the (λ n. n) of_mut count) }
 {
     let answer = site::check(x, y, number, height);
     match answer {
@@ -32,7 +32,7 @@ pub extern "C" fn vumlintel_check(
 
 // What adding or removing a site answers beside the columns, across the boundary.
 fn cross_changed(answer: Changed, place: &mut u32, count: &mut u32) -> u32
-    ensures { (c : Columns) → Crosses (changed_answer answer c) result (the (change_values c) of place of count) }
+    ensures { (c : Columns) → Crosses (changed_answer answer c) result (the (change_values c) of_mut place of_mut count) }
 {
     match answer {
         Changed::At { place: p, count: n } => {
@@ -59,9 +59,8 @@ pub extern "C" fn vumlintel_add(
     place: &mut u32,
     count: &mut u32,
 ) -> u32
-    ensures { let c = lent_list x y number height in
-        let answer = add_answer c.entry in_use (raised_site site_x site_y site_number site_height) in
-        Crosses answer result (the change_values with c of place of count) }
+    ensures { let c = lent_list_mut x y number height in let answer = add_answer c.entry in_use (raised_site site_x site_y site_number site_height) in
+        Crosses answer result (the change_values with c of_mut place of_mut count) }
 {
     let s = Site {
         x: site_x,
@@ -87,9 +86,8 @@ pub extern "C" fn vumlintel_remove(
     place: &mut u32,
     count: &mut u32,
 ) -> u32
-    ensures { let c = lent_list x y number height in
-        let answer = remove_answer c.entry in_use (site site_x site_y site_number) in
-        Crosses answer result (the change_values with c of place of count) }
+    ensures { let c = lent_list_mut x y number height in let answer = remove_answer c.entry in_use (site site_x site_y site_number) in
+        Crosses answer result (the change_values with c of_mut place of_mut count) }
 {
     let answer = site::remove(x, y, number, height, in_use, site_x, site_y, site_number);
     cross_changed(answer, place, count)

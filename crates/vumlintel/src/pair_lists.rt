@@ -1,5 +1,5 @@
 // The K list, the distance list and the forecast of two lists.
-ghost use Rattle.column.specs.Lent.{the, ◌of◌, ◌with◌};
+ghost use Rattle.column.specs.Lent.{the, ◌with◌, ◌of_mut◌};
 ghost use Rattle.site.specs.SiteList.{lent_list};
 ghost use Rattle.entry.specs.Results.{lent_results};
 ghost use Rattle.sweep.specs.declared.Way.TheVariants.{Classic, ReverseRun};
@@ -37,9 +37,8 @@ fn k_list(
 ) -> u32
     ensures { let a = (lent_list ax ay an ah).entry in
         let b = (lent_list bx by bn bh).entry in
-        let l = lent_results distance first second in
-        let counters = the counts of looks of distances of range_pairs in
-        let places = the k_list_values with l of entries with counters in
+        let l = lent_results distance first second in let counters = the counts of_mut looks of_mut distances of_mut range_pairs in
+        let places = the k_list_values with l of_mut entries with counters in
         Crosses (k_list_answer way a b k l.entry) result places }
 {
     let answer = pairs::k_list(
@@ -81,9 +80,8 @@ pub extern "C" fn vumlintel_k_list_classic(
 ) -> u32
     ensures { let a = (lent_list ax ay an ah).entry in
         let b = (lent_list bx by bn bh).entry in
-        let l = lent_results distance first second in
-        let counters = the by_sweep of looks of distances in
-        let places = the k_list_values with l of entries with counters in
+        let l = lent_results distance first second in let counters = the by_sweep of_mut looks of_mut distances in
+        let places = the k_list_values with l of_mut entries with counters in
         Crosses (k_list_answer (Sweep Classic) a b k l.entry) result places }
 {
     let mut range_pairs: u64 = 0;
@@ -129,9 +127,8 @@ pub extern "C" fn vumlintel_k_list_reverse_run(
 ) -> u32
     ensures { let a = (lent_list ax ay an ah).entry in
         let b = (lent_list bx by bn bh).entry in
-        let l = lent_results distance first second in
-        let counters = the by_sweep of looks of distances in
-        let places = the k_list_values with l of entries with counters in
+        let l = lent_results distance first second in let counters = the by_sweep of_mut looks of_mut distances in
+        let places = the k_list_values with l of_mut entries with counters in
         Crosses (k_list_answer (Sweep ReverseRun) a b k l.entry) result places }
 {
     let mut range_pairs: u64 = 0;
@@ -176,9 +173,8 @@ pub extern "C" fn vumlintel_k_list_halves(
 ) -> u32
     ensures { let a = (lent_list ax ay an ah).entry in
         let b = (lent_list bx by bn bh).entry in
-        let l = lent_results distance first second in
-        let counters = the by_halves of range_pairs in
-        let places = the k_list_values with l of entries with counters in
+        let l = lent_results distance first second in let counters = the by_halves of_mut range_pairs in
+        let places = the k_list_values with l of_mut entries with counters in
         Crosses (k_list_answer Halves a b k l.entry) result places }
 {
     let mut looks: u64 = 0;
@@ -206,7 +202,7 @@ pub extern "C" fn vumlintel_k_list_halves(
 
 // What a distance list or a forecast answers, beside its columns: the number of pairs.
 fn cross_within(answer: Within, count: &mut u64) -> u32
-    ensures { Crosses (within_answer answer (λ n. n)) result (the (λ n. n) of count) }
+    ensures { Crosses (within_answer answer (λ n. n)) result (the (λ n. n) of_mut count) }
 {
     match answer {
         Within::Pairs(n) => {
@@ -235,7 +231,7 @@ pub extern "C" fn vumlintel_distance_list(
 ) -> u32
     ensures { let a = (lent_list ax ay an ah).entry in
         let b = (lent_list bx by bn bh).entry in
-        let places = the distance_values of first of second of count in
+        let places = the distance_values of_mut first of_mut second of_mut count in
         Crosses (distance_answer a b e first.old second.old) result places }
 {
     let answer = pairs::distance_list(ax, ay, an, ah, bx, by, bn, bh, e, first, second);
@@ -259,7 +255,7 @@ pub extern "C" fn vumlintel_forecast(
 ) -> u32
     ensures { let a = (lent_list ax ay an ah).entry in
         let b = (lent_list bx by bn bh).entry in
-        Crosses (forecast_answer a b e partners.old) result (the forecast_values of partners of total) }
+        Crosses (forecast_answer a b e partners.old) result (the forecast_values of_mut partners of_mut total) }
 {
     let answer = pairs::forecast(ax, ay, an, ah, bx, by, bn, bh, e, partners);
     cross_within(answer, total)

@@ -1,5 +1,5 @@
 // Price bands: editing a table of them, and pricing a case list from it.
-ghost use Rattle.column.specs.Lent.{the, ◌of◌};
+ghost use Rattle.column.specs.Lent.{the, ◌of_mut◌};
 ghost use Rattle.bands.specs.Bands.{band};
 ghost use Rattle.bands.specs.Calls.{
   edit_values,
@@ -15,7 +15,7 @@ use bands::{Band, Edited, Priced};
 
 // The place that an edit answers, across the boundary.
 fn cross_edited(answer: Edited, edited: &mut u32) -> u32
-    ensures { Crosses (edited_answer answer (λ place. place)) result (the (λ place. place) of edited) }
+    ensures { Crosses (edited_answer answer (λ place. place)) result (the (λ place. place) of_mut edited) }
 {
     match answer {
         Edited::At(place) => {
@@ -37,7 +37,7 @@ pub extern "C" fn vumlintel_edit_band(
     edited: &mut u32,
 ) -> u32
     ensures { let answer = edit_answer bands.old place (band from to price) in
-        Crosses answer result (the edit_values of bands of edited) }
+        Crosses answer result (the edit_values of_mut bands of_mut edited) }
 {
     let answer = bands::edit(bands, place, Band { from, to, price });
     cross_edited(answer, edited)
@@ -45,7 +45,7 @@ pub extern "C" fn vumlintel_edit_band(
 
 // The total that pricing answers, across the boundary.
 fn cross_priced(answer: Priced, total: &mut u64) -> u32
-    ensures { Crosses (priced_answer answer (λ sum. sum)) result (the (λ sum. sum) of total) }
+    ensures { Crosses (priced_answer answer (λ sum. sum)) result (the (λ sum. sum) of_mut total) }
 {
     match answer {
         Priced::Total(sum) => {
@@ -66,7 +66,7 @@ pub extern "C" fn vumlintel_price(
     total: &mut u64,
 ) -> u32
     ensures { let answer = price_answer bands.now distance.now entries prices.old in
-        Crosses answer result (the price_values of prices of total) }
+        Crosses answer result (the price_values of_mut prices of_mut total) }
 {
     let answer = bands::price(bands, distance, entries, prices);
     cross_priced(answer, total)

@@ -19,7 +19,7 @@ returns c =
     let g = to_z-of_z (sfits_of c.before.t22.given) in
     let h = to_z-of_z (sfits_of c.t25.given) in
     (λ i. a i ∷ b i ∷ d i ∷ e i ∷ g i ∷ h i ∷ [])
-    ∙ six_edges _ _ _ edges.before.before.sorted-edges.ensures edges.before.edges.ensures edges.edges2.ensures
+    ∙ six_edges _ _ _ edges.before.before.sorted_edges.ensures edges.before.edges.ensures edges.edges2.ensures
 
 pub box_around_spec : {M : Type 1} → statement M
 box_around_spec =

@@ -12,7 +12,7 @@ returns c =
     (to_z-of_z (sfits_of c.before.before.before.range-gap-arg2.given))
     (to_z-of_z (sfits_of c.before.before.range-gap-arg3.given))
     (to_z-of_z (sfits_of c.before.range-gap-arg4.given))
-    c.range-gap.ensures
+    c.range_gap.ensures
 
 pub gap_along_spec : {M : Type 1} → statement M
 gap_along_spec =

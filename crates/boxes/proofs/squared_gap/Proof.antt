@@ -13,7 +13,7 @@ use Rattle.boxes.proofs.squared_gap.Tie as tie
 
 module _ (c : tie.After-gap-along3) where
   abbrev x : ℕ
-  x = c.before.before.gap-along.result
+  x = c.before.before.gap_along.result
 
   abbrev y : ℕ
   y = c.before.gap-along2.result
@@ -26,7 +26,7 @@ module _ (c : tie.After-gap-along3) where
       let s = c.before.before.before in
       let under : (at : ℕ) → gap_along at s.args.p s.args.q ≤ 2_000_000_000 =
       λ at. gap_small s.args.p s.args.q at s.requires.0 s.requires.1 in (
-        omega (arith, c.before.before.gap-along.ensures, under 0),
+        omega (arith, c.before.before.gap_along.ensures, under 0),
         omega (arith, c.before.gap-along2.ensures, under 2),
         omega (arith, c.gap-along3.ensures, under 4),
       )
@@ -60,7 +60,7 @@ returns c =
     let q = s.args.q in
     let long : (length p ≡ 6) × (length q ≡ 6) = (search rules, search rules) in
     ap₂ (λ (n m : ℕ). n + m)
-    (ap₂ (λ (x y : ℕ). x * x + y * y) c.before.before.gap-along.ensures c.before.gap-along2.ensures)
+    (ap₂ (λ (x y : ℕ). x * x + y * y) c.before.before.gap_along.ensures c.before.gap-along2.ensures)
     (ap (λ (h : ℕ). h * h) c.gap-along3.ensures)
     ∙ sym (gap_of_six p q long.0 long.1)
 

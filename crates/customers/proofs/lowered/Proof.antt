@@ -7,7 +7,7 @@ use Rattle.customers.proofs.lowered.Tie as tie
 
 returns : tie.Need-returns
 unfolding lowered
-returns c = c.with-campaign.ensures ∙ rw (c.before.cut.ensures, c.before.before.before.campaign-as.ensures)
+returns c = c.with_campaign.ensures ∙ rw (c.before.cut.ensures, c.before.before.before.campaign_as.ensures)
 
 pub lowered_spec : {M : Type 1} → statement M
 lowered_spec =

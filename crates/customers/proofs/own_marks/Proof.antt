@@ -24,7 +24,7 @@ loop-again c =
     let l = c.before.before in
     let s = l.before in
     let long : length s.args.t2 ≡ 1024 = search rules in
-    (search rules, each_more (own_mark s.args.customer) s.args.t2 0 l.loop.i (omega (arith, c.before.loop-test.true)) c.own-mark.ensures l.loop.invariant.1)
+    (search rules, each_more (own_mark s.args.customer) s.args.t2 0 l.loop.i (omega (arith, c.before.loop-test.true)) c.own_mark.ensures l.loop.invariant.1)
 
 returns : tie.Need-returns invariant-loop decreases-loop
 returns c =

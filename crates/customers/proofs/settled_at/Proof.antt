@@ -10,7 +10,7 @@ use Rattle.customers.proofs.settled_at.Tie as tie
 
 returns : tie.Need-returns
 unfolding settled_at
-returns c = rw c.with-own.ensures
+returns c = rw c.with_own.ensures
 
 returns-2 : tie.Need-returns-2
 unfolding settled_at

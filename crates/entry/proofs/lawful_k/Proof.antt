@@ -6,7 +6,7 @@ use Rattle.entry.proofs.lawful_k.Tie as tie
 
 returns : tie.Need-returns
 unfolding lawful_k
-returns c = c.k-up-to.ensures
+returns c = c.k_up_to.ensures
 
 pub lawful_k_spec : {M : Type 1} → statement M
 lawful_k_spec = tie.close (tie.spec (λ c κs. search rules) returns)

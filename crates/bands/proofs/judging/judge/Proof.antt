@@ -9,7 +9,7 @@ unfolding band_refusal
 returns c =
     let gap = c.before in
     let overlap = gap.before.before in
-    rw (c.first_of.ensures, gap.refuse-if2.ensures, gap.before.leaves-gap.ensures, overlap.refuse-if.ensures, overlap.before.overlaps.ensures)
+    rw (c.first_of.ensures, gap.refuse-if2.ensures, gap.before.leaves_gap.ensures, overlap.refuse_if.ensures, overlap.before.overlaps.ensures)
 
 pub judge_spec : {M : Type 1} → statement M
 judge_spec =

@@ -31,7 +31,7 @@ returns c =
     let first = c.before.before in
     let told = first.before in
     let own = told.before in
-    rw (first.first-of2.ensures, told.first_of.ensures, own.judge.ensures, own.before.refuse-if.ensures, ← dear_first)
+    rw (first.first-of2.ensures, told.first_of.ensures, own.judge.ensures, own.before.refuse_if.ensures, ← dear_first)
 
 pub take_spec : {M : Type 1} → statement M
 take_spec =

@@ -17,7 +17,7 @@ returns-2 : tie.Need-returns-2
 unfolding priced_answer
 returns-2 c =
     let e = c.before in
-    refused_is _ _ _ _ _ (next_decides refl e.before.before.if1.false e.entries-refusal.ensures) c.if2.true
+    refused_is _ _ _ _ _ (next_decides refl e.before.before.if1.false e.entries_refusal.ensures) c.if2.true
 
 abbrev start : tie.Else2 → tie.Start
 start c = c.before.before.before.before.before.before
@@ -25,7 +25,7 @@ start c = c.before.before.before.before.before.before
 accepted : (c : tie.Else2)
     → let a = (start c).args in
     (a.tariff.refusal ≡ 0) × (entries_refusal a.distance.now a.count a.prices.now ≡ 0)
-accepted c = (c.before.before.before.if1.false, sym c.before.entries-refusal.ensures ∙ c.if2.false)
+accepted c = (c.before.before.before.if1.false, sym c.before.entries_refusal.ensures ∙ c.if2.false)
 
 slice-aggregate-write-prices-3 : tie.Need-slice-aggregate-write-prices-3
 slice-aggregate-write-prices-3 c =

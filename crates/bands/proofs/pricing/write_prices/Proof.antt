@@ -35,8 +35,8 @@ band-at-requires c κs =
 read : (c : tie.After-band-at invariant-loop decreases-loop)
     → let e = c.before.before in
     let a = (start e).args in
-    Read a.ends.now a.rates.now (get_or a.distance.now e.before.loop.i 0) c.band-at.result
-read c = let e = c.before.before in price_read (start e).requires _ e.loop-test.true c.band-at.ensures
+    Read a.ends.now a.rates.now (get_or a.distance.now e.before.loop.i 0) c.band_at.result
+read c = let e = c.before.before in price_read (start e).requires _ e.loop-test.true c.band_at.ensures
 
 few : (c : tie.In-loop invariant-loop decreases-loop) → let l = c.before.loop in (l.i < 4_096) × (l.i < length l.prices)
 few c =

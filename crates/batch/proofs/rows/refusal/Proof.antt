@@ -34,7 +34,7 @@ returns-4 c =
     let g = made.before in
     let e = g.before.before in
     rows_decide _ _ _ _ _ _ e.before.refusal.ensures e.if1.false g.before.if2.false g.if3.false
-    made.campaign-as.ensures c.first-fault.ensures
+    made.campaign_as.ensures c.first-fault.ensures
 
 pub refusal_spec : {M : Type 1} → statement M
 refusal_spec =

@@ -12,16 +12,16 @@ use Rattle.campaign.proofs.calls.status.Tie as tie
 
 -- Each list has at most 32 strips.
 few : (c : tie.After-campaign-as)
-    → (c.campaign-as.result.first_strips ≤ 32) × (c.campaign-as.result.second_strips ≤ 32)
+    → (c.campaign_as.result.first_strips ≤ 32) × (c.campaign_as.result.second_strips ≤ 32)
 few c =
     let e = c.before in
     let p = campaign_parts _ _ _ _ (sound_campaign _ _ _ _ _ e.before.refusal.ensures e.if1.false) in
-    rw c.campaign-as.ensures (p.rows, p.cols)
+    rw c.campaign_as.ensures (p.rows, p.cols)
 
 returns : tie.Need-returns
 returns c = status_refused _ _ _ _ _ c.before.refusal.ensures c.if1.true
 
-long : (c : tie.After-campaign-as) → length c.campaign-as.result.marks ≡ 1024
+long : (c : tie.After-campaign-as) → length c.campaign_as.result.marks ≡ 1024
 long c = search rules
 
 slice-aggregate-settled-jobs : tie.Need-slice-aggregate-settled-jobs
@@ -37,7 +37,7 @@ returns-2 : tie.Need-returns-2
 returns-2 c =
     let made = c.before.before.before.before.before.before in
     let e = made.before in
-    status_counts _ _ _ _ _ e.before.refusal.ensures e.if1.false made.campaign-as.ensures c.before.settled-jobs.ensures
+    status_counts _ _ _ _ _ e.before.refusal.ensures e.if1.false made.campaign_as.ensures c.before.settled_jobs.ensures
 
 pub status_spec : {M : Type 1} → statement M
 status_spec =

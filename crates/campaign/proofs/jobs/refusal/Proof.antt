@@ -11,7 +11,7 @@ use Rattle.campaign.proofs.jobs.refusal.Tie as tie
 returns : tie.Need-returns
 returns c = refuses_campaign _ _ _ _ _ _ _ c.before.refusal.ensures c.if1.true
 
-long : (c : tie.After-campaign-as) → length c.campaign-as.result.marks ≡ 1024
+long : (c : tie.After-campaign-as) → length c.campaign_as.result.marks ≡ 1024
 long c = search rules
 
 slice-aggregate-fault : tie.Need-slice-aggregate-fault
@@ -28,7 +28,7 @@ returns-2 : tie.Need-returns-2
 returns-2 c =
     let made = c.before.before.before in
     let e = made.before in
-    fault_decides _ _ _ _ _ _ _ e.before.refusal.ensures e.if1.false made.campaign-as.ensures c.fault.ensures
+    fault_decides _ _ _ _ _ _ _ e.before.refusal.ensures e.if1.false made.campaign_as.ensures c.fault.ensures
 
 pub refusal_spec : {M : Type 1} → statement M
 refusal_spec =

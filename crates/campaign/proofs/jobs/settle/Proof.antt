@@ -9,7 +9,7 @@ returns : tie.Need-returns
 unfolding after_job
 returns c =
     let m = c.before in
-    c.with-campaign.ensures ∙ rw (m.settle.ensures, m.before.before.campaign-as.ensures)
+    c.with_campaign.ensures ∙ rw (m.settle.ensures, m.before.before.campaign_as.ensures)
 
 pub settle_spec : {M : Type 1} → statement M
 settle_spec = tie.close (tie.spec (λ c κs. search rules) (λ c κs. search rules) (λ c κs. search rules) returns)

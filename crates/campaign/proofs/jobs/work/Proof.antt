@@ -40,16 +40,16 @@ start own = own.before.before.before.before
 
 -- What the campaign as it was made asks.
 asked : (own : tie.After-campaign-as)
-    → let s = start own in JobAsked own.campaign-as.result (length s.args.ax.now) (length s.args.bx.now) (named s)
-asked own = asked_as own.campaign-as.ensures (start own).requires.1.0
+    → let s = start own in JobAsked own.campaign_as.result (length s.args.ax.now) (length s.args.bx.now) (named s)
+asked own = asked_as own.campaign_as.ensures (start own).requires.1.0
 
-ready : (own : tie.After-campaign-as) → ReadyFor own.campaign-as.result (held (start own))
-ready own = ready_as own.campaign-as.ensures (start own).requires.1.1
+ready : (own : tie.After-campaign-as) → ReadyFor own.campaign_as.result (held (start own))
+ready own = ready_as own.campaign_as.ensures (start own).requires.1.1
 
 -- Whether the job is skipped, of the lists and columns that were lent.
 judged : (c : tie.After-skips) (an bn : List ℕ) (la : Level (one (start (made c)) an)) (lb : Level (other (start (made c)) bn))
     → let s = start (made c) in
-    let own = (made c).campaign-as.result in
+    let own = (made c).campaign_as.result in
     c.skips.result ≡ skips own (sites (one s an)) (sites (other s bn)) (entries_of own.entries (held s)) (named s)
 judged c an bn la lb = c.skips.ensures.numbered an bn la lb _ _ (ready (made c)).room
 
@@ -70,7 +70,7 @@ returns c =
       numbered = λ an bn la lb.
           rw c.skipped.ensures
           (job_skipped s.args.way _ _ (sites (one s an)) (sites (other s bn)) (held s) (named s) s.pre.1.1
-          own.campaign-as.ensures (sym (judged test.before an bn la lb) ∙ test.if1.true) refl);
+          own.campaign_as.ensures (sym (judged test.before an bn la lb) ∙ test.if1.true) refl);
     }
 
 -- From the end of a sweep back to the test before it.
@@ -98,7 +98,7 @@ returns-2 c =
       numbered = λ an bn la lb.
           rw c.done.ensures
           (job_swept s.args.way _ _ (sites (one s an)) (sites (other s bn)) (held s) (named s) s.pre.1.1
-          (x_sorted an lawful.0 la) (x_sorted bn lawful.1 lb) own.campaign-as.ensures
+          (x_sorted an lawful.0 la) (x_sorted bn lawful.1 lb) own.campaign_as.ensures
           (sym (judged test.before an bn la lb) ∙ test.if1.left) (w.swept.ensures.numbered an bn la lb) refl);
     }
 

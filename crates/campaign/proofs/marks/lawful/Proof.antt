@@ -21,12 +21,12 @@ loop-holds c = (search rules, refl)
 returns : tie.Need-returns invariant-loop decreases-loop
 returns c =
     let l = c.before.before.before.before.loop in
-    marks_fall _ _ _ l.i l.invariant.1 c.before.before.before.loop-test.true c.before.lawful-at.ensures (not-true _ c.if1.true)
+    marks_fall _ _ _ l.i l.invariant.1 c.before.before.before.loop-test.true c.before.lawful_at.ensures (not-true _ c.if1.true)
 
 loop-again : tie.Need-loop-preserved invariant-loop decreases-loop
 loop-again c =
     let l = c.before.before.before.before.loop in
-    (search rules, marks_more _ _ _ l.i l.invariant.1 c.before.before.before.loop-test.true c.before.lawful-at.ensures (not-false _ c.if1.false))
+    (search rules, marks_more _ _ _ l.i l.invariant.1 c.before.before.before.loop-test.true c.before.lawful_at.ensures (not-false _ c.if1.false))
 
 returns-2 : tie.Need-returns-2 invariant-loop decreases-loop
 returns-2 c = marks_end _ _ _ c.before.loop.i c.before.loop.invariant.1 c.loop-test.false

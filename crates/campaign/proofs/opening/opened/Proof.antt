@@ -7,7 +7,7 @@ use Rattle.campaign.proofs.opening.opened.Tie as tie
 
 returns : tie.Need-returns
 unfolding opened
-returns c = c.with-campaign.ensures ∙ rw c.before.cleared.ensures
+returns c = c.with_campaign.ensures ∙ rw c.before.cleared.ensures
 
 pub opened_spec : {M : Type 1} → statement M
 opened_spec = tie.close (tie.spec (λ c κs. search rules) (λ c κs. search rules) returns)

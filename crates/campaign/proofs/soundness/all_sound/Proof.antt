@@ -34,7 +34,7 @@ listed s = entries_of s.args.count (results s.args.distance.now s.args.first.now
 
 abbrev test : tie.Start invariant-loop decreases-loop → List ℕ → List ℕ → Entry → Bool
 test s an bn =
-    sound_entry s.args.marks.now s.args.first_ends.now s.args.second-ends.now
+    sound_entry s.args.marks.now s.args.first_ends.now s.args.second_ends.now
     (sites (raised s.args.ax.now s.args.ay.now an s.args.ah.now))
     (sites (raised s.args.bx.now s.args.by.now bn s.args.bh.now))
 
@@ -44,12 +44,12 @@ start c = c.before.before.before.before.before.before.before.before.before.befor
 learnt : (c : tie.After-sound-entry invariant-loop decreases-loop) (an bn : List ℕ)
     → Level (raised (start c).args.ax.now (start c).args.ay.now an (start c).args.ah.now)
     → Level (raised (start c).args.bx.now (start c).args.by.now bn (start c).args.bh.now)
-    → c.sound-entry.result ≡ test (start c) an bn
+    → c.sound_entry.result ≡ test (start c) an bn
     (get_or (listed (start c)) c.before.before.before.loop.i (entry 0 0 0))
 learnt c an bn la lb =
-    c.sound-entry.ensures.numbered an bn la lb
+    c.sound_entry.ensures.numbered an bn la lb
     ∙ ap (test (start c) an bn)
-    (stands_at _ _ (start c).requires.0 _ c.before.before.loop-test.true c.before.entry-at.ensures)
+    (stands_at _ _ (start c).requires.0 _ c.before.before.loop-test.true c.before.entry_at.ensures)
 
 loop-holds : tie.Need-loop-init invariant-loop decreases-loop
 loop-holds c = (search rules, record { numbered = λ an bn la lb. refl })

@@ -25,7 +25,7 @@ returns c =
       numbered = λ an bn la lb.
           apart_at (raised s.args.ax.now s.args.ay.now an s.args.ah.now)
           (raised s.args.bx.now s.args.by.now bn s.args.bh.now) la lb _ _ s.requires.1.0 s.requires.1.1
-          (c.squared-distance.ensures ∙ (λ i. squared_distance (raised_site (x i) (y i) 0 (h i)) (raised_site (u i) (v i) 0 (k i))));
+          (c.squared_distance.ensures ∙ (λ i. squared_distance (raised_site (x i) (y i) 0 (h i)) (raised_site (u i) (v i) 0 (k i))));
     }
 
 squared-distance-requires : tie.Need-squared-distance-requires

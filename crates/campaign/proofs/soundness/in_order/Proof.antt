@@ -35,7 +35,7 @@ learnt c =
     let s = c.before.before.before.before.before.before.before.before in
     let inside = c.before.before.before.loop-test.true in
     c.before2.ensures
-    ∙ ap₂ rank_before (stands_at _ _ s.requires _ (omega arith) c.before.before.entry-at.ensures)
+    ∙ ap₂ rank_before (stands_at _ _ s.requires _ (omega arith) c.before.before.entry_at.ensures)
     (stands_at _ _ s.requires _ inside c.before.entry-at2.ensures)
 
 loop-holds : tie.Need-loop-init invariant-loop decreases-loop

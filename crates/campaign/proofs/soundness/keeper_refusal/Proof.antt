@@ -12,7 +12,7 @@ use Rattle.campaign.proofs.soundness.keeper_refusal.Tie as tie
 
 returns : tie.Need-returns
 returns c = record {
-  numbered = λ an bn la lb. marks_refused _ _ _ _ _ (sym c.before.lawful-grid.ensures ∙ not-true _ c.if1.true);
+  numbered = λ an bn la lb. marks_refused _ _ _ _ _ (sym c.before.lawful_grid.ensures ∙ not-true _ c.if1.true);
 }
 
 -- The marks passed: the campaign decides.
@@ -30,8 +30,8 @@ decided c h =
     let marks = made.before in
     record {
       numbered = λ an bn la lb.
-          sound_decides _ _ _ _ _ (sym marks.before.lawful-grid.ensures ∙ not-false _ marks.if1.false)
-          made.campaign-as.ensures (sym (c.sound.ensures.numbered an bn la lb) ∙ h);
+          sound_decides _ _ _ _ _ (sym marks.before.lawful_grid.ensures ∙ not-false _ marks.if1.false)
+          made.campaign_as.ensures (sym (c.sound.ensures.numbered an bn la lb) ∙ h);
     }
 
 returns-2 : tie.Need-returns-2

@@ -26,7 +26,7 @@ start e = e.before.before.before.before.before
 
 planned : (e : tie.Else1) → sound_plan (start e).args.c (length (start e).args.ax.now)
     (length (start e).args.bx.now) ≡ true
-planned e = sym e.before.sound-plan.ensures ∙ not-false _ e.if1.false
+planned e = sym e.before.sound_plan.ensures ∙ not-false _ e.if1.false
 
 long : (s : tie.Start) → (length s.args.c.first_ends ≡ 32) × (length s.args.c.second_ends ≡ 32)
 long s = (search rules, search rules)
@@ -46,7 +46,7 @@ returns c =
     record {
       numbered = λ an bn la lb.
           plan_fails _ (first s an) (second s bn) _ la lb
-          (sym c.before.sound-plan.ensures ∙ not-true _ c.if1.true);
+          (sym c.before.sound_plan.ensures ∙ not-true _ c.if1.true);
     }
 
 returns-2 : tie.Need-returns-2
@@ -80,7 +80,7 @@ returns-4 c =
     record {
       numbered = λ an bn la lb.
           entries_fail _ (first (start e) an) (second (start e) bn) _ la lb (planned e) (roomy f)
-          (c.before.sound-entries.ensures.numbered an bn la lb) (not-true _ c.if4.true);
+          (c.before.sound_entries.ensures.numbered an bn la lb) (not-true _ c.if4.true);
     }
 
 returns-5 : tie.Need-returns-5
@@ -91,7 +91,7 @@ returns-5 c =
     record {
       numbered = λ an bn la lb.
           full_sound _ (first (start e) an) (second (start e) bn) _ la lb (planned e) (roomy f)
-          (g.before.sound-entries.ensures.numbered an bn la lb) (not-false _ g.if4.false)
+          (g.before.sound_entries.ensures.numbered an bn la lb) (not-false _ g.if4.false)
           (long (start e)).0 (long (start e)).1 c.if5.true;
     }
 
@@ -110,7 +110,7 @@ returns-6 c =
     record {
       numbered = λ an bn la lb.
           total_decides _ (first (start e) an) (second (start e) bn) _ la lb (planned e) (roomy f)
-          (g.before.sound-entries.ensures.numbered an bn la lb) (not-false _ g.if4.false)
+          (g.before.sound_entries.ensures.numbered an bn la lb) (not-false _ g.if4.false)
           g.before.before.if3.false h.if5.false (c.settled-pairs.ensures.numbered an bn la lb);
     }
 

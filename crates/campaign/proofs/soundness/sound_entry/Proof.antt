@@ -56,7 +56,7 @@ is-settled-requires : tie.Need-is-settled-requires
 is-settled-requires c κs =
     let s = begun c.before.before.before.before.before in (
       omega (arith, c.before.holding.ensures, s.pre.1, holding_few s.args.first_ends.now s.args.e.first),
-      omega (arith, c.holding2.ensures, s.pre.1, holding_few s.args.second-ends.now s.args.e.second),
+      omega (arith, c.holding2.ensures, s.pre.1, holding_few s.args.second_ends.now s.args.e.second),
     )
 
 returns-5 : tie.Need-returns-5

@@ -9,7 +9,7 @@ box-around-requires : tie.Need-box-around-requires
 box-around-requires c κs = let s = c.before.before.before in part_sorted s.requires
 
 returns : tie.Need-returns
-returns c = let s = c.before.before.before.before in c.box-around.ensures ∙ range_box s.requires
+returns c = let s = c.before.before.before.before in c.box_around.ensures ∙ range_box s.requires
 
 pub box_of_spec : {M : Type 1} → statement M
 box_of_spec =

@@ -20,7 +20,7 @@ box-across-requires-2 c κs =
 squared-gap-requires : tie.Need-squared-gap-requires
 squared-gap-requires c κs =
     let s = c.before.before in
-    (rw c.before.box-across.ensures (across_within s.requires.0), rw c.box-across2.ensures (across_within s.requires.1))
+    (rw c.before.box_across.ensures (across_within s.requires.0), rw c.box-across2.ensures (across_within s.requires.1))
 
 -- The gap along x, of the ends of both ranges.
 across : (c : tie.After-squared-gap)
@@ -28,7 +28,7 @@ across : (c : tie.After-squared-gap)
     c.squared-gap.result ≡ squared_box_gap (box_across s.args.ax.now s.args.a-from s.args.a-to)
     (box_across s.args.bx.now s.args.b-from s.args.b-to)
 across c =
-    c.squared-gap.ensures ∙ ap₂ squared_box_gap c.before.before.box-across.ensures c.before.box-across2.ensures
+    c.squared-gap.ensures ∙ ap₂ squared_box_gap c.before.before.box_across.ensures c.before.box-across2.ensures
 
 returns : tie.Need-returns
 returns c =

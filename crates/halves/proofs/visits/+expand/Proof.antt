@@ -131,9 +131,9 @@ expand-returns-2 t c =
     let asked = s.pre.1.1 in
     let turns = first_at t h in
     let done = first_done t j in
-    let visit = later_asks asked turns done.visited-to in
+    let visit = later_asks asked turns done.visited_to in
     let last = kept_done _ done.four visit turns.fits.1 u.if4.taken x.expand2.ensures refl refl refl refl in
-    (last.four, turns_done asked turns done.visited-to last.visited-to)
+    (last.four, turns_done asked turns done.visited_to last.visited_to)
 
 expand-returns-3 : (t : ℕ) → expand-lts.Need-returns-3 (
   offer-reads.Asked,
@@ -150,9 +150,9 @@ expand-returns-3 t c =
     let asked = s.pre.1.1 in
     let turns = first_at t h in
     let done = first_done t j in
-    let visit = later_asks asked turns done.visited-to in
+    let visit = later_asks asked turns done.visited_to in
     let last = dropped_done _ done.four visit turns.fits.1 c.if4.left refl refl refl refl in
-    (last.four, turns_done asked turns done.visited-to last.visited-to)
+    (last.four, turns_done asked turns done.visited_to last.visited_to)
 
 expand-returns-4 : (t : ℕ) → expand-lts.Need-returns-4 (
   offer-reads.Asked,
@@ -171,9 +171,9 @@ expand-returns-4 t c =
     let asked = s.pre.1.1 in
     let turns = second_at t h in
     let done = second_done t j in
-    let visit = later_asks asked turns done.visited-to in
+    let visit = later_asks asked turns done.visited_to in
     let last = kept_done _ done.four visit turns.fits.1 u.if6.taken x.expand4.ensures refl refl refl refl in
-    (last.four, turns_done asked turns done.visited-to last.visited-to)
+    (last.four, turns_done asked turns done.visited_to last.visited_to)
 
 expand-returns-5 : (t : ℕ) → expand-lts.Need-returns-5 (
   offer-reads.Asked,
@@ -190,9 +190,9 @@ expand-returns-5 t c =
     let asked = s.pre.1.1 in
     let turns = second_at t h in
     let done = second_done t j in
-    let visit = later_asks asked turns done.visited-to in
+    let visit = later_asks asked turns done.visited_to in
     let last = dropped_done _ done.four visit turns.fits.1 c.if6.left refl refl refl refl in
-    (last.four, turns_done asked turns done.visited-to last.visited-to)
+    (last.four, turns_done asked turns done.visited_to last.visited_to)
 
 pub +expand-spec : {M : Type 1} → statement M
 +expand-spec =
@@ -260,7 +260,7 @@ pub +expand-spec : {M : Type 1} → statement M
     let asked = s.pre.1.1 in
     let turns = first_at t h in
     let done = first_done t j in
-    let visit = later_asks asked turns done.visited-to in
+    let visit = later_asks asked turns done.visited_to in
     omega (arith, number_fits _ done.four visit turns.fits.1))
     (λ c. search rules)
     (λ c. search rules)
@@ -272,7 +272,7 @@ pub +expand-spec : {M : Type 1} → statement M
     let asked = s.pre.1.1 in
     let turns = first_at t h in
     let done = first_done t j in
-    let visit = later_asks asked turns done.visited-to in
+    let visit = later_asks asked turns done.visited_to in
     (omega (arith, s.pre.0, turns.fall.1), kept_asks _ done.four visit turns.fits.1 u.if4.taken))
     (λ c. (within_lengths (expand-returns-2 t c).1.updated.rest).0)
     (λ c. (within_lengths (expand-returns-2 t c).1.updated.rest).1)
@@ -309,7 +309,7 @@ pub +expand-spec : {M : Type 1} → statement M
     let asked = s.pre.1.1 in
     let turns = second_at t h in
     let done = second_done t j in
-    let visit = later_asks asked turns done.visited-to in
+    let visit = later_asks asked turns done.visited_to in
     omega (arith, number_fits _ done.four visit turns.fits.1))
     (λ c. search rules)
     (λ c. search rules)
@@ -321,7 +321,7 @@ pub +expand-spec : {M : Type 1} → statement M
     let asked = s.pre.1.1 in
     let turns = second_at t h in
     let done = second_done t j in
-    let visit = later_asks asked turns done.visited-to in
+    let visit = later_asks asked turns done.visited_to in
     (omega (arith, s.pre.0, turns.fall.1), kept_asks _ done.four visit turns.fits.1 u.if6.taken))
     (λ c. (within_lengths (expand-returns-4 t c).1.updated.rest).0)
     (λ c. (within_lengths (expand-returns-4 t c).1.updated.rest).1)

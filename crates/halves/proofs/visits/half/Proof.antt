@@ -12,7 +12,7 @@ gap-to-requires c κs = let s = c.before in (range_within s.requires.0 c.box_of.
 returns : tie.Need-returns
 returns c =
     let b = c.before in
-    half_made _ _ b.before.requires.0 b.box_of.ensures c.gap-to.ensures (omega (arith, c.gap-to.type-inv))
+    half_made _ _ b.before.requires.0 b.box_of.ensures c.gap_to.ensures (omega (arith, c.gap_to.type-inv))
 
 pub half_spec : {M : Type 1} → statement M
 half_spec = tie.close (tie.spec (λ c κs. search rules) gap-to-requires returns)

@@ -8,8 +8,8 @@ use Rattle.listing.proofs.cases.list_file.Statement.{statement}
 use Rattle.listing.proofs.cases.list_file.Tie as tie
 
 -- Neither list has more than 4,000 sites.
-few_first : (c : tie.After-count-in) → c.count-in.result ≤ 4_000
-few_first c = file_few c.before.before.before.requires First c.count-in.ensures
+few_first : (c : tie.After-count-in) → c.count_in.result ≤ 4_000
+few_first c = file_few c.before.before.before.requires First c.count_in.ensures
 
 few_second : (c : tie.After-count-in2) → c.count-in2.result ≤ 4_000
 few_second c = file_few c.before.before.before.before.requires Second c.count-in2.ensures
@@ -56,9 +56,9 @@ list-sites-requires c κs =
     let first = second.before in (
       first.before.before.before.requires.0,
       (
-        (rw (← first.count-in.ensures) (few_first first), rw (← second.count-in2.ensures) (few_second second)),
+        (rw (← first.count_in.ensures) (few_first first), rw (← second.count-in2.ensures) (few_second second)),
         (
-          zeros_sized _ first.count-in.ensures (few_first first),
+          zeros_sized _ first.count_in.ensures (few_first first),
           zeros_sized _ second.count-in2.ensures (few_second second),
         ),
       ),

@@ -21,7 +21,7 @@ put-text-requires c κs =
     let matched = c.before.before.before.before.before.before in
     let listed = matched.before.before.before.before.before.before.before.before in
     let p = (pre listed).requires in
-    text_ready (Sweep ReverseRun) _ _ _ _ p.0 p.1.1 _ (listed.k-list.ensures.0 ∙ on_plane (Sweep ReverseRun) _ _ _ _ refl refl p.1.0.0 p.1.0.1) matched.count.given.1
+    text_ready (Sweep ReverseRun) _ _ _ _ p.0 p.1.1 _ (listed.k_list.ensures.0 ∙ on_plane (Sweep ReverseRun) _ _ _ _ refl refl p.1.0.0 p.1.0.1) matched.count.given.1
 
 returns : tie.Need-returns
 returns c =
@@ -29,7 +29,7 @@ returns c =
     let matched = counted.before.before in
     let listed = matched.before.before.before.before.before.before.before.before in
     let p = (pre listed).requires in
-    text_written (Sweep ReverseRun) _ _ _ _ p.0 p.1.1 _ (listed.k-list.ensures.0 ∙ on_plane (Sweep ReverseRun) _ _ _ _ refl refl p.1.0.0 p.1.0.1) matched.count.given.1
+    text_written (Sweep ReverseRun) _ _ _ _ p.0 p.1.1 _ (listed.k_list.ensures.0 ∙ on_plane (Sweep ReverseRun) _ _ _ _ refl refl p.1.0.0 p.1.0.1) matched.count.given.1
     refl refl p.1.0.0 p.1.0.1 counted.count-pairs.ensures c.before.before.put-text.ensures
 
 returns-2 : tie.Need-returns-2
@@ -38,7 +38,7 @@ returns-2 c =
     let listed = matched.before.before.before.before.before.before.before.before in
     let p = (pre listed).requires in
     absurd
-    (never_refused (Sweep ReverseRun) _ _ _ _ p.0 p.1.1 _ (listed.k-list.ensures.0 ∙ on_plane (Sweep ReverseRun) _ _ _ _ refl refl p.1.0.0 p.1.0.1) matched.number.given.1)
+    (never_refused (Sweep ReverseRun) _ _ _ _ p.0 p.1.1 _ (listed.k_list.ensures.0 ∙ on_plane (Sweep ReverseRun) _ _ _ _ refl refl p.1.0.0 p.1.0.1) matched.number.given.1)
 
 pub list_with_spec : {M : Type 1} → statement M
 list_with_spec =

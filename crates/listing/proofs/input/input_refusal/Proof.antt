@@ -18,13 +18,13 @@ returns-4 : tie.Need-returns-4
 returns-4 c =
     let left = c.before.before.before in
     input_k _ (search rules) (search rules) left.before.file-refusal.ensures left.if3.false true
-    c.before.before.word_at.ensures c.before.lawful-k.ensures c.if4.true
+    c.before.before.word_at.ensures c.before.lawful_k.ensures c.if4.true
 
 returns-5 : tie.Need-returns-5
 returns-5 c =
     let left = c.before.before.before in
     input_k _ (search rules) (search rules) left.before.file-refusal.ensures left.if3.false false
-    c.before.before.word_at.ensures c.before.lawful-k.ensures c.if4.false
+    c.before.before.word_at.ensures c.before.lawful_k.ensures c.if4.false
 
 pub input_refusal_spec : {M : Type 1} → statement M
 input_refusal_spec =

@@ -25,7 +25,7 @@ returns c =
     let a = s.args in
     sym
     (far_y a.x a.y a.h (spot a.bx.now a.by.now a.bh.now a.j).site a.e
-    s.pre.0.inside-y (coordinate_y s.pre.0.others a.j s.pre.1) s.fits.e.fits w.wrapping-sub-u64.type-inv
+    s.pre.0.inside_y (coordinate_y s.pre.0.others a.j s.pre.1) s.fits.e.fits w.wrapping-sub-u64.type-inv
     (at₁ offset (to_z-of_z (sfits_of o.before.offset-arg.given)) o.offset.ensures.0) o.offset.ensures.1
     (at₁ offset (to_z-of_z s.fits.y) w.before.offset2.ensures.0) w.before.offset2.ensures.1
     w.wrapping-sub-u64.ensures c.if1.true)
@@ -34,7 +34,7 @@ squared-distance-requires : tie.Need-squared-distance-requires
 squared-distance-requires c κs =
     let s = started c.before.before.before.before in
     let p = s.pre.0 in (
-      (rw (to_z-of_z s.fits.x) p.inside-x, rw (to_z-of_z s.fits.y) p.inside-y, rw (to_z-of_z s.fits.h) p.inside-height),
+      (rw (to_z-of_z s.fits.x) p.inside_x, rw (to_z-of_z s.fits.y) p.inside_y, rw (to_z-of_z s.fits.h) p.inside_height),
       (
         rw (to_z-of_z (sfits_of c.before.before.squared-distance-arg.given)) (coordinate_x p.others _ s.pre.1),
         rw (to_z-of_z (sfits_of c.before.squared-distance-arg2.given)) (coordinate_y p.others _ s.pre.1),
@@ -48,7 +48,7 @@ mul-if2 c = square_fits (started c.before.before.before.before.before).ranges.e
 -- The squared distance, of the position as it was given.
 squared : (c : tie.After-squared-distance)
     → let a = (started c.before.before.before.before.before).args in
-    c.squared-distance.result
+    c.squared_distance.result
     ≡ squared_distance (raised_site a.x a.y 0 a.h) (spot a.bx.now a.by.now a.bh.now a.j).site
 unfolding spot
 squared c =
@@ -59,7 +59,7 @@ squared c =
     let u = to_z-of_z (sfits_of c.before.before.before.squared-distance-arg.given) in
     let v = to_z-of_z (sfits_of c.before.before.squared-distance-arg2.given) in
     let w = to_z-of_z (sfits_of c.before.squared-distance-arg3.given) in
-    c.squared-distance.ensures ∙ (λ i. squared_distance (raised_site (x i) (y i) 0 (h i)) (raised_site (u i) (v i) 0 (w i)))
+    c.squared_distance.ensures ∙ (λ i. squared_distance (raised_site (x i) (y i) 0 (h i)) (raised_site (u i) (v i) 0 (w i)))
 
 returns-2 : tie.Need-returns-2
 unfolding near

@@ -20,8 +20,8 @@ use Rattle.site.proofs.InsertSite.{added_low}
 use Rattle.site.proofs.adding.add.Statement.{statement}
 use Rattle.site.proofs.adding.add.Tie as tie
 
-abbrev start : tie.After-add-refusal → tie.Start
-start c = c.before.before.before.before.before.before.before.before.before
+abbrev start : tie.After-add_refusal-refusal → tie.Start
+start c = c.before.before.before.before.before
 
 abbrev lent : tie.Start → Columns
 lent c = raised c.args.x.now c.args.y.now c.args.number.now c.args.height.now
@@ -29,69 +29,67 @@ lent c = raised c.args.x.now c.args.y.now c.args.number.now c.args.height.now
 abbrev new : tie.Start → Site
 new c = site_of c.args.s
 
-fits_x : (c : tie.After-add-refusal) → SFits w32 (start c).args.s.x
+fits_x : (c : tie.After-add_refusal-refusal) → SFits w32 (start c).args.s.x
 fits_x c = sfits_of (search rules)
 
-fits_y : (c : tie.After-add-refusal) → SFits w32 (start c).args.s.y
+fits_y : (c : tie.After-add_refusal-refusal) → SFits w32 (start c).args.s.y
 fits_y c = sfits_of (search rules)
 
-fits_height : (c : tie.After-add-refusal) → SFits w32 (start c).args.s.height
+fits_height : (c : tie.After-add_refusal-refusal) → SFits w32 (start c).args.s.height
 fits_height c = sfits_of (search rules)
 
-learnt : (c : tie.After-add-refusal) → c.add-refusal.result ≡ add_refusal (lent (start c)) (start c).args.count (new (start c))
+learnt : (c : tie.After-add_refusal-refusal) → c.add_refusal-refusal.result ≡ add_refusal (lent (start c)) (start c).args.count (new (start c))
 learnt c =
     let a = (start c).args in
-    c.add-refusal.ensures
+    c.add_refusal-refusal.ensures
     ∙ (λ i. add_refusal (lent (start c)) a.count
     (raised_site (to_z-of_z (fits_x c) i) (to_z-of_z (fits_y c) i) a.s.number (to_z-of_z (fits_height c) i)))
 
 -- The way back from each place.
-abbrev begun : tie.Else1 → tie.Start
+abbrev begun : tie.Else-refusal-ne0 → tie.Start
 begun c = start c.before
 
-abbrev passed : tie.After-place-of → tie.Else1
-passed c = c.before.before.before.before.before.before
+abbrev passed : tie.After-place_of-place → tie.Else-refusal-ne0
+passed c = c.before.before.before
 
-accepted : (c : tie.Else1) → add_refusal (lent (begun c)) (begun c).args.count (new (begun c)) ≡ 0
-accepted c = sym (learnt c.before) ∙ c.if1.false
+accepted : (c : tie.Else-refusal-ne0) → add_refusal (lent (begun c)) (begun c).args.count (new (begun c)) ≡ 0
+accepted c = sym (learnt c.before) ∙ c.if-refusal-ne0.false
 
-used : (c : tie.Else1) → used_refusal (lent (begun c)) (begun c).args.count ≡ 0
+used : (c : tie.Else-refusal-ne0) → used_refusal (lent (begun c)) (begun c).args.count ≡ 0
 used c = let e = begun c in added_used (lent e) e.args.count (new e) (accepted c)
 
-level : (c : tie.Else1) → Level (lent (begun c))
+level : (c : tie.Else-refusal-ne0) → Level (lent (begun c))
 level c = let e = begun c in used_level (lent e) e.args.count (used c)
 
-room : (c : tie.Else1) → (begun c).args.count < length (begun c).args.x.now
+room : (c : tie.Else-refusal-ne0) → (begun c).args.count < length (begun c).args.x.now
 room c = let e = begun c in added_room (lent e) e.args.count (new e) (accepted c)
 
-returns : tie.Need-returns
+returns : tie.Need-returns-then-refusal-ne0
 unfolding add_answer
-returns c = let e = start c.before in unchanged _ (lent e) (learnt c.before) c.if1.true
+returns c = let e = start c.before in unchanged _ (lent e) (learnt c.before) c.if-refusal-ne0.true
 
-place-of-requires : tie.Need-place-of-requires
+place-of-requires : tie.Need-place_of-place-requires
 place-of-requires c κs =
-    let f = c.before.before.before.before.before in
-    let e = begun f in
-    (used_asked (lent e) e.args.count (used f)).0
+    let e = begun c.before.before in
+    (used_asked (lent e) e.args.count (used c.before.before)).0
 
-learnt_place : (c : tie.After-place-of)
-    → (let e = begun (passed c) in c.place_of.result ≡ place_of (new e) (sites (in_use e.args.count (lent e))))
+learnt_place : (c : tie.After-place_of-place)
+    → (let e = begun (passed c) in c.place_of-place.result ≡ place_of (new e) (sites (in_use e.args.count (lent e))))
 learnt_place c =
     let f = passed c in
     let e = begun f in
     let n = e.args.count in
-    c.place_of.ensures
+    c.place_of-place.ensures
     ∙ (λ i. place_of (site (to_z-of_z (fits_x f.before) i) (to_z-of_z (fits_y f.before) i) e.args.s.number) (sites (in_use n (flattened (lent e)))))
     ∙ in_use_place (lent e) n (level f) (used_inside (lent e) n (used f)) (new e)
 
-insert-site-requires : tie.Need-insert-site-requires
+insert-site-requires : tie.Need-insert_site-requires
 unfolding All
 insert-site-requires c κs =
-    let g = c.before.before.before.before in
-    let f = passed g in
+    let f = passed c.before.before.before.before in
     let e = begun f in
     let low = added_low (lent e) e.args.count (new e) refl (accepted f) in (
-      omega (arith, learnt_place g, low),
+      omega (arith, learnt_place c.before.before.before.before, low),
       room f,
       omega (arith, room f, (level f).y),
       omega (arith, room f, (level f).number),
@@ -99,16 +97,16 @@ insert-site-requires c κs =
     )
 
 -- From the end back to the call that puts the site in.
-abbrev put : tie.After-height → tie.After-insert-site
+abbrev put : tie.After-height-1 → tie.After-insert_site
 put c = c.before.before.before.before.before
 
-abbrev found : tie.After-insert-site → tie.After-place-of
+abbrev found : tie.After-insert_site → tie.After-place_of-place
 found h = h.before.before.before.before.before
 
-add_count : (c : tie.Else1) → (begun c).args.count < 65_535
+add_count : (c : tie.Else-refusal-ne0) → (begun c).args.count < 65_535
 add_count c = let e = begun c in added_few (lent e) e.args.count (new e) (accepted c)
 
-returns-2 : tie.Need-returns-2
+returns-2 : tie.Need-returns
 unfolding add_answer
 returns-2 c =
     let h = put c in
@@ -117,7 +115,7 @@ returns-2 c =
     let e = begun f in
     let n = e.args.count in
     changed _ (lent e) (accepted f)
-    (λ i. change_values ((h.insert-site.ensures ∙ ap (λ (p : ℕ). insert_site p n (new e) (lent e)) (learnt_place g)) i) (learnt_place g i) (n + 1))
+    (λ i. change_values ((h.insert_site.ensures ∙ ap (λ (p : ℕ). insert_site p n (new e) (lent e)) (learnt_place g)) i) (learnt_place g i) (n + 1))
 
 pub add_spec : {M : Type 1} → statement M
 add_spec =

@@ -11,34 +11,30 @@ use Rattle.site.proofs.adding.lawful.Statement.{statement}
 use Rattle.site.proofs.adding.lawful.Tie as tie
 
 learnt_x : (c : tie.After-within) → c.within.result ≡ within c.before.args.sx
-learnt_x c = at₁ within (to_z-of_z c.before.ranges.sx) c.within.ensures
+learnt_x c = at₁ within (to_z-of_z c.ranges.sx) c.within.ensures
 
-learnt_y : (c : tie.After-within2) → c.within2.result ≡ within c.before.before.before.args.sy
-learnt_y c = at₁ within (to_z-of_z c.before.before.before.ranges.sy) c.within2.ensures
+learnt_y : (c : tie.After-within-2) → c.within-2.result ≡ within c.before.before.before.args.sy
+learnt_y c = at₁ within (to_z-of_z c.ranges.sy) c.within-2.ensures
 
-returns : tie.Need-returns
+returns : tie.Need-returns-then-not-within
 returns c =
-    let a = c.before.before.args in
-    let x = sym (learnt_x c.before) ∙ not-true c.before.within.result c.if1.true in
+    let a = c.args in
+    let x = sym (learnt_x c.before) ∙ c.if-not-within.true in
     simp (lawful_up (raised_site a.sx a.sy 0 a.sh) a.sh refl, x)
 
-returns-2 : tie.Need-returns-2
+returns-2 : tie.Need-returns-then-not-within-2
 returns-2 c =
-    let one = c.before.before in
-    let a = one.before.before.args in
-    let x = sym (learnt_x one.before) ∙ not-false one.before.within.result one.if1.false in
-    let y = sym (learnt_y c.before) ∙ not-true c.before.within2.result c.if2.true in
+    let a = c.args in
+    let x = sym (learnt_x c.before.before.before) ∙ c.if-not-within.false in
+    let y = sym (learnt_y c.before) ∙ c.if-not-within-2.true in
     simp (lawful_up (raised_site a.sx a.sy 0 a.sh) a.sh refl, x, y)
 
-returns-3 : tie.Need-returns-3
+returns-3 : tie.Need-returns
 returns-3 c =
-    let two = c.before in
-    let one = two.before.before in
-    let s = one.before.before in
-    let a = s.args in
-    let x = sym (learnt_x one.before) ∙ not-false one.before.within.result one.if1.false in
-    let y = sym (learnt_y two.before) ∙ not-false two.before.within2.result two.if2.false in
-    simp (lawful_up (raised_site a.sx a.sy 0 a.sh) a.sh refl, x, y) (at₁ height_within (to_z-of_z s.ranges.sh) c.height-within.ensures)
+    let a = c.args in
+    let x = sym (learnt_x c.before.before.before.before) ∙ c.if-not-within.false in
+    let y = sym (learnt_y c.before.before) ∙ c.if-not-within-2.false in
+    simp (lawful_up (raised_site a.sx a.sy 0 a.sh) a.sh refl, x, y) (at₁ height_within (to_z-of_z c.ranges.sh) c.height_within.ensures)
 
 pub lawful_spec : {M : Type 1} → statement M
 lawful_spec =

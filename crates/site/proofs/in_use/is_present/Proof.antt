@@ -1,4 +1,5 @@
 -- `site::is_present` meets its contract: where the first sites ascend, a site stands at its place or nowhere.
+use mir.Syntax.{w32}
 use mathlib.Core.Path.{◌≡◌, sym, ap, ◌∙◌}
 use mathlib.Core.Bool.{not}
 use mathlib.Core.List.{List}
@@ -36,53 +37,53 @@ used_length c = in_use_length (lent c) c.args.n c.requires.0.0 c.requires.0.1
 ascends : (c : tie.Start) → Ascends site_before (used c)
 ascends c = ascending_ascends site_order (used c) c.requires.1
 
-abbrev start : tie.After-place-of → tie.Start
+abbrev start : tie.After-place_of-place → tie.Start
 start c = c.before.before
 
-place : (c : tie.After-place-of) → c.place_of.result ≡ place_of (asked (start c)) (used (start c))
+place : (c : tie.After-place_of-place) → c.place_of-place.result ≡ place_of (asked (start c)) (used (start c))
 place c =
     let e = start c in
-    at₂ (λ (x y : ℤ). place_of (site x y e.args.sn) (used e)) (to_z-of_z e.fits.sx) (to_z-of_z e.fits.sy) c.place_of.ensures
+    at₂ (λ (x y : ℤ). place_of (site x y e.args.sn) (used e)) (to_z-of_z e.ranges.sx) (to_z-of_z e.ranges.sy) c.place_of-place.ensures
 
-returns : tie.Need-returns
+returns : tie.Need-returns-then-n-place
 returns c =
     let e = start c.before in
-    let past = le-leb (length (used e)) (place_of (asked e) (used e)) (omega (arith, used_length e, place c.before, c.if1.true)) in
+    let past = le-leb (length (used e)) (place_of (asked e) (used e)) (omega (arith, used_length e, place c.before, c.if-n-place.true)) in
     simp (present_at (asked e) (used e) (ascends e), past)
 
 -- The site at the place, as it is read.
-abbrev found : tie.Else1 → Site
+abbrev found : tie.Else-n-place → Site
 found c =
     let a = (start c.before).args in
-    let i = c.before.place_of.result in
+    let i = c.place_of-place.result in
     site (get_or a.x.now i (pos 0)) (get_or a.y.now i (pos 0)) (get_or a.number.now i 0)
 
-read : (c : tie.Else1) → site_at (used (start c.before)) c.before.place_of.result ≡ found c
+read : (c : tie.Else-n-place) → site_at (used (start c.before)) c.before.place_of-place.result ≡ found c
 read c =
     let e = start c.before in
-    let i = c.before.place_of.result in
-    in_use_at e.args.n (lent e) i c.if1.false ∙ site_at_lem (lent e) e.pre.0.0 i (omega (arith, c.if1.false, e.pre.0.1))
+    let i = c.place_of-place.result in
+    in_use_at e.args.n (lent e) i c.if-n-place.false ∙ site_at_lem (lent e) e.requires.0.0 i (omega (arith, c.if-n-place.false, e.requires.0.1))
 
-abbrev tested : tie.After-before2 → tie.Else1
+abbrev tested : tie.After-before-2 → tie.Else-n-place
 tested c = c.before.before.before.before
 
-compared : (c : tie.After-before2) → c.before2.result ≡ site_before (asked (start (tested c).before)) (found (tested c))
+compared : (c : tie.After-before-2) → c.before-2.result ≡ site_before (asked (start (tested c).before)) (found (tested c))
 compared c =
     let e = start (tested c).before in
     let t = found (tested c) in
     at₄ (λ (sx sy x y : ℤ). site_before (site sx sy e.args.sn) (site x y t.number))
-    (to_z-of_z e.fits.sx)
-    (to_z-of_z e.fits.sy)
-    (to_z-of_z (sfits_of c.before.before.before.before-arg.given))
-    (to_z-of_z (sfits_of c.before.before.before-arg2.given))
-    c.before2.ensures
+    (to_z-of_z e.ranges.sx)
+    (to_z-of_z e.ranges.sy)
+    (to_z-of_z {w = w32} (sfits_of c.before.before.before.before-arg-1.given))
+    (to_z-of_z {w = w32} (sfits_of c.before.before.before-arg-2-1.given))
+    c.before-2.ensures
 
-returns-2 : tie.Need-returns-2
+returns-2 : tie.Need-returns
 returns-2 c =
     let f = tested c in
     let e = start f.before in
     let p = place f.before in
-    let inside = lt-leb (length (used e)) (place_of (asked e) (used e)) (omega (arith, used_length e, p, f.if1.left)) in
+    let inside = lt-leb (length (used e)) (place_of (asked e) (used e)) (omega (arith, used_length e, p, f.if-n-place.false)) in
     let there : site_at (used e) (place_of (asked e) (used e)) ≡ found f = ap (site_at (used e)) (sym p) ∙ read f in
     simp (present_at (asked e) (used e) (ascends e), inside, there) (ap not (compared c))
 

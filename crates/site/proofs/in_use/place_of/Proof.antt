@@ -21,13 +21,13 @@ use Rattle.site.proofs.PlaceOf.{place_step, place_end}
 use Rattle.site.proofs.in_use.place_of.Statement.{statement}
 use Rattle.site.proofs.in_use.place_of.Tie as tie
 
-abbrev invariant-loop : tie.invariant-loop
+abbrev invariant-loop : tie.invariant-loop-i
 invariant-loop x y number n sx sy sn place₀ i₀ place i =
     let l = sites (in_use n (columns x y number)) in
     let s = site (to_z w32 sx) (to_z w32 sy) sn in
     (i ≤ n) × (place ≤ i) × (place + place_of s (drop i l) ≡ place_of s l)
 
-abbrev decreases-loop : tie.decreases-loop
+abbrev decreases-loop : tie.decreases-loop-i
 decreases-loop x y number n sx sy sn place₀ i₀ place i = n - i
 
 abbrev lent : tie.Start invariant-loop decreases-loop → Columns
@@ -44,50 +44,48 @@ used_length c = in_use_length (lent c) c.args.n c.requires.0 c.requires.1
 abbrev handed : tie.Start invariant-loop decreases-loop → Site
 handed c = site (to_z w32 (of_z w32 c.args.sx)) (to_z w32 (of_z w32 c.args.sy)) c.args.sn
 
-abbrev entry : tie.After-earlier-at invariant-loop decreases-loop → tie.Start invariant-loop decreases-loop
+abbrev entry : tie.After-earlier_at-place invariant-loop decreases-loop → tie.Start invariant-loop decreases-loop
 entry c = c.before.before.before.before
 
-earlier-at-requires : tie.Need-earlier-at-requires invariant-loop decreases-loop
+earlier-at-requires : tie.Need-earlier_at-place-requires invariant-loop decreases-loop
 earlier-at-requires c κs =
-    let e = c.before.before.before in
-    (e.requires.0, omega (arith, c.loop-test.true, e.requires.1))
+    (c.requires.0, omega (arith, c.loop-i-test.true, c.requires.1))
 
-compared : (c : tie.After-earlier-at invariant-loop decreases-loop)
-    → c.earlier-at.result ≡ cond (site_before (site_at (used (entry c)) c.before.before.loop.i) (handed (entry c))) 1 0
+compared : (c : tie.After-earlier_at-place invariant-loop decreases-loop)
+    → c.earlier_at-place.result ≡ cond (site_before (site_at (used (entry c)) c.before.before.loop-i.i) (handed (entry c))) 1 0
 compared c =
     let e = entry c in
-    rw (in_use_at e.args.n (lent e) c.before.before.loop.i c.before.loop-test.true) c.earlier-at.ensures
+    rw (in_use_at e.args.n (lent e) c.loop-i.i c.loop-i-test.true) c.earlier_at-place.ensures
 
-small : (c : tie.After-earlier-at invariant-loop decreases-loop) → c.earlier-at.result ≤ 1
-small c = yes_le (site_before (site_at (used (entry c)) c.before.before.loop.i) (handed (entry c))) (compared c)
+small : (c : tie.After-earlier_at-place invariant-loop decreases-loop) → c.earlier_at-place.result ≤ 1
+small c = yes_le (site_before (site_at (used (entry c)) c.loop-i.i) (handed (entry c))) (compared c)
 
 -- How many are left to count from a place on.
-abbrev left : tie.After-earlier-at invariant-loop decreases-loop → ℕ → ℕ
+abbrev left : tie.After-earlier_at-place invariant-loop decreases-loop → ℕ → ℕ
 left c i = place_of (handed (entry c)) (drop i (used (entry c)))
 
-learnt : (c : tie.After-earlier-at invariant-loop decreases-loop)
-    → c.earlier-at.result + left c (c.before.before.loop.i + 1) ≡ left c c.before.before.loop.i
+learnt : (c : tie.After-earlier_at-place invariant-loop decreases-loop)
+    → c.earlier_at-place.result + left c (c.before.before.loop-i.i + 1) ≡ left c c.before.before.loop-i.i
 unfolding site_at
 learnt c =
     let e = entry c in
-    let i = c.before.before.loop.i in
-    let k : i < length (used e) = omega (arith, c.before.loop-test.true, used_length e) in
+    let i = c.loop-i.i in
+    let k : i < length (used e) = omega (arith, c.loop-i-test.true, used_length e) in
     rw (place_step (handed e) (used e) i nowhere k) (ap (λ (n : ℕ). n + place_of (handed e) (drop (i + 1) (used e))) (compared c))
 
-add-place : tie.Need-overflow-add-place invariant-loop decreases-loop
-add-place c = omega (arith, small c, c.before.before.loop.invariant, c.before.loop-test.true, (entry c).requires.2)
+add-place : tie.Need-overflow_add-place invariant-loop decreases-loop
+add-place c = omega (arith, small c, c.loop-i.invariant, c.loop-i-test.true, (entry c).requires.2)
 
-loop-again : tie.Need-loop-preserved invariant-loop decreases-loop
-loop-again c = omega (arith, small c, learnt c, c.before.before.loop.invariant, c.before.loop-test.true)
+loop-again : tie.Need-loop-i-preserved invariant-loop decreases-loop
+loop-again c = omega (arith, small c, learnt c, c.loop-i.invariant, c.loop-i-test.true)
 
 returns : tie.Need-returns invariant-loop decreases-loop
 returns c =
-    let e = c.before.before.before in
-    let i = c.before.loop.i in
-    let h = c.loop-test.false in
-    let k : length (used e) ≤ i = omega (arith, used_length e) in
-    let q : c.before.loop.place ≡ place_of (handed e) (used e) = omega (arith, place_end (handed e) (used e) i k) in
-    at₂ (λ (x y : ℤ). place_of (site x y e.args.sn) (used e)) (to_z-of_z e.ranges.sx) (to_z-of_z e.ranges.sy) q
+    let i = c.loop-i.i in
+    let h = c.loop-i-test.false in
+    let k : length (used c.before.before.before) ≤ i = omega (arith, used_length c.before.before.before) in
+    let q : c.loop-i.place ≡ place_of (handed c.before.before.before) (used c.before.before.before) = omega (arith, place_end (handed c.before.before.before) (used c.before.before.before) i k) in
+    at₂ (λ (x y : ℤ). place_of (site x y c.args.sn) (used c.before.before.before)) (to_z-of_z c.ranges.sx) (to_z-of_z c.ranges.sy) q
 
 pub place_of_spec : {M : Type 1} → statement M
 place_of_spec =

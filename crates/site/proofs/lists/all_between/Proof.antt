@@ -17,49 +17,47 @@ use Rattle.site.proofs.Counting.{failing, failing_step, failing_end, all_failing
 use Rattle.site.proofs.lists.all_between.Statement.{statement}
 use Rattle.site.proofs.lists.all_between.Tie as tie
 
-abbrev invariant-loop : tie.invariant-loop
+abbrev invariant-loop : tie.invariant-loop-i
 invariant-loop low high column faults₀ i₀ faults i =
     let test = between (to_z w32 low) (to_z w32 high) in
     (i ≤ length column) × (faults ≤ i) × (faults + failing test (drop i column) ≡ failing test column)
 
-abbrev decreases-loop : tie.decreases-loop
+abbrev decreases-loop : tie.decreases-loop-i
 decreases-loop low high column faults₀ i₀ faults i = length column - i
 
 -- The coordinate that is read.
-abbrev read : tie.After-outside invariant-loop decreases-loop → ℤ
-read c = get_or c.before.before.before.before.args.column.now c.before.before.before.loop.i (pos 0)
+abbrev read : tie.After-outside-faults invariant-loop decreases-loop → ℤ
+read c = get_or c.args.column.now c.loop-i.i (pos 0)
 
 -- The limits as they are handed on.
 abbrev test : tie.Start invariant-loop decreases-loop → ℤ → Bool
 test c = between (to_z w32 (of_z w32 c.args.low)) (to_z w32 (of_z w32 c.args.high))
 
-learnt : (c : tie.After-outside invariant-loop decreases-loop) → c.outside.result ≡ cond (test c.before.before.before.before (read c)) 0 1
+learnt : (c : tie.After-outside-faults invariant-loop decreases-loop) → c.outside-faults.result ≡ cond (test c.before.before.before.before (read c)) 0 1
 learnt c =
-    at₁ (λ (z : ℤ). cond {A = ℕ} (test c.before.before.before.before z) 0 1) (to_z-of_z (sfits_of c.before.outside-arg.given))
-    c.outside.ensures
+    at₁ (λ (z : ℤ). cond {A = ℕ} (test c.before.before.before.before z) 0 1) (to_z-of_z {w = w32} (sfits_of c.outside-arg-1.given))
+    c.outside-faults.ensures
 
-small : (c : tie.After-outside invariant-loop decreases-loop) → c.outside.result ≤ 1
+small : (c : tie.After-outside-faults invariant-loop decreases-loop) → c.outside-faults.result ≤ 1
 small c = no_le (test c.before.before.before.before (read c)) (learnt c)
 
-add-faults : tie.Need-overflow-add-faults invariant-loop decreases-loop
+add-faults : tie.Need-overflow_add-faults invariant-loop decreases-loop
 add-faults c =
-    let l = c.before.before.before in
-    omega (arith, small c, l.loop.invariant, c.before.before.loop-test.true, l.before.requires)
+    omega (arith, small c, c.loop-i.invariant, c.loop-i-test.true, c.requires)
 
-loop-again : tie.Need-loop-preserved invariant-loop decreases-loop
+loop-again : tie.Need-loop-i-preserved invariant-loop decreases-loop
 loop-again c =
-    let column = c.before.before.before.before.args.column.now in
-    let i = c.before.before.before.loop.i in
-    omega (arith, small c, learnt c, failing_step (test c.before.before.before.before) column i (pos 0) c.before.before.loop-test.true)
+    let column = c.args.column.now in
+    let i = c.loop-i.i in
+    omega (arith, small c, learnt c, failing_step (test c.before.before.before.before) column i (pos 0) c.loop-i-test.true)
 
 returns : tie.Need-returns invariant-loop decreases-loop
 returns c =
-    let column = c.before.before.args.column.now in
-    let i = c.before.loop.i in
-    let s = c.before.before in
-    let e : c.before.loop.faults ≡ failing (test s) column = omega (arith, failing_end (test s) column i c.loop-test.false) in
-    ap (λ (n : ℕ). eqb n 0) e ∙ sym (all_failing (test s) column)
-    ∙ (λ i. all (between (to_z-of_z s.ranges.low i) (to_z-of_z s.ranges.high i)) column)
+    let column = c.args.column.now in
+    let i = c.loop-i.i in
+    let e : c.loop-i.faults ≡ failing (test c.before.before) column = omega (arith, failing_end (test c.before.before) column i c.loop-i-test.false) in
+    ap (λ (n : ℕ). eqb n 0) e ∙ sym (all_failing (test c.before.before) column)
+    ∙ (λ i. all (between (to_z-of_z c.ranges.low i) (to_z-of_z c.ranges.high i)) column)
 
 pub all_between_spec : {M : Type 1} → statement M
 all_between_spec =

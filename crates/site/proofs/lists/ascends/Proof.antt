@@ -13,60 +13,60 @@ use Rattle.site.proofs.Counting.{no_le, breaks, breaks_end, breaks_step, ascendi
 use Rattle.site.proofs.lists.ascends.Statement.{statement}
 use Rattle.site.proofs.lists.ascends.Tie as tie
 
-abbrev invariant-loop : tie.invariant-loop
+abbrev invariant-loop : tie.invariant-loop-i
 invariant-loop x y number broken₀ i₀ broken i =
     let l = sites (columns x y number) in
     (i ≤ length x) × (broken ≤ i) × (broken + breaks site_before (drop i l) ≡ breaks site_before l)
 
-abbrev decreases-loop : tie.decreases-loop
+abbrev decreases-loop : tie.decreases-loop-i
 decreases-loop x y number broken₀ i₀ broken i = length x - i
 
 abbrev lent : tie.Start invariant-loop decreases-loop → Columns
 lent c = columns c.args.x.now c.args.y.now c.args.number.now
 
-add-loop : tie.Need-overflow-add-loop invariant-loop decreases-loop
-add-loop c = omega (arith, c.before.before.requires.1)
+add-loop : tie.Need-overflow_add-i invariant-loop decreases-loop
+add-loop c = omega (arith, c.requires.1)
 
-break-at-requires : tie.Need-break-at-requires invariant-loop decreases-loop
-break-at-requires c κs = (c.before.before.before.requires.0, c.loop-test.true)
+break-at-requires : tie.Need-break_at-breaks-requires invariant-loop decreases-loop
+break-at-requires c κs = (c.requires.0, c.loop-i-test.true)
 
-abbrev entry : tie.After-break-at invariant-loop decreases-loop → tie.Start invariant-loop decreases-loop
+abbrev entry : tie.After-break_at-breaks invariant-loop decreases-loop → tie.Start invariant-loop decreases-loop
 entry c = c.before.before.before.before
 
 -- How many are left to count from a place on.
-abbrev left : tie.After-break-at invariant-loop decreases-loop → ℕ → ℕ
+abbrev left : tie.After-break_at-breaks invariant-loop decreases-loop → ℕ → ℕ
 left c i = breaks site_before (drop i (sites (lent (entry c))))
 
-learnt : (c : tie.After-break-at invariant-loop decreases-loop)
-    → c.break-at.result + left c (c.before.before.loop.i + 1) ≡ left c c.before.before.loop.i
+learnt : (c : tie.After-break_at-breaks invariant-loop decreases-loop)
+    → c.break_at-breaks.result + left c (c.before.before.loop-i.i + 1) ≡ left c c.before.before.loop-i.i
 unfolding site_at
 learnt c =
     let l = lent (entry c) in
     let level = (entry c).requires.0 in
-    let i = c.before.before.loop.i in
-    let h : i + 1 < length l.x = c.before.loop-test.true in
+    let i = c.loop-i.i in
+    let h : i + 1 < length l.x = c.loop-i-test.true in
     let k : i + 1 < length (sites l) = omega (arith, sites_length l level) in
     rw (breaks_step site_before (sites l) i (site (pos 0) (pos 0) 0) k)
-    (ap (λ (n : ℕ). n + breaks site_before (drop (i + 1) (sites l))) c.break-at.ensures)
+    (ap (λ (n : ℕ). n + breaks site_before (drop (i + 1) (sites l))) c.break_at-breaks.ensures)
 
-small : (c : tie.After-break-at invariant-loop decreases-loop) → c.break-at.result ≤ 1
+small : (c : tie.After-break_at-breaks invariant-loop decreases-loop) → c.break_at-breaks.result ≤ 1
 small c =
-    let i = c.before.before.loop.i in
-    no_le (site_before (site_at (sites (lent (entry c))) i) (site_at (sites (lent (entry c))) (i + 1))) c.break-at.ensures
+    let i = c.loop-i.i in
+    no_le (site_before (site_at (sites (lent (entry c))) i) (site_at (sites (lent (entry c))) (i + 1))) c.break_at-breaks.ensures
 
-add-breaks : tie.Need-overflow-add-breaks invariant-loop decreases-loop
-add-breaks c = omega (arith, small c, c.before.before.loop.invariant, c.before.loop-test.true, (entry c).requires.1)
+add-breaks : tie.Need-overflow_add-breaks invariant-loop decreases-loop
+add-breaks c = omega (arith, small c, c.loop-i.invariant, c.loop-i-test.true, (entry c).requires.1)
 
-loop-again : tie.Need-loop-preserved invariant-loop decreases-loop
-loop-again c = omega (arith, small c, learnt c, c.before.before.loop.invariant, c.before.loop-test.true)
+loop-again : tie.Need-loop-i-preserved invariant-loop decreases-loop
+loop-again c = omega (arith, small c, learnt c, c.loop-i.invariant, c.loop-i-test.true)
 
 returns : tie.Need-returns invariant-loop decreases-loop
 returns c =
     let l = lent c.before.before.before in
-    let i = c.before.loop.i in
-    let h = c.loop-test.false in
-    let k : length (sites l) ≤ i + 1 = omega (arith, sites_length l c.before.before.before.requires.0) in
-    let e : c.before.loop.breaks ≡ breaks site_before (sites l) = omega (arith, breaks_end site_before (sites l) i k) in
+    let i = c.loop-i.i in
+    let h = c.loop-i-test.false in
+    let k : length (sites l) ≤ i + 1 = omega (arith, sites_length l c.requires.0) in
+    let e : c.loop-i.breaks ≡ breaks site_before (sites l) = omega (arith, breaks_end site_before (sites l) i k) in
     ap (λ (n : ℕ). eqb n 0) e ∙ sym (ascending_breaks site_before (sites l))
 
 pub ascends_spec : {M : Type 1} → statement M

@@ -12,48 +12,43 @@ one c = site c.args.ax c.args.ay c.args.an
 abbrev other : tie.Start → Site
 other c = site c.args.bx c.args.by c.args.bn
 
-returns : tie.Need-returns
+returns : tie.Need-returns-then-ax-bx
 returns c =
-    let b = c.before in
-    let f = b.ranges in
-    first_below (one b) (other b) (read_lt f.ax f.bx c.if1.true)
+    let f = c.ranges in
+    first_below (one c.before) (other c.before) (read_lt f.ax f.bx c.if-ax-bx.true)
 
-returns-2 : tie.Need-returns-2
+returns-2 : tie.Need-returns-then-bx-ax
 returns-2 c =
-    let b = c.before.before in
-    let f = b.ranges in
-    first_above (one b) (other b)
-    (read_lt f.ax f.bx c.before.if1.false)
-    (read_lt f.bx f.ax c.if2.true)
+    let f = c.ranges in
+    first_above (one c.before.before) (other c.before.before)
+    (read_lt f.ax f.bx c.if-ax-bx.false)
+    (read_lt f.bx f.ax c.if-bx-ax.true)
 
-returns-3 : tie.Need-returns-3
+returns-3 : tie.Need-returns-then-ay-by
 returns-3 c =
-    let b = c.before.before.before in
-    let f = b.ranges in
-    second_below (one b) (other b)
-    (read_lt f.ax f.bx c.before.before.if1.false)
-    (read_lt f.bx f.ax c.before.if2.false)
-    (read_lt f.ay f.by c.if3.true)
+    let f = c.ranges in
+    second_below (one c.before.before.before) (other c.before.before.before)
+    (read_lt f.ax f.bx c.if-ax-bx.false)
+    (read_lt f.bx f.ax c.if-bx-ax.false)
+    (read_lt f.ay f.by c.if-ay-by.true)
 
-returns-4 : tie.Need-returns-4
+returns-4 : tie.Need-returns-then-by-ay
 returns-4 c =
-    let b = c.before.before.before.before in
-    let f = b.ranges in
-    second_above (one b) (other b)
-    (read_lt f.ax f.bx c.before.before.before.if1.false)
-    (read_lt f.bx f.ax c.before.before.if2.false)
-    (read_lt f.ay f.by c.before.if3.false)
-    (read_lt f.by f.ay c.if4.true)
+    let f = c.ranges in
+    second_above (one c.before.before.before.before) (other c.before.before.before.before)
+    (read_lt f.ax f.bx c.if-ax-bx.false)
+    (read_lt f.bx f.ax c.if-bx-ax.false)
+    (read_lt f.ay f.by c.if-ay-by.false)
+    (read_lt f.by f.ay c.if-by-ay.true)
 
-returns-5 : tie.Need-returns-5
+returns-5 : tie.Need-returns
 returns-5 c =
-    let b = c.before.before.before.before in
-    let f = b.ranges in
-    number_decides (one b) (other b)
-    (read_lt f.ax f.bx c.before.before.before.if1.false)
-    (read_lt f.bx f.ax c.before.before.if2.false)
-    (read_lt f.ay f.by c.before.if3.false)
-    (read_lt f.by f.ay c.if4.false)
+    let f = c.ranges in
+    number_decides (one c.before.before.before.before) (other c.before.before.before.before)
+    (read_lt f.ax f.bx c.if-ax-bx.false)
+    (read_lt f.bx f.ax c.if-bx-ax.false)
+    (read_lt f.ay f.by c.if-ay-by.false)
+    (read_lt f.by f.ay c.if-by-ay.false)
 
 pub before_spec : {M : Type 1} → statement M
 before_spec = tie.close (tie.spec returns returns-2 returns-3 returns-4 returns-5)

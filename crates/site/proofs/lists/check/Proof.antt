@@ -13,16 +13,16 @@ use Rattle.site.proofs.lists.check.Tie as tie
 abbrev lent : tie.Start → Columns
 lent c = raised c.args.x.now c.args.y.now c.args.number.now c.args.height.now
 
-cast-t9 : tie.Need-overflow-cast-t9
-cast-t9 c = omega (arith, accepted_few (lent c.before.before.before) (sym c.before.list-refusal.ensures ∙ c.if1.true))
+cast-t9 : tie.Need-overflow_cast-result
+cast-t9 c = omega (arith, accepted_few (lent c.before.before.before) (sym c.list_refusal-refusal.ensures ∙ c.if-refusal-eq0.true))
 
-returns : tie.Need-returns
+returns : tie.Need-returns-then-refusal-eq0
 unfolding check_answer checked_answer
-returns c = answer_values (sym c.before.list-refusal.ensures ∙ c.if1.true)
+returns c = answer_values (sym c.list_refusal-refusal.ensures ∙ c.if-refusal-eq0.true)
 
-returns-2 : tie.Need-returns-2
+returns-2 : tie.Need-returns-else-refusal-eq0
 unfolding check_answer checked_answer
-returns-2 c = answer_refused (length c.before.before.before.args.x.now) c.before.list-refusal.ensures c.if1.false
+returns-2 c = answer_refused (length c.args.x.now) c.list_refusal-refusal.ensures c.if-refusal-eq0.false
 
 pub check_spec : {M : Type 1} → statement M
 check_spec = tie.close (tie.spec (λ c κs. search rules) cast-t9 returns returns-2)

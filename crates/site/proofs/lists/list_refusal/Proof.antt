@@ -10,55 +10,46 @@ use Rattle.site.proofs.Refusal.{raised_unequal, raised_few, unequal_height, rais
 use Rattle.site.proofs.lists.list_refusal.Statement.{statement}
 use Rattle.site.proofs.lists.list_refusal.Tie as tie
 
-returns : tie.Need-returns
+returns : tie.Need-returns-then-flat-eq1
 returns c =
-    let f = c.before in
-    let a = f.before.before.args in
-    raised_unequal a.x.now a.y.now a.number.now a.height.now (sym c.if1.true ∙ f.plane-refusal.ensures)
+    let a = c.args in
+    raised_unequal a.x.now a.y.now a.number.now a.height.now (sym c.if-flat-eq1.true ∙ c.plane_refusal-flat.ensures)
 
 -- No fault of sizes in the plane.
-sizes : (c : tie.Else1) → (let a = c.before.before.before.args in list_refusal (columns a.x.now a.y.now a.number.now) ≡ 1) → ⊥
-sizes c e = c.if1.false (c.before.plane-refusal.ensures ∙ e)
+sizes : (c : tie.Else-flat-eq1) → (let a = c.before.before.before.args in list_refusal (columns a.x.now a.y.now a.number.now) ≡ 1) → ⊥
+sizes c e = c.if-flat-eq1.false (c.plane_refusal-flat.ensures ∙ e)
 
-returns-2 : tie.Need-returns-2
+returns-2 : tie.Need-returns-then-x-height
 returns-2 c =
-    let f = c.before.before in
-    let a = f.before.before.args in
-    unequal_height a.x.now a.y.now a.number.now a.height.now (sizes c.before) c.if2.true
+    let a = c.args in
+    unequal_height a.x.now a.y.now a.number.now a.height.now (sizes c.before) c.if-x-height.true
 
-returns-3 : tie.Need-returns-3
+returns-3 : tie.Need-returns-then-flat-eq2
 returns-3 c =
-    let d = c.before in
-    let f = d.before.before in
-    let a = f.before.before.args in
-    raised_outside a.x.now a.y.now a.number.now a.height.now (sizes d.before) d.if2.false
-    (sym c.if3.true ∙ f.plane-refusal.ensures)
+    let a = c.args in
+    raised_outside a.x.now a.y.now a.number.now a.height.now (sizes c.before.before) c.if-x-height.false
+    (sym c.if-flat-eq2.true ∙ c.plane_refusal-flat.ensures)
 
-all-between-requires : tie.Need-all-between-requires
+all-between-requires : tie.Need-all_between-requires
 all-between-requires c κs =
-    let d = c.before in
-    let f = d.before.before in
-    let a = f.before.before.args in
-    let few = raised_few a.x.now a.y.now a.number.now a.height.now (sizes d.before) in
-    omega (arith, d.if2.false)
+    let a = c.args in
+    let few = raised_few a.x.now a.y.now a.number.now a.height.now (sizes c.before.before) in
+    omega (arith, c.if-x-height.false)
 
-returns-4 : tie.Need-returns-4
+returns-4 : tie.Need-returns-then-not-all_between
 unfolding height_within
 returns-4 c =
-    let d = c.before.before.before in
-    let a = d.before.before.before.before.args in
-    height_outside a.x.now a.y.now a.number.now a.height.now (sizes d.before) d.if2.false
-    (sym c.before.all-between.ensures ∙ not-true c.before.all-between.result c.if4.true)
+    let a = c.args in
+    height_outside a.x.now a.y.now a.number.now a.height.now (sizes c.before.before.before.before) c.if-x-height.false
+    (sym c.all_between.ensures ∙ c.if-not-all_between.true)
 
-returns-5 : tie.Need-returns-5
+returns-5 : tie.Need-returns
 unfolding height_within
 returns-5 c =
-    let d = c.before.before.before in
-    let f = d.before.before in
-    let a = f.before.before.args in
-    f.plane-refusal.ensures
-    ∙ raised_same a.x.now a.y.now a.number.now a.height.now (sizes d.before) d.if2.false
-    (sym c.before.all-between.ensures ∙ not-false c.before.all-between.result c.if4.false)
+    let a = c.args in
+    c.plane_refusal-flat.ensures
+    ∙ raised_same a.x.now a.y.now a.number.now a.height.now (sizes c.before.before.before.before) c.if-x-height.false
+    (sym c.all_between.ensures ∙ c.if-not-all_between.false)
 
 pub list_refusal_spec : {M : Type 1} → statement M
 list_refusal_spec =

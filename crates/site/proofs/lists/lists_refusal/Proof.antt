@@ -9,14 +9,14 @@ use Rattle.site.proofs.lists.lists_refusal.Tie as tie
 abbrev second-lent : tie.Start → Columns
 second-lent c = raised c.args.bx.now c.args.by.now c.args.bn.now c.args.bh.now
 
-returns : tie.Need-returns
+returns : tie.Need-returns-then-first-ne0
 unfolding lists_refusal
 returns c =
-    first_refused (list_refusal (second-lent c.before.before.before.before)) c.before.list-refusal.ensures c.if1.true
+    first_refused (list_refusal (second-lent c.before.before.before.before)) c.list_refusal-first.ensures c.if-first-ne0.true
 
-returns-2 : tie.Need-returns-2
+returns-2 : tie.Need-returns
 unfolding lists_refusal
-returns-2 c = next_decides c.before.before.list-refusal.ensures c.before.if1.false c.list-refusal2.ensures
+returns-2 c = next_decides c.list_refusal-first.ensures c.if-first-ne0.false c.list_refusal.ensures
 
 pub lists_refusal_spec : {M : Type 1} → statement M
 lists_refusal_spec =

@@ -9,13 +9,13 @@ use Rattle.site.proofs.lists.outside.Statement.{statement}
 use Rattle.site.proofs.lists.outside.Tie as tie
 
 learnt : (c : tie.After-between) → c.between.result ≡ (let a = c.before.args in between a.low a.high a.c)
-learnt c = let f = c.before.ranges in c.between.ensures ∙ (λ i. between (to_z-of_z f.low i) (to_z-of_z f.high i) (to_z-of_z f.c i))
+learnt c = let f = c.ranges in c.between.ensures ∙ (λ i. between (to_z-of_z f.low i) (to_z-of_z f.high i) (to_z-of_z f.c i))
 
-returns : tie.Need-returns
-returns c = ap (λ (t : Bool). cond {A = ℕ} t 0 1) (sym c.if1.true ∙ learnt c.before)
+returns : tie.Need-returns-then-between
+returns c = ap (λ (t : Bool). cond {A = ℕ} t 0 1) (sym c.if-between.true ∙ learnt c.before)
 
-returns-2 : tie.Need-returns-2
-returns-2 c = ap (λ (t : Bool). cond {A = ℕ} t 0 1) (sym c.if1.false ∙ learnt c.before)
+returns-2 : tie.Need-returns-else-between
+returns-2 c = ap (λ (t : Bool). cond {A = ℕ} t 0 1) (sym c.if-between.false ∙ learnt c.before)
 
 pub outside_spec : {M : Type 1} → statement M
 outside_spec = tie.close (tie.spec (λ c κs. search rules) returns returns-2)

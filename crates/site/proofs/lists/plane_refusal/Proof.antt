@@ -15,65 +15,55 @@ use Rattle.site.proofs.lists.plane_refusal.Tie as tie
 abbrev lent : tie.Start → Columns
 lent c = columns c.args.x.now c.args.y.now c.args.number.now
 
-abbrev start : tie.Else3 → tie.Start
+abbrev start : tie.Else-x-gt65535 → tie.Start
 start c = c.before.before.before.before
 
-level : (c : tie.Else2) → Level (lent c.before.before.before)
-level c = level_by _ _ _ c.before.if1.false c.if2.false
+level : (c : tie.Else-x-number) → Level (lent c.before.before.before)
+level c = level_by _ _ _ c.if-x-y.false c.if-x-number.false
 
-inside_x : (c : tie.Else4) → all within (start c.before.before.before).args.x.now ≡ true
+inside_x : (c : tie.Else-not-column_between) → all within (start c.before.before.before).args.x.now ≡ true
 unfolding within
-inside_x c = sym c.before.column-between.ensures ∙ not-false c.before.column-between.result c.if4.false
+inside_x c = sym c.column_between.ensures ∙ c.if-not-column_between.false
 
-inside_y : (c : tie.Else5) → all within (start c.before.before.before.before.before).args.y.now ≡ true
+inside_y : (c : tie.Else-not-all_between) → all within (start c.before.before.before.before.before).args.y.now ≡ true
 unfolding within
-inside_y c = sym c.before.all-between.ensures ∙ not-false c.before.all-between.result c.if5.false
+inside_y c = sym c.all_between.ensures ∙ c.if-not-all_between.false
 
-returns : tie.Need-returns
-returns c = unequal_y (lent c.before.before) c.if1.true
+returns : tie.Need-returns-then-x-y
+returns c = unequal_y (lent c.before.before) c.if-x-y.true
 
-returns-2 : tie.Need-returns-2
-returns-2 c = unequal_number (lent c.before.before.before) c.before.if1.false c.if2.true
+returns-2 : tie.Need-returns-then-x-number
+returns-2 c = unequal_number (lent c.before.before.before) c.if-x-y.false c.if-x-number.true
 
-returns-3 : tie.Need-returns-3
-returns-3 c = too_many (lent c.before.before.before.before) c.if3.true
+returns-3 : tie.Need-returns-then-x-gt65535
+returns-3 c = too_many (lent c.before.before.before.before) c.if-x-gt65535.true
 
-ascends-requires : tie.Need-ascends-requires
-ascends-requires c κs = (level c.before, c.if3.false)
+ascends-requires : tie.Need-ascends-sorted-requires
+ascends-requires c κs = (level c.before, c.if-x-gt65535.false)
 
-column-between-requires : tie.Need-column-between-requires
+column-between-requires : tie.Need-column_between-requires
 column-between-requires c κs =
-    let e = c.before in
-    (search rules, λ s. ascending_sorted (lent (start e)) (level e.before) (sym c.ascends.ensures ∙ s))
+    (search rules, λ s. ascending_sorted (lent (start c.before)) (level c.before.before) (sym c.ascends-sorted.ensures ∙ s))
 
-returns-4 : tie.Need-returns-4
+returns-4 : tie.Need-returns-then-not-column_between
 unfolding within
 returns-4 c =
-    let e = c.before.before.before in
-    outside_x _ _ _ (level e.before) e.if3.false
-    (sym c.before.column-between.ensures ∙ not-true c.before.column-between.result c.if4.true)
+    outside_x _ _ _ (level c.before.before.before.before) c.if-x-gt65535.false
+    (sym c.column_between.ensures ∙ c.if-not-column_between.true)
 
-returns-5 : tie.Need-returns-5
+returns-5 : tie.Need-returns-then-not-all_between
 unfolding within
 returns-5 c =
-    let g = c.before.before in
-    let e = g.before.before.before in
-    outside_y _ _ _ (level e.before) e.if3.false (inside_x g)
-    (sym c.before.all-between.ensures ∙ not-true c.before.all-between.result c.if5.true)
+    outside_y _ _ _ (level c.before.before.before.before.before.before) c.if-x-gt65535.false (inside_x c.before.before)
+    (sym c.all_between.ensures ∙ c.if-not-all_between.true)
 
-returns-6 : tie.Need-returns-6
+returns-6 : tie.Need-returns-then-sorted
 returns-6 c =
-    let g = c.before.before.before in
-    let o = g.before.before in
-    let e = o.before in
-    accepted _ _ _ (level e.before) e.if3.false (inside_x g) (inside_y c.before) (sym o.ascends.ensures ∙ c.if6.true)
+    accepted _ _ _ (level c.before.before.before.before.before.before.before) c.if-x-gt65535.false (inside_x c.before.before.before) (inside_y c.before) (sym c.ascends-sorted.ensures ∙ c.if-sorted.true)
 
-returns-7 : tie.Need-returns-7
+returns-7 : tie.Need-returns-else-sorted
 returns-7 c =
-    let g = c.before.before.before in
-    let o = g.before.before in
-    let e = o.before in
-    unordered _ _ _ (level e.before) e.if3.false (inside_x g) (inside_y c.before) (sym o.ascends.ensures ∙ c.if6.false)
+    unordered _ _ _ (level c.before.before.before.before.before.before.before) c.if-x-gt65535.false (inside_x c.before.before.before) (inside_y c.before) (sym c.ascends-sorted.ensures ∙ c.if-sorted.false)
 
 pub plane_refusal_spec : {M : Type 1} → statement M
 plane_refusal_spec =

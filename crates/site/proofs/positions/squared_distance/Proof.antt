@@ -12,7 +12,7 @@ use Rattle.site.proofs.Distance.{squared_distance_plane, squared_distance_up, sq
 use Rattle.site.proofs.positions.squared_distance.Statement.{statement}
 use Rattle.site.proofs.positions.squared_distance.Tie as tie
 
-plane-distance-requires : tie.Need-plane-distance-requires
+plane-distance-requires : tie.Need-plane_distance-requires
 plane-distance-requires c κs =
     let f = c.ranges in
     let p = c.requires in (
@@ -22,35 +22,34 @@ plane-distance-requires c κs =
       rw (to_z-of_z f.by) p.1.1,
     )
 
-flat : (c : tie.After-plane-distance)
+flat : (c : tie.After-plane_distance)
     → let a = c.before.args in
-    c.plane-distance.result ≡ square (gap a.ax a.bx) + square (gap a.ay a.by)
+    c.plane_distance.result ≡ square (gap a.ax a.bx) + square (gap a.ay a.by)
 flat c =
-    let a = c.before.args in
-    let f = c.before.ranges in
+    let a = c.args in
+    let f = c.ranges in
     at₄ (λ (x y u v : ℤ). squared_distance (site x y 0) (site u v 0)) (to_z-of_z f.ax) (to_z-of_z f.ay) (to_z-of_z f.bx) (to_z-of_z f.by)
-    c.plane-distance.ensures
+    c.plane_distance.ensures
     ∙ squared_distance_plane a.ax a.ay a.bx a.by 0 0
 
-along_height : (c : tie.After-squared-gap)
+along_height : (c : tie.After-squared_gap)
     → let a = c.before.before.args in
-    c.squared-gap.result ≡ square (gap a.ah a.bh)
+    c.squared_gap.result ≡ square (gap a.ah a.bh)
 along_height c =
-    let f = c.before.before.ranges in
-    at₂ (λ (a b : ℤ). square (gap a b)) (to_z-of_z f.ah) (to_z-of_z f.bh) c.squared-gap.ensures
+    let f = c.ranges in
+    at₂ (λ (a b : ℤ). square (gap a b)) (to_z-of_z f.ah) (to_z-of_z f.bh) c.squared_gap.ensures
 
 -- The sum is the squared distance.
-whole : (c : tie.After-squared-gap)
+whole : (c : tie.After-squared_gap)
     → let a = c.before.before.args in
-    c.before.plane-distance.result + c.squared-gap.result
+    c.before.plane_distance.result + c.squared_gap.result
     ≡ square (gap a.ax a.bx) + square (gap a.ay a.by) + square (gap a.ah a.bh)
 whole c = ap₂ ◌+◌ (flat c.before) (along_height c)
 
-add-result : tie.Need-overflow-add-result
+add-result : tie.Need-overflow_add-result
 add-result c =
-    let s = c.before.before in
-    let a = s.args in
-    let p = s.requires in
+    let a = c.args in
+    let p = c.requires in
     omega (
       arith,
       whole c,
@@ -60,7 +59,7 @@ add-result c =
 
 returns : tie.Need-returns
 returns c =
-    let a = c.before.before.args in
+    let a = c.args in
     whole c ∙ sym (squared_distance_up a.ax a.ay a.ah a.bx a.by a.bh 0 0)
 
 pub squared_distance_spec : {M : Type 1} → statement M

@@ -8,11 +8,11 @@ use Rattle.site.proofs.Signed.{at₂, gap_squared_fits}
 use Rattle.site.proofs.positions.squared_gap.Statement.{statement}
 use Rattle.site.proofs.positions.squared_gap.Tie as tie
 
-learnt : (c : tie.After-gap) → c.gap.result ≡ gap c.before.args.a c.before.args.b
-learnt c = at₂ gap (to_z-of_z c.before.ranges.a) (to_z-of_z c.before.ranges.b) c.gap.ensures
+learnt : (c : tie.After-gap-g) → c.gap-g.result ≡ gap c.before.args.a c.before.args.b
+learnt c = at₂ gap (to_z-of_z c.ranges.a) (to_z-of_z c.ranges.b) c.gap-g.ensures
 
-mul-result : tie.Need-overflow-mul-result
-mul-result c = gap_squared_fits c.before.ranges.a c.before.ranges.b (learnt c)
+mul-result : tie.Need-overflow_mul-result
+mul-result c = gap_squared_fits c.ranges.a c.ranges.b (learnt c)
 
 returns : tie.Need-returns
 unfolding square

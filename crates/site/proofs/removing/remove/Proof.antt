@@ -17,8 +17,8 @@ use Rattle.site.proofs.RemoveSite.{removed_low}
 use Rattle.site.proofs.removing.remove.Statement.{statement}
 use Rattle.site.proofs.removing.remove.Tie as tie
 
-abbrev start : tie.After-remove-refusal → tie.Start
-start c = c.before.before.before.before.before.before
+abbrev start : tie.After-remove_refusal-refusal → tie.Start
+start c = c.before.before
 
 abbrev lent : tie.Start → Columns
 lent c = raised c.args.x.now c.args.y.now c.args.number.now c.args.height.now
@@ -26,72 +26,70 @@ lent c = raised c.args.x.now c.args.y.now c.args.number.now c.args.height.now
 abbrev asked : tie.Start → Site
 asked c = site c.args.sx c.args.sy c.args.sn
 
-learnt : (c : tie.After-remove-refusal)
-    → c.remove-refusal.result ≡ remove_refusal (lent (start c)) (start c).args.count (asked (start c))
+learnt : (c : tie.After-remove_refusal-refusal)
+    → c.remove_refusal-refusal.result ≡ remove_refusal (lent (start c)) (start c).args.count (asked (start c))
 learnt c =
     let e = start c in
-    c.remove-refusal.ensures
-    ∙ (λ i. remove_refusal (lent e) e.args.count (site (to_z-of_z e.fits.sx i) (to_z-of_z e.fits.sy i) e.args.sn))
+    c.remove_refusal-refusal.ensures
+    ∙ (λ i. remove_refusal (lent e) e.args.count (site (to_z-of_z e.ranges.sx i) (to_z-of_z e.ranges.sy i) e.args.sn))
 
 -- The way back from each place.
-abbrev begun : tie.Else1 → tie.Start
+abbrev begun : tie.Else-refusal-ne0 → tie.Start
 begun c = start c.before
 
-abbrev passed : tie.After-place-of → tie.Else1
-passed c = c.before.before.before.before
+abbrev passed : tie.After-place_of-place → tie.Else-refusal-ne0
+passed c = c.before
 
-accepted : (c : tie.Else1) → remove_refusal (lent (begun c)) (begun c).args.count (asked (begun c)) ≡ 0
-accepted c = sym (learnt c.before) ∙ c.if1.false
+accepted : (c : tie.Else-refusal-ne0) → remove_refusal (lent (begun c)) (begun c).args.count (asked (begun c)) ≡ 0
+accepted c = sym (learnt c.before) ∙ c.if-refusal-ne0.false
 
-used : (c : tie.Else1) → used_refusal (lent (begun c)) (begun c).args.count ≡ 0
+used : (c : tie.Else-refusal-ne0) → used_refusal (lent (begun c)) (begun c).args.count ≡ 0
 used c = let e = begun c in removed_used (lent e) e.args.count (asked e) (accepted c)
 
-level : (c : tie.Else1) → Level (lent (begun c))
+level : (c : tie.Else-refusal-ne0) → Level (lent (begun c))
 level c = let e = begun c in used_level (lent e) e.args.count (used c)
 
-returns : tie.Need-returns
+returns : tie.Need-returns-then-refusal-ne0
 unfolding remove_answer
-returns c = let e = start c.before in unchanged _ (lent e) (learnt c.before) c.if1.true
+returns c = let e = start c.before in unchanged _ (lent e) (learnt c.before) c.if-refusal-ne0.true
 
-place-of-requires : tie.Need-place-of-requires
+place-of-requires : tie.Need-place_of-place-requires
 place-of-requires c κs =
-    let f = c.before.before.before in
-    let e = begun f in
-    (used_asked (lent e) e.args.count (used f)).0
+    let e = begun c in
+    (used_asked (lent e) e.args.count (used c)).0
 
-learnt_place : (c : tie.After-place-of)
-    → (let e = begun (passed c) in c.place_of.result ≡ place_of (asked e) (sites (in_use e.args.count (lent e))))
+learnt_place : (c : tie.After-place_of-place)
+    → (let e = begun (passed c) in c.place_of-place.result ≡ place_of (asked e) (sites (in_use e.args.count (lent e))))
 learnt_place c =
     let f = passed c in
     let e = begun f in
     let n = e.args.count in
-    c.place_of.ensures
-    ∙ (λ i. place_of (site (to_z-of_z e.fits.sx i) (to_z-of_z e.fits.sy i) e.args.sn) (sites (in_use n (flattened (lent e)))))
+    c.place_of-place.ensures
+    ∙ (λ i. place_of (site (to_z-of_z e.ranges.sx i) (to_z-of_z e.ranges.sy i) e.args.sn) (sites (in_use n (flattened (lent e)))))
     ∙ in_use_place (lent e) n (level f) (used_inside (lent e) n (used f)) (asked e)
 
-low : (c : tie.After-place-of) → c.place_of.result < (begun (passed c)).args.count
+low : (c : tie.After-place_of-place) → c.place_of-place.result < (begun (passed c)).args.count
 low c =
     let f = passed c in
     let e = begun f in
     omega (arith, learnt_place c, removed_low (lent e) e.args.count (asked e) (accepted f))
 
-remove-site-requires : tie.Need-remove-site-requires
+remove-site-requires : tie.Need-remove_site-requires
 unfolding All
 remove-site-requires c κs =
-    let g = c.before.before.before.before in
-    let f = passed g in
+    let f = passed c.before.before.before.before in
     let e = begun f in
     let inside = used_inside (lent e) e.args.count (used f) in
-    (low g, inside, omega (arith, inside, (level f).y), omega (arith, inside, (level f).number), omega (arith, inside, (level f).further.0))
+    (low c.before.before.before.before, inside, omega (arith, inside, (level f).y), omega (arith, inside, (level f).number), omega (arith, inside, (level f).further.0))
 
 -- From the end back to the call that takes the site out.
-abbrev taken_out : tie.After-height → tie.After-remove-site
+abbrev taken_out : tie.After-height-1 → tie.After-remove_site
 taken_out c = c.before.before.before.before.before
 
-abbrev found : tie.After-remove-site → tie.After-place-of
+abbrev found : tie.After-remove_site → tie.After-place_of-place
 found h = h.before.before.before.before.before
 
-returns-2 : tie.Need-returns-2
+returns-2 : tie.Need-returns
 unfolding remove_answer
 returns-2 c =
     let h = taken_out c in
@@ -99,7 +97,7 @@ returns-2 c =
     let e = begun (passed g) in
     let n = e.args.count in
     changed _ (lent e) (accepted (passed g))
-    (λ i. change_values ((h.remove-site.ensures ∙ ap (λ (p : ℕ). remove_site p n (lent e)) (learnt_place g)) i) (learnt_place g i) (n - 1))
+    (λ i. change_values ((h.remove_site.ensures ∙ ap (λ (p : ℕ). remove_site p n (lent e)) (learnt_place g)) i) (learnt_place g i) (n - 1))
 
 pub remove_spec : {M : Type 1} → statement M
 remove_spec =

@@ -26,20 +26,20 @@ reach c =
     let second = c.before.before.before in
     let first = second.before.before in
     let contents = first.before.before in
-    held_reach _ _ _ _ _ contents.before.contents-refusal.ensures contents.if1.false
+    held_reach _ _ _ _ _ contents.before.contents_refusal.ensures contents.if1.false
     first.before.word_at.ensures
-    first.if2.false second.before.word-at2.ensures second.if3.false c.before.before.count-in.ensures
+    first.if2.false second.before.word-at2.ensures second.if3.false c.before.before.count_in.ensures
     c.before.if4.false c.held_start.ensures
 
 returns : tie.Need-returns
 unfolding site_read_answer
-returns c = held_refused _ _ _ _ _ c.before.contents-refusal.ensures c.if1.true
+returns c = held_refused _ _ _ _ _ c.before.contents_refusal.ensures c.if1.true
 
 returns-2 : tie.Need-returns-2
 unfolding site_read_answer
 returns-2 c =
     let contents = c.before.before in
-    held_first_wrong _ _ _ _ _ contents.before.contents-refusal.ensures contents.if1.false
+    held_first_wrong _ _ _ _ _ contents.before.contents_refusal.ensures contents.if1.false
     c.before.word_at.ensures c.if2.true
 
 returns-3 : tie.Need-returns-3
@@ -47,7 +47,7 @@ unfolding site_read_answer
 returns-3 c =
     let first = c.before.before in
     let contents = first.before.before in
-    held_second_wrong _ _ _ _ _ contents.before.contents-refusal.ensures contents.if1.false
+    held_second_wrong _ _ _ _ _ contents.before.contents_refusal.ensures contents.if1.false
     first.before.word_at.ensures first.if2.false c.before.word-at2.ensures c.if3.true
 
 returns-4 : tie.Need-returns-4
@@ -56,9 +56,9 @@ returns-4 c =
     let second = c.before.before in
     let first = second.before.before in
     let contents = first.before.before in
-    held_past _ _ _ _ _ contents.before.contents-refusal.ensures contents.if1.false
+    held_past _ _ _ _ _ contents.before.contents_refusal.ensures contents.if1.false
     first.before.word_at.ensures
-    first.if2.false second.before.word-at2.ensures second.if3.false c.before.count-in.ensures
+    first.if2.false second.before.word-at2.ensures second.if3.false c.before.count_in.ensures
     c.if4.true
 
 returns-5 : tie.Need-returns-5
@@ -67,11 +67,11 @@ returns-5 c =
     let second = c.before.before.before.before in
     let first = second.before.before in
     let contents = first.before.before in
-    held_found _ _ _ _ _ contents.before.contents-refusal.ensures contents.if1.false
+    held_found _ _ _ _ _ contents.before.contents_refusal.ensures contents.if1.false
     first.before.word_at.ensures
     first.if2.false second.before.word-at2.ensures second.if3.false
-    c.before.before.before.count-in.ensures
-    c.before.before.if4.false c.before.held_start.ensures c.site-at.ensures
+    c.before.before.before.count_in.ensures
+    c.before.before.if4.false c.before.held_start.ensures c.site_at.ensures
 
 pub site_from_spec : {M : Type 1} → statement M
 site_from_spec =

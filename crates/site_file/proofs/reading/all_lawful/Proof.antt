@@ -25,14 +25,14 @@ loop-holds c = (search rules, refl)
 returns : tie.Need-returns invariant-loop decreases-loop
 returns c =
     let test = c.before.before in
-    lawful_stop _ _ _ test.loop-test.true (sym c.before.lawful-at.ensures ∙ not-true _ c.if1.true)
+    lawful_stop _ _ _ test.loop-test.true (sym c.before.lawful_at.ensures ∙ not-true _ c.if1.true)
     ∙ test.before.loop.invariant.1
 
 loop-again : tie.Need-loop-preserved invariant-loop decreases-loop
 loop-again c =
     let test = c.before.before in (
       search rules,
-      lawful_step _ _ _ test.loop-test.true (sym c.before.lawful-at.ensures ∙ not-false _ c.if1.false)
+      lawful_step _ _ _ test.loop-test.true (sym c.before.lawful_at.ensures ∙ not-false _ c.if1.false)
           ∙ test.before.loop.invariant.1,
     )
 

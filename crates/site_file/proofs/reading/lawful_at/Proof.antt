@@ -6,12 +6,12 @@ use Rattle.site_file.proofs.reading.lawful_at.Tie as tie
 
 returns : tie.Need-returns
 returns c =
-    lawful_made _ _ c.before.before.before.before.before.site-at.ensures (search rules)
+    lawful_made _ _ c.before.before.before.before.before.site_at.ensures (search rules)
     c.before.before.before.within.ensures c.before.before.if1.true (search rules) c.within2.ensures
 
 returns-2 : tie.Need-returns-2
 returns-2 c =
-    lawful_not _ _ c.before.before.before.site-at.ensures (search rules) c.before.within.ensures
+    lawful_not _ _ c.before.before.before.site_at.ensures (search rules) c.before.within.ensures
     c.if1.false
 
 pub lawful_at_spec : {M : Type 1} → statement M

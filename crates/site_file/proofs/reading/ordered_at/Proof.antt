@@ -6,7 +6,7 @@ use Rattle.site_file.proofs.reading.ordered_at.Tie as tie
 
 returns : tie.Need-returns
 returns c =
-    ordered_made _ _ c.before.before.before.before.before.before.site-at.ensures
+    ordered_made _ _ c.before.before.before.before.before.before.site_at.ensures
     c.before.before.before.before.before.site-at2.ensures (search rules) (search rules) (search rules)
     (search rules) c.before2.ensures
 

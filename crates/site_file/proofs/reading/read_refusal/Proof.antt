@@ -8,23 +8,23 @@ use Rattle.site_file.proofs.reading.read_refusal.Tie as tie
 
 -- What lawful contents say.
 known : (c : tie.Else1) → Laid c.before.before.before.args.file.now
-known c = laid _ (sym c.before.contents-refusal.ensures ∙ c.if1.false)
+known c = laid _ (sym c.before.contents_refusal.ensures ∙ c.if1.false)
 
 returns : tie.Need-returns
-returns c = read_stops _ c.before.contents-refusal.ensures c.if1.true
+returns c = read_stops _ c.before.contents_refusal.ensures c.if1.true
 
 returns-2 : tie.Need-returns-2
 returns-2 c =
     let test = c.before.before.before in
-    read_first _ test.before.contents-refusal.ensures test.if1.false c.before.before.word_at.ensures
-    c.before.content-refusal.ensures c.if2.true
+    read_first _ test.before.contents_refusal.ensures test.if1.false c.before.before.word_at.ensures
+    c.before.content_refusal.ensures c.if2.true
 
 returns-3 : tie.Need-returns-3
 returns-3 c =
     let next = c.before.before.before in
     let test = next.before.before.before in
-    read_second _ test.before.contents-refusal.ensures test.if1.false next.before.before.word_at.ensures
-    next.before.content-refusal.ensures next.if2.false c.before.before.word-at2.ensures
+    read_second _ test.before.contents_refusal.ensures test.if1.false next.before.before.word_at.ensures
+    next.before.content_refusal.ensures next.if2.false c.before.before.word-at2.ensures
     c.before.word-at3.ensures
     c.content-refusal2.ensures
 

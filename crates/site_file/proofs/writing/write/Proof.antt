@@ -24,13 +24,13 @@ stored c = c.before.before.before.before.before.before.before.before.before.befo
 
 -- What is known where nothing refuses.
 known : (c : tie.Else1) → Ready (first c) (second c) (length (start c).args.buffer.now)
-known c = ready _ _ _ (sym c.before.write-refusal.ensures ∙ c.if1.false)
+known c = ready _ _ _ (sym c.before.write_refusal.ensures ∙ c.if1.false)
 
 returns : tie.Need-returns
 unfolding written_answer
 returns c =
     let call = c.before in
-    write_refused _ _ call.before.before.before.before.args.buffer.now call.write-refusal.ensures
+    write_refused _ _ call.before.before.before.before.args.buffer.now call.write_refusal.ensures
     c.if1.true
 
 put-sites-requires : tie.Need-put-sites-requires
@@ -52,7 +52,7 @@ unfolding written_answer
 returns-2 c =
     let last = c.before.before in
     let test = stored last in
-    write_answered _ _ (start test).args.buffer.now test.before.write-refusal.ensures test.if1.left
+    write_answered _ _ (start test).args.buffer.now test.before.write_refusal.ensures test.if1.left
     last.before.before.before.before.before.before.before.before.put-contents.ensures last.before.before.before.before.put-sites.ensures
     last.put-sites2.ensures
 

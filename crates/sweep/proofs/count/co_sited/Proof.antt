@@ -131,7 +131,7 @@ equal-pairs-requires c κs =
 
 add-count : tie.Need-overflow-add-count invariant-loop decreases-loop
 add-count c =
-    let r = c.before.before.before in omega (arith, c.equal-pairs.ensures, runs r, few (inside r), (inside r).before.before.loop.invariant.2)
+    let r = c.before.before.before in omega (arith, c.equal_pairs.ensures, runs r, few (inside r), (inside r).before.before.loop.invariant.2)
 
 loop-less-3 : tie.Need-loop-smaller-3 invariant-loop decreases-loop
 loop-less-3 c =
@@ -144,7 +144,7 @@ loop-again-3 c =
     let r = c.before.before.before in (
       r.before.run-end.ensures.inside,
       r.run-end2.ensures.inside,
-      omega (arith, c.equal-pairs.ensures, runs r, (inside r).before.before.loop.invariant.2),
+      omega (arith, c.equal_pairs.ensures, runs r, (inside r).before.before.loop.invariant.2),
     )
 
 returns : tie.Need-returns invariant-loop decreases-loop

@@ -9,10 +9,10 @@ mul-all : tie.Need-overflow-mul-all
 mul-all c = omega (arith, all_few c.requires.0 c.requires.1)
 
 sub-result : tie.Need-overflow-sub-result
-sub-result c = let s = c.before.requires in omega (arith, pairs_counted s.0 s.1, c.co-sited.ensures)
+sub-result c = let s = c.before.requires in omega (arith, pairs_counted s.0 s.1, c.co_sited.ensures)
 
 returns : tie.Need-returns
-returns c = let s = c.before.requires in pairs_numbered s.0 s.1 c.co-sited.ensures
+returns c = let s = c.before.requires in pairs_numbered s.0 s.1 c.co_sited.ensures
 
 pub count_pairs_spec : {M : Type 1} → statement M
 count_pairs_spec =

@@ -48,7 +48,7 @@ returns-4 c =
     let d = n.before.before.before in
     let e = passed d in
     let g = e.before.before in
-    rw c.gone-on.ensures
+    rw c.gone_on.ensures
     (look_offers (start g).pre g.squared-gap-at.ensures d.squared-distance-at.ensures e.if1.left
     (eqb-false _ _ n.if4.false) (rw t.if5.true p.pair.ensures) o.offer.ensures)
 

@@ -50,7 +50,7 @@ returns c =
     let u = to_z-of_z (sfits_of v.before.before.squared-distance-arg.given) in
     let w = to_z-of_z (sfits_of v.before.squared-distance-arg2.given) in
     let k = to_z-of_z (sfits_of v.squared-distance-arg3.given) in
-    c.squared-distance.ensures ∙ (λ i. squared_distance (raised_site (x i) (y i) 0 (h i)) (raised_site (u i) (w i) 0 (k i)))
+    c.squared_distance.ensures ∙ (λ i. squared_distance (raised_site (x i) (y i) 0 (h i)) (raised_site (u i) (w i) 0 (k i)))
 
 pub squared_distance_at_spec : {M : Type 1} → statement M
 squared_distance_at_spec =

@@ -41,7 +41,7 @@ scan-right-requires c κs =
     let a = c.before.before.before in
     let u = a.before.before.before in
     let l = u.before.before in
-    invariant_ask_first l.before.before.before.before.before.before.requires l.loop.invariant.1 u.before.loop-test.true (below u) a.reference-at.ensures
+    invariant_ask_first l.before.before.before.before.before.before.requires l.loop.invariant.1 u.before.loop-test.true (below u) a.reference_at.ensures
 
 add-i : tie.Need-overflow-add-i invariant-loop decreases-loop
 add-i c =
@@ -60,7 +60,7 @@ loop-again c =
     let l = u.before.before in
     let p =
     invariant_first l.before.before.before.before.before.before.requires l.loop.invariant.1 u.before.loop-test.true (below u) w.before.first_next.ensures
-    w.if2.true a.reference-at.ensures d.scan-right.ensures in
+    w.if2.true a.reference_at.ensures d.scan-right.ensures in
     (within_lengths p.updated.rest, p)
 
 reference-at-requires-2 : tie.Need-reference-at-requires-2 invariant-loop decreases-loop

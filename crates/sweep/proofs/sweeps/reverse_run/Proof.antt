@@ -37,7 +37,7 @@ scan-left-requires c κs =
     let a = c.before.before.before in
     let w = a.before in
     let l = w.before.before in
-    invariant_ask_first l.before.before.before.before.before.before.requires l.references.invariant.1 w.before.first_next.ensures w.if1.true a.reference-at.ensures
+    invariant_ask_first l.before.before.before.before.before.before.requires l.references.invariant.1 w.before.first_next.ensures w.if1.true a.reference_at.ensures
 
 add-i : tie.Need-overflow-add-i invariant-references decreases-references
 add-i c = let w = c.before.before.before.before.before.before.before.before.before.before.before in omega (arith, in_first w, w.before.before.before.before.before.before.before.before.ranges.a-to)
@@ -52,7 +52,7 @@ references-again c =
     let w = a.before in
     let l = w.before.before in
     let p =
-    invariant_first l.before.before.before.before.before.before.requires l.references.invariant.1 w.before.first_next.ensures w.if1.true a.reference-at.ensures d.scan-left.ensures in
+    invariant_first l.before.before.before.before.before.before.requires l.references.invariant.1 w.before.first_next.ensures w.if1.true a.reference_at.ensures d.scan-left.ensures in
     (within_lengths p.updated.rest, p)
 
 reference-at-requires-2 : tie.Need-reference-at-requires-2 invariant-references decreases-references

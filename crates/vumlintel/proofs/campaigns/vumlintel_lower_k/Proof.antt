@@ -22,7 +22,7 @@ unfolding answered_grid
 returns c =
     let call = c.before in
     crossed_refusal
-    (answer_refused _ refl c.if1.true ∙ lower_of _ _ _ _ _ call.before.get.ensures call.lower-k.ensures.0) refl
+    (answer_refused _ refl c.if1.true ∙ lower_of _ _ _ _ _ call.before.get.ensures call.lower_k.ensures.0) refl
 
 returns-2 : tie.Need-returns-2
 unfolding answered_grid
@@ -30,7 +30,7 @@ returns-2 c =
     let test = c.before.before.before.before.before.before.before.before.before.before.before in
     let call = test.before in
     crossed_values
-    (answer_values test.if1.false ∙ lower_of _ _ _ _ _ call.before.get.ensures call.lower-k.ensures.0) c.put.ensures
+    (answer_values test.if1.false ∙ lower_of _ _ _ _ _ call.before.get.ensures call.lower_k.ensures.0) c.put.ensures
 
 pub vumlintel_lower_k_spec : {M : Type 1} → statement M
 vumlintel_lower_k_spec =

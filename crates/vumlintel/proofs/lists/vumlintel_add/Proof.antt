@@ -8,7 +8,7 @@ returns : tie.Need-returns
 returns c =
     let call = c.before.before.before.before.before.before.before.before in
     let start = call.before.before.before.before.before.before in
-    let new = site_up_of start.args.site-number start.ranges.site-x start.ranges.site-y start.ranges.site-height in
+    let new = site_up_of start.args.site_number start.ranges.site-x start.ranges.site-y start.ranges.site-height in
     crossed_change _ (rw new at call.add.ensures) c.cross-changed.ensures
 
 pub vumlintel_add_spec : {M : Type 1} → statement M

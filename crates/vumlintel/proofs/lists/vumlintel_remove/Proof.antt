@@ -8,7 +8,7 @@ returns : tie.Need-returns
 returns c =
     let call = c.before.before.before.before.before.before.before.before in
     let start = call.before.before.before.before.before.before in
-    let asked = site_of_lem start.args.site-number start.ranges.site-x start.ranges.site-y in
+    let asked = site_of_lem start.args.site_number start.ranges.site-x start.ranges.site-y in
     crossed_change _ (rw asked at call.remove.ensures) c.cross-changed.ensures
 
 pub vumlintel_remove_spec : {M : Type 1} → statement M

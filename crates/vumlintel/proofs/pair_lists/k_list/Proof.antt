@@ -9,13 +9,13 @@ use Rattle.vumlintel.proofs.pair_lists.k_list.Tie as tie
 returns : tie.Need-returns
 unfolding listed_answer
 returns c =
-    let call = c.before.before.before.before.before.before.before.before.before.k-list.ensures in
+    let call = c.before.before.before.before.before.before.before.before.before.k_list.ensures in
     crossed_values (rw c.before.answer.given.1 at call.0) refl
 
 returns-2 : tie.Need-returns-2
 unfolding listed_answer
 returns-2 c =
-    let call = c.before.before.before.before.before.before.before.before.before.k-list.ensures in
+    let call = c.before.before.before.before.before.before.before.before.before.k_list.ensures in
     let told = rw c.before.answer2.given.1 at call.0 in
     crossed_refusal told (rw (refusal_leaves _ told call.1))
 

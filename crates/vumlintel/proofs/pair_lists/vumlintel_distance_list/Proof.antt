@@ -8,7 +8,7 @@ use Rattle.vumlintel.proofs.pair_lists.vumlintel_distance_list.Tie as tie
 
 returns : tie.Need-returns
 returns c =
-    let call = c.before.before.before.before.before.before.distance-list.ensures in
+    let call = c.before.before.before.before.before.before.distance_list.ensures in
     crossed_number _ (within_over _ _ ∙ call.0)
     (λ n told. ap₂ distance_values (refusal_leaves _ told call.1.0) (refusal_leaves _ told call.1.1))
     c.cross-within.ensures

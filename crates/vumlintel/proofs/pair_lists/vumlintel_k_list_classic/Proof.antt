@@ -6,7 +6,7 @@ use Rattle.vumlintel.proofs.pair_lists.vumlintel_k_list_classic.Statement.{state
 use Rattle.vumlintel.proofs.pair_lists.vumlintel_k_list_classic.Tie as tie
 
 returns : tie.Need-returns
-returns c = list_by_sweep _ _ _ _ Classic c.before.before.before.before.before.before.k-list.ensures
+returns c = list_by_sweep _ _ _ _ Classic c.before.before.before.before.before.before.k_list.ensures
 
 pub vumlintel_k_list_classic_spec : {M : Type 1} → statement M
 vumlintel_k_list_classic_spec =

@@ -5,7 +5,7 @@ use Rattle.vumlintel.proofs.pair_lists.vumlintel_k_list_halves.Statement.{statem
 use Rattle.vumlintel.proofs.pair_lists.vumlintel_k_list_halves.Tie as tie
 
 returns : tie.Need-returns
-returns c = list_by_halves _ _ _ _ c.before.before.before.before.before.before.k-list.ensures
+returns c = list_by_halves _ _ _ _ c.before.before.before.before.before.before.k_list.ensures
 
 pub vumlintel_k_list_halves_spec : {M : Type 1} → statement M
 vumlintel_k_list_halves_spec =

@@ -6,7 +6,7 @@ use Rattle.vumlintel.proofs.pair_lists.vumlintel_k_list_reverse_run.Statement.{s
 use Rattle.vumlintel.proofs.pair_lists.vumlintel_k_list_reverse_run.Tie as tie
 
 returns : tie.Need-returns
-returns c = list_by_sweep _ _ _ _ ReverseRun c.before.before.before.before.before.before.k-list.ensures
+returns c = list_by_sweep _ _ _ _ ReverseRun c.before.before.before.before.before.before.k_list.ensures
 
 pub vumlintel_k_list_reverse_run_spec : {M : Type 1} → statement M
 vumlintel_k_list_reverse_run_spec =
