@@ -19,7 +19,7 @@ ghost use Rattle.bands.specs.Internal.{edited_at};
 // A band of squared distances and its price: a pair is in it where `from` squared is at most its squared distance and
 // `to` squared is greater.
 #[repr(C)]
-#[derive(Drop)]
+#[derive(Clone, Copy)]
 pub struct Band {
     pub from: u32,
     pub to: u32,
@@ -38,7 +38,7 @@ impl Band {
 
 // A table of bands by value: how many it has, its refusal (0 for none), where the last band taken ends, and for each
 // band taken the square of its end and its price. Places past the bands end where the last band does.
-#[derive(Drop)]
+#[derive(Clone, Copy)]
 struct Tariff {
     bands: usize,
     refusal: u32,
@@ -48,14 +48,14 @@ struct Tariff {
 }
 
 // What an edit answers: the place, or the refusal's number.
-#[derive(Drop)]
+#[derive(Clone, Copy)]
 pub enum Edited {
     At(u32),
     Refused(u32),
 }
 
 // What pricing answers: the total, or the refusal's number.
-#[derive(Drop)]
+#[derive(Clone, Copy)]
 pub enum Priced {
     Total(u64),
     Refused(u32),

@@ -15,21 +15,21 @@ use customers::Grid;
 use join::Counters;
 
 // What jobs add up to: how many were skipped, and the sum of each counter.
-#[derive(Drop)]
+#[derive(Clone, Copy)]
 pub struct Sums {
     pub skipped: u32,
     pub counters: Counters,
 }
 
 // How several jobs in one call ended.
-#[derive(Drop)]
+#[derive(Clone, Copy)]
 pub enum BatchOutcome {
     Done(Sums),
     Refused(u32),
 }
 
 // What several jobs in one call answer: the grid, and how they ended.
-#[derive(Drop)]
+#[derive(Clone, Copy)]
 pub struct BatchDone {
     pub grid: Grid,
     pub outcome: BatchOutcome,

@@ -15,21 +15,21 @@ use customers::Grid;
 use join::Counters;
 
 // Where a strip starts and ends.
-#[derive(Drop)]
+#[derive(Clone, Copy)]
 struct Strip {
     from: usize,
     to: usize,
 }
 
 // What preparing, opening and a smaller K answer: the refusal's number, 0 for none, and the grid.
-#[derive(Drop)]
+#[derive(Clone, Copy)]
 pub struct Answered {
     pub refusal: u32,
     pub grid: Grid,
 }
 
 // How a job ended.
-#[derive(Drop)]
+#[derive(Clone, Copy)]
 pub enum Outcome {
     Swept(Counters),
     Skipped,
@@ -37,14 +37,14 @@ pub enum Outcome {
 }
 
 // What a job answers: the grid, and how the job ended.
-#[derive(Drop)]
+#[derive(Clone, Copy)]
 pub struct JobDone {
     pub grid: Grid,
     pub outcome: Outcome,
 }
 
 // What status answers, or the refusal's number.
-#[derive(Drop)]
+#[derive(Clone, Copy)]
 pub enum Status {
     Counts {
         settled: u32,

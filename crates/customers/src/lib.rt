@@ -16,7 +16,7 @@ ghost use Rattle.customers.specs.Customers.{
 
 // Both customers' campaigns: the cut ends of both lists, a mark from 0 to 3 for each job, and the K and the entry count of
 // each customer. (02 e: the grid.)
-#[derive(Drop)]
+#[derive(Clone, Copy)]
 pub struct Grid {
     pub first_strips: u32,
     pub second_strips: u32,
@@ -30,7 +30,7 @@ pub struct Grid {
 }
 
 // One customer's part of the grid: K, the entry count, the cut ends of both lists and a mark for each job. (01: campaign.)
-#[derive(Drop)]
+#[derive(Clone, Copy)]
 pub struct Campaign {
     pub k: u32,
     pub entries: u32,

@@ -13,7 +13,7 @@ pub use heap::put;
 pub use queues::{finish, offer, start};
 
 // A pair with its squared distance.
-#[derive(Drop)]
+#[derive(Clone, Copy)]
 pub struct Entry {
     pub distance: u64,
     pub first: u32,
@@ -22,7 +22,7 @@ pub struct Entry {
 
 // A list under way in the result columns: how many entries it has, where its last by rank stands once it is full (at
 // the end while none has come in, else at place 0), and the greatest squared distance at which a pair can still enter.
-#[derive(Drop)]
+#[derive(Clone, Copy)]
 pub struct Queue {
     pub count: usize,
     pub last: usize,
@@ -30,7 +30,7 @@ pub struct Queue {
 }
 
 // Where one entry stands to another by rank.
-#[derive(Drop)]
+#[derive(Clone, Copy)]
 pub enum Ordering {
     Before,
     Same,

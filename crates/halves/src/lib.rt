@@ -16,18 +16,18 @@ use entry::Queue;
 pub use gap::gap_beyond;
 
 // How many range pairs a join by halves visited.
-#[derive(Drop)]
+#[derive(Clone, Copy)]
 pub struct RangePairs(pub u64);
 
 // What a join by halves answers: the entry count and the range pairs.
-#[derive(Drop)]
+#[derive(Clone, Copy)]
 pub struct Halved {
     pub entries: u32,
     pub range_pairs: RangePairs,
 }
 
 // The places from `from` up to, not including, `to`, and the box of their sites.
-#[derive(Drop)]
+#[derive(Clone, Copy)]
 struct Range {
     from: usize,
     to: usize,
@@ -35,21 +35,21 @@ struct Range {
 }
 
 // A half of a range, and the gap squared of its box and the other range's.
-#[derive(Drop)]
+#[derive(Clone, Copy)]
 struct Half {
     range: Range,
     gap: u64,
 }
 
 // Both halves of a range, in the order of their visits.
-#[derive(Drop)]
+#[derive(Clone, Copy)]
 struct Halves {
     sooner: Half,
     later: Half,
 }
 
 // What a join carries: its count, and the list under way.
-#[derive(Drop)]
+#[derive(Clone, Copy)]
 struct Tally {
     range_pairs: u64,
     queue: Queue,

@@ -10,14 +10,14 @@ use halves::RangePairs;
 use sweep::{Distances, Looks, Way};
 
 // The three ways to join two strips: a sweep, or by halves. (01: sweep; 02 k: join by halves.)
-#[derive(Drop)]
+#[derive(Clone, Copy)]
 pub enum Join {
     Sweep(Way),
     Halves,
 }
 
 // What a join counted; what its way does not count is 0.
-#[derive(Drop)]
+#[derive(Clone, Copy)]
 pub struct Counters {
     pub looks: Looks,
     pub distances: Distances,
@@ -25,7 +25,7 @@ pub struct Counters {
 }
 
 // What a join answers: the entry count and the counters.
-#[derive(Drop)]
+#[derive(Clone, Copy)]
 pub struct Joined {
     pub entries: u32,
     pub counters: Counters,

@@ -12,21 +12,21 @@ pub use nearby::distance_list;
 pub use partners::forecast;
 
 // What a K list answers: the entry count and the counters, or the refusal's number.
-#[derive(Drop)]
+#[derive(Clone, Copy)]
 pub enum Listed {
     Entries { count: u32, counters: Counters },
     Refused(u32),
 }
 
 // What a distance list and a forecast answer: the number of pairs, or the refusal's number.
-#[derive(Drop)]
+#[derive(Clone, Copy)]
 pub enum Within {
     Pairs(u64),
     Refused(u32),
 }
 
 // The places of a list from `left` up to, not including, `right`.
-#[derive(Drop)]
+#[derive(Clone, Copy)]
 struct Run {
     left: usize,
     right: usize,

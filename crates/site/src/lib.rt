@@ -18,7 +18,7 @@ pub use positions::{at_most, gap, plane_distance, rise, squared_distance, square
 pub use removing::remove;
 
 // A position, a number and a height. (01: site; 02 l: height.)
-#[derive(Drop)]
+#[derive(Clone, Copy)]
 pub struct Site {
     pub x: i32,
     pub y: i32,
@@ -27,14 +27,14 @@ pub struct Site {
 }
 
 // What checking a list answers: how many sites it has, or the refusal's number.
-#[derive(Drop)]
+#[derive(Clone, Copy)]
 pub enum Checked {
     Sites(u32),
     Refused(u32),
 }
 
 // What adding or removing a site answers: its place and the new count in use, or the refusal's number.
-#[derive(Drop)]
+#[derive(Clone, Copy)]
 pub enum Changed {
     At { place: u32, count: u32 },
     Refused(u32),

@@ -12,28 +12,28 @@ pub use reading::{count_in, read};
 pub use writing::write;
 
 // Which of a file's two lists.
-#[derive(Drop)]
+#[derive(Clone, Copy)]
 pub enum Which {
     First,
     Second,
 }
 
 // What writing a file answers: its length, or the refusal's number.
-#[derive(Drop)]
+#[derive(Clone, Copy)]
 pub enum Written {
     Bytes(u32),
     Refused(u32),
 }
 
 // What reading a file answers: both site counts, or the refusal's number.
-#[derive(Drop)]
+#[derive(Clone, Copy)]
 pub enum FileRead {
     Counts { first: u32, second: u32 },
     Refused(u32),
 }
 
 // A site of a file: its x, y and number.
-#[derive(Drop)]
+#[derive(Clone, Copy)]
 pub struct FileSite {
     pub x: i32,
     pub y: i32,
@@ -41,14 +41,14 @@ pub struct FileSite {
 }
 
 // What consulting a file answers: the site, or the refusal's number.
-#[derive(Drop)]
+#[derive(Clone, Copy)]
 pub enum SiteRead {
     Found(FileSite),
     Refused(u32),
 }
 
 // A file with the starts of both its lists: its sites are read where they lie.
-#[derive(Drop)]
+#[derive(Clone, Copy)]
 pub struct Reader<'a> {
     pub file: &'a [u8],
     pub first: u32,

@@ -17,22 +17,22 @@ pub use count::count_pairs;
 use entry::Queue;
 
 // How many looks a sweep made.
-#[derive(Drop)]
+#[derive(Clone, Copy)]
 pub struct Looks(pub u64);
 
 // How many distances a sweep worked out.
-#[derive(Drop)]
+#[derive(Clone, Copy)]
 pub struct Distances(pub u64);
 
 // The two ways to sweep.
-#[derive(Drop)]
+#[derive(Clone, Copy)]
 pub enum Way {
     Classic,
     ReverseRun,
 }
 
 // What a sweep answers: the entry count, the looks and the distances.
-#[derive(Drop)]
+#[derive(Clone, Copy)]
 pub struct Swept {
     pub entries: u32,
     pub looks: Looks,
@@ -40,7 +40,7 @@ pub struct Swept {
 }
 
 // A reference: its coordinates, its place, and whether it is the second list's.
-#[derive(Drop)]
+#[derive(Clone, Copy)]
 struct Reference {
     x: i32,
     y: i32,
@@ -50,7 +50,7 @@ struct Reference {
 }
 
 // What a sweep carries: where the last scan to the left ended, both counters, and the list under way.
-#[derive(Drop)]
+#[derive(Clone, Copy)]
 struct Tally {
     at: usize,
     looks: u64,
@@ -59,7 +59,7 @@ struct Tally {
 }
 
 // What a look leaves: whether it stopped the scan, and the tally.
-#[derive(Drop)]
+#[derive(Clone, Copy)]
 struct Looked {
     stopped: bool,
     tally: Tally,
