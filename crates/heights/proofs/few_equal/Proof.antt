@@ -1,4 +1,5 @@
 -- `heights::few_equal` meets its contract. The invariant: what is found are the equal pairs of what was passed.
+use mir.Syntax.{w32}
 use mathlib.Core.Path.{◌≡◌, ◌∙◌, ap}
 use mathlib.Core.List.{List}
 use Prim.Native.Nat.{◌+◌, ◌-◌}
@@ -14,45 +15,39 @@ use Rattle.heights.proofs.Heights.{equal_pairs_nil, equal_pairs_first, equal_pai
 use Rattle.heights.proofs.few_equal.Statement.{statement}
 use Rattle.heights.proofs.few_equal.Tie as tie
 
-abbrev invariant-loop : tie.invariant-loop
+abbrev invariant-loop : tie.invariant-loop-i
 invariant-loop a b found₀ i₀ found i = found ≡ equal_pairs (take i a) b
 
-abbrev decreases-loop : tie.decreases-loop
+abbrev decreases-loop : tie.decreases-loop-i
 decreases-loop a b found₀ i₀ found i = length a - i
 
-loop-holds : tie.Need-loop-init invariant-loop decreases-loop
+loop-holds : tie.Need-loop-i-init invariant-loop decreases-loop
 loop-holds c = omega (arith, equal_pairs_nil c.args.b.now)
 
 -- What is found with the pairs of the height that is read.
-abbrev Found : tie.After-occurrences invariant-loop decreases-loop → Type 0
+abbrev Found : tie.After-occurrences-found invariant-loop decreases-loop → Type 0
 Found c =
-    let l = c.before.before.before in
-    l.loop.found + c.occurrences.result ≡ equal_pairs (take (l.loop.i + 1) l.before.args.a.now) l.before.args.b.now
+    c.loop-i.found + c.occurrences-found.result ≡ equal_pairs (take (c.loop-i.i + 1) c.args.a.now) c.args.b.now
 
-learnt : (c : tie.After-occurrences invariant-loop decreases-loop) → Found c
+learnt : (c : tie.After-occurrences-found invariant-loop decreases-loop) → Found c
 learnt c =
-    let l = c.before.before.before in
-    let a = l.before.args.a.now in
-    let b = l.before.args.b.now in
-    let e : c.occurrences.result ≡ occurrences (get_or a l.loop.i (pos 0)) b
-    = at₁ (λ h. occurrences h b) (to_z-of_z (sfits_of c.before.occurrences-arg.given)) c.occurrences.ensures in
-    omega (arith, equal_pairs_more a b l.loop.i (pos 0) c.before.before.loop-test.true)
+    let a = c.args.a.now in
+    let b = c.args.b.now in
+    let e : c.occurrences-found.result ≡ occurrences (get_or a c.loop-i.i (pos 0)) b
+    = at₁ (λ h. occurrences h b) (to_z-of_z {w = w32} (sfits_of c.occurrences-arg-1.given)) c.occurrences-found.ensures in
+    omega (arith, equal_pairs_more a b c.loop-i.i (pos 0) c.loop-i-test.true)
 
-add-found : tie.Need-overflow-add-found invariant-loop decreases-loop
+add-found : tie.Need-overflow_add-found invariant-loop decreases-loop
 add-found c =
-    let l = c.before.before.before in
-    let s = l.before in
-    omega (arith, learnt c, equal_pairs_first s.args.a.now s.args.b.now (l.loop.i + 1) s.requires.0 s.requires.1)
+    omega (arith, learnt c, equal_pairs_first c.args.a.now c.args.b.now (c.loop-i.i + 1) c.requires.0 c.requires.1)
 
-loop-again : tie.Need-loop-preserved invariant-loop decreases-loop
+loop-again : tie.Need-loop-i-preserved invariant-loop decreases-loop
 loop-again c = learnt c
 
 returns : tie.Need-returns invariant-loop decreases-loop
 returns c =
-    let l = c.before in
-    let s = l.before in
-    l.loop.invariant
-    ∙ ap (λ (r : List ℤ). equal_pairs r s.args.b.now) (take_all l.loop.i s.args.a.now c.loop-test.false)
+    c.loop-i.invariant
+    ∙ ap (λ (r : List ℤ). equal_pairs r c.args.b.now) (take_all c.loop-i.i c.args.a.now c.loop-i-test.false)
 
 pub few_equal_spec : {M : Type 1} → statement M
 few_equal_spec =

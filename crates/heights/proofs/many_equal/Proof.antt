@@ -1,4 +1,5 @@
 -- `heights::many_equal` meets its contract. The invariant: what is found are the equal pairs of what was passed and the first column.
+use mir.Syntax.{w32}
 use mathlib.Core.Path.{◌≡◌, ◌∙◌, ap}
 use mathlib.Core.Bool.{true}
 use mathlib.Core.List.{List}
@@ -18,76 +19,66 @@ use Rattle.heights.proofs.Table.{height_at, tallied_at}
 use Rattle.heights.proofs.many_equal.Statement.{statement}
 use Rattle.heights.proofs.many_equal.Tie as tie
 
-abbrev invariant-loop : tie.invariant-loop
+abbrev invariant-loop : tie.invariant-loop-j
 invariant-loop a b counts found₀ j₀ found j = found ≡ equal_pairs (take j b) a
 
-abbrev decreases-loop : tie.decreases-loop
+abbrev decreases-loop : tie.decreases-loop-j
 decreases-loop a b counts found₀ j₀ found j = length b - j
 
-loop-holds : tie.Need-loop-init invariant-loop decreases-loop
-loop-holds c = omega (arith, equal_pairs_nil c.before.args.a.now)
+loop-holds : tie.Need-loop-j-init invariant-loop decreases-loop
+loop-holds c = omega (arith, equal_pairs_nil c.args.a.now)
 
 -- The height that is read, inside the limits.
-abbrev read : tie.After-slot-arg invariant-loop decreases-loop → ℤ
-read c = get_or c.before.before.before.before.args.b.now c.before.before.loop.j (pos 0)
+abbrev read : tie.After-slot-arg-1 invariant-loop decreases-loop → ℤ
+read c = get_or c.args.b.now c.loop-j.j (pos 0)
 
-inside : (c : tie.After-slot-arg invariant-loop decreases-loop) → height_within (read c) ≡ true
-inside c = height_at _ _ _ c.before.loop-test.true c.before.before.before.before.requires.3
+inside : (c : tie.After-slot-arg-1 invariant-loop decreases-loop) → height_within (read c) ≡ true
+inside c = height_at _ _ _ c.loop-j-test.true c.requires.3
 
-slot-requires : tie.Need-slot-requires invariant-loop decreases-loop
-slot-requires c κs = ap height_within (to_z-of_z (sfits_of c.slot-arg.given)) ∙ inside c
+slot-requires : tie.Need-slot-at-requires invariant-loop decreases-loop
+slot-requires c κs = ap height_within (to_z-of_z {w = w32} (sfits_of c.slot-arg-1.given)) ∙ inside c
 
 -- The count at its slot: how often it stands in the first column.
-abbrev Counted : tie.After-slot invariant-loop decreases-loop → Type 0
+abbrev Counted : tie.After-slot-at invariant-loop decreases-loop → Type 0
 Counted c =
-    let t = c.before.before.before.before in
-    get_or t.tally.result c.slot.result 0 ≡ occurrences (read c.before) t.before.args.a.now
+    get_or c.tally-counts.result c.slot-at.result 0 ≡ occurrences (read c.before) c.args.a.now
 
-counted : (c : tie.After-slot invariant-loop decreases-loop) → Counted c
+counted : (c : tie.After-slot-at invariant-loop decreases-loop) → Counted c
 counted c =
-    let t = c.before.before.before.before in
-    tallied_at (read c.before) t.tally.ensures (inside c.before)
-    (at₁ slot_of (to_z-of_z (sfits_of c.before.slot-arg.given)) c.slot.ensures.0)
+    tallied_at (read c.before) c.tally-counts.ensures (inside c.before)
+    (at₁ slot_of (to_z-of_z {w = w32} (sfits_of c.slot-arg-1.given)) c.slot-at.ensures.0)
 
-cast-found : tie.Need-overflow-cast-found invariant-loop decreases-loop
+cast-found : tie.Need-overflow_cast-found invariant-loop decreases-loop
 cast-found c =
-    let s = c.before.before.before.before.before in
-    omega (arith, counted c, occurrences_le (read c.before) s.args.a.now, s.requires.0)
+    omega (arith, counted c, occurrences_le (read c.before) c.args.a.now, c.requires.0)
 
 -- What is found with it.
-abbrev Found : tie.After-slot invariant-loop decreases-loop → Type 0
+abbrev Found : tie.After-slot-at invariant-loop decreases-loop → Type 0
 Found c =
-    let l = c.before.before.before in
-    let s = l.before.before in
-    l.loop.found + get_or l.before.tally.result c.slot.result 0
-    ≡ equal_pairs (take (l.loop.j + 1) s.args.b.now) s.args.a.now
+    c.loop-j.found + get_or c.tally-counts.result c.slot-at.result 0
+    ≡ equal_pairs (take (c.loop-j.j + 1) c.args.b.now) c.args.a.now
 
-learnt : (c : tie.After-slot invariant-loop decreases-loop) → Found c
+learnt : (c : tie.After-slot-at invariant-loop decreases-loop) → Found c
 learnt c =
-    let l = c.before.before.before in
-    let s = l.before.before in
     omega (
       arith,
       counted c,
-      l.loop.invariant,
-      equal_pairs_more s.args.b.now s.args.a.now l.loop.j (pos 0) c.before.before.loop-test.true,
+      c.loop-j.invariant,
+      equal_pairs_more c.args.b.now c.args.a.now c.loop-j.j (pos 0) c.loop-j-test.true,
     )
 
-add-found : tie.Need-overflow-add-found invariant-loop decreases-loop
+add-found : tie.Need-overflow_add-found invariant-loop decreases-loop
 add-found c =
-    let l = c.before.before.before in
-    let s = l.before.before in
-    omega (arith, learnt c, equal_pairs_first s.args.b.now s.args.a.now (l.loop.j + 1) s.requires.1 s.requires.0)
+    omega (arith, learnt c, equal_pairs_first c.args.b.now c.args.a.now (c.loop-j.j + 1) c.requires.1 c.requires.0)
 
-loop-again : tie.Need-loop-preserved invariant-loop decreases-loop
+loop-again : tie.Need-loop-j-preserved invariant-loop decreases-loop
 loop-again c = learnt c
 
 returns : tie.Need-returns invariant-loop decreases-loop
 returns c =
-    let l = c.before in
-    let a = l.before.before.args.a.now in
-    let b = l.before.before.args.b.now in
-    l.loop.invariant ∙ ap (λ (r : List ℤ). equal_pairs r a) (take_all l.loop.j b c.loop-test.false) ∙ equal_pairs_sym b a
+    let a = c.args.a.now in
+    let b = c.args.b.now in
+    c.loop-j.invariant ∙ ap (λ (r : List ℤ). equal_pairs r a) (take_all c.loop-j.j b c.loop-j-test.false) ∙ equal_pairs_sym b a
 
 pub many_equal_spec : {M : Type 1} → statement M
 many_equal_spec =

@@ -16,45 +16,41 @@ use Rattle.heights.proofs.Heights.{occurrences_nil, occurrences_first, occurrenc
 use Rattle.heights.proofs.occurrences.Statement.{statement}
 use Rattle.heights.proofs.occurrences.Tie as tie
 
-abbrev invariant-loop : tie.invariant-loop
+abbrev invariant-loop : tie.invariant-loop-i
 invariant-loop h column found₀ i₀ found i = found ≡ occurrences (to_z w32 h) (take i column)
 
-abbrev decreases-loop : tie.decreases-loop
+abbrev decreases-loop : tie.decreases-loop-i
 decreases-loop h column found₀ i₀ found i = length column - i
 
-loop-holds : tie.Need-loop-init invariant-loop decreases-loop
+loop-holds : tie.Need-loop-i-init invariant-loop decreases-loop
 loop-holds c = omega (arith, occurrences_nil (to_z w32 (of_z w32 c.args.h)))
 
 -- What is found with the height that is read.
-abbrev Found : tie.After-equal invariant-loop decreases-loop → Type 0
+abbrev Found : tie.After-equal-found invariant-loop decreases-loop → Type 0
 Found c =
-    let l = c.before.before.before in
-    l.loop.found + c.equal.result
-    ≡ occurrences (to_z w32 (of_z w32 l.before.args.h)) (take (l.loop.i + 1) l.before.args.column.now)
+    c.loop-i.found + c.equal-found.result
+    ≡ occurrences (to_z w32 (of_z w32 c.args.h)) (take (c.loop-i.i + 1) c.args.column.now)
 
-learnt : (c : tie.After-equal invariant-loop decreases-loop) → Found c
+learnt : (c : tie.After-equal-found invariant-loop decreases-loop) → Found c
 learnt c =
-    let l = c.before.before.before in
-    let h = to_z w32 (of_z w32 l.before.args.h) in
-    let column = l.before.args.column.now in
-    let e : c.equal.result ≡ equal h (get_or column l.loop.i (pos 0))
-    = at₁ (equal h) (to_z-of_z (sfits_of c.before.equal-arg.given)) c.equal.ensures in
-    omega (arith, occurrences_more h column l.loop.i (pos 0) c.before.before.loop-test.true)
+    let h = to_z w32 (of_z w32 c.args.h) in
+    let column = c.args.column.now in
+    let e : c.equal-found.result ≡ equal h (get_or column c.loop-i.i (pos 0))
+    = at₁ (equal h) (to_z-of_z {w = w32} (sfits_of c.equal-arg-1.given)) c.equal-found.ensures in
+    omega (arith, occurrences_more h column c.loop-i.i (pos 0) c.loop-i-test.true)
 
-add-found : tie.Need-overflow-add-found invariant-loop decreases-loop
+add-found : tie.Need-overflow_add-found invariant-loop decreases-loop
 add-found c =
-    let l = c.before.before.before in
-    let h = to_z w32 (of_z w32 l.before.args.h) in
-    omega (arith, learnt c, occurrences_first h l.before.args.column.now (l.loop.i + 1), l.before.requires)
+    let h = to_z w32 (of_z w32 c.args.h) in
+    omega (arith, learnt c, occurrences_first h c.args.column.now (c.loop-i.i + 1), c.requires)
 
-loop-again : tie.Need-loop-preserved invariant-loop decreases-loop
+loop-again : tie.Need-loop-i-preserved invariant-loop decreases-loop
 loop-again c = learnt c
 
 returns : tie.Need-returns invariant-loop decreases-loop
 returns c =
-    let l = c.before in
-    let column = l.before.args.column.now in
-    l.loop.invariant ∙ ap₂ occurrences (to_z-of_z l.before.ranges.h) (take_all l.loop.i column c.loop-test.false)
+    let column = c.args.column.now in
+    c.loop-i.invariant ∙ ap₂ occurrences (to_z-of_z c.ranges.h) (take_all c.loop-i.i column c.loop-i-test.false)
 
 pub occurrences_spec : {M : Type 1} → statement M
 occurrences_spec =

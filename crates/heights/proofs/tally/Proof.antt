@@ -1,4 +1,5 @@
 -- `heights::tally` meets its contract. The invariant: the table has how often each height stands in what was passed.
+use mir.Syntax.{w32}
 use mathlib.Core.Path.{◌≡◌, ◌∙◌, ap}
 use mathlib.Core.Bool.{true}
 use Prim.Native.Nat.{◌-◌}
@@ -15,48 +16,47 @@ use Rattle.heights.proofs.Table.{height_at, tallied_nil, tallied_at, tallied_mor
 use Rattle.heights.proofs.tally.Statement.{statement}
 use Rattle.heights.proofs.tally.Tie as tie
 
-abbrev invariant-loop : tie.invariant-loop
+abbrev invariant-loop : tie.invariant-loop-i
 invariant-loop column counts₀ i₀ counts i = Tallied (take i column) counts
 
-abbrev decreases-loop : tie.decreases-loop
+abbrev decreases-loop : tie.decreases-loop-i
 decreases-loop column counts₀ i₀ counts i = length column - i
 
-loop-holds : tie.Need-loop-init invariant-loop decreases-loop
+loop-holds : tie.Need-loop-i-init invariant-loop decreases-loop
 loop-holds c = tallied_nil
 
 -- The height that is read, inside the limits.
-abbrev read : tie.After-slot-arg invariant-loop decreases-loop → ℤ
-read c = get_or c.before.before.before.args.column.now c.before.before.loop.i (pos 0)
+abbrev read : tie.After-slot-arg-1 invariant-loop decreases-loop → ℤ
+read c = get_or c.args.column.now c.loop-i.i (pos 0)
 
-inside : (c : tie.After-slot-arg invariant-loop decreases-loop) → height_within (read c) ≡ true
-inside c = height_at _ _ _ c.before.loop-test.true c.before.before.before.requires.1
+inside : (c : tie.After-slot-arg-1 invariant-loop decreases-loop) → height_within (read c) ≡ true
+inside c = height_at _ _ _ c.loop-i-test.true c.requires.1
 
-slot-requires : tie.Need-slot-requires invariant-loop decreases-loop
-slot-requires c κs = ap height_within (to_z-of_z (sfits_of c.slot-arg.given)) ∙ inside c
+slot-requires : tie.Need-slot-at-requires invariant-loop decreases-loop
+slot-requires c κs = ap height_within (to_z-of_z {w = w32} (sfits_of c.slot-arg-1.given)) ∙ inside c
 
-at_slot : (c : tie.After-slot invariant-loop decreases-loop) → c.slot.result ≡ slot_of (read c.before)
-at_slot c = at₁ slot_of (to_z-of_z (sfits_of c.before.slot-arg.given)) c.slot.ensures.0
+at_slot : (c : tie.After-slot-at invariant-loop decreases-loop) → c.slot-at.result ≡ slot_of (read c.before)
+at_slot c = at₁ slot_of (to_z-of_z {w = w32} (sfits_of c.slot-arg-1.given)) c.slot-at.ensures.0
 
-add-counts : tie.Need-overflow-add-counts invariant-loop decreases-loop
+add-counts : tie.Need-overflow_add-counts invariant-loop decreases-loop
 add-counts c =
-    let l = c.before.before.before in
     let h = read c.before in
-    let column = l.before.args.column.now in
+    let column = c.args.column.now in
     omega (
       arith,
-      tallied_at h l.loop.invariant (inside c.before) (at_slot c),
-      occurrences_first h column l.loop.i,
-      c.before.before.loop-test.true,
-      l.before.requires.0,
+      tallied_at h c.loop-i.invariant (inside c.before) (at_slot c),
+      occurrences_first h column c.loop-i.i,
+      c.loop-i-test.true,
+      c.requires.0,
     )
 
-loop-again : tie.Need-loop-preserved invariant-loop decreases-loop
+loop-again : tie.Need-loop-i-preserved invariant-loop decreases-loop
 loop-again c =
-    tallied_more _ _ _ _ (pos 0) c.before.before.loop-test.true (inside c.before) (at_slot c)
-    c.before.before.before.loop.invariant
+    tallied_more _ _ _ _ (pos 0) c.loop-i-test.true (inside c.before) (at_slot c)
+    c.loop-i.invariant
 
 returns : tie.Need-returns invariant-loop decreases-loop
-returns c = tallied_end _ _ c.before.loop.i c.loop-test.false c.before.loop.invariant
+returns c = tallied_end _ _ c.loop-i.i c.loop-i-test.false c.loop-i.invariant
 
 pub tally_spec : {M : Type 1} → statement M
 tally_spec =

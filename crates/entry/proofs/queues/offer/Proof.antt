@@ -7,66 +7,52 @@ use Rattle.entry.proofs.queues.offer.Statement.{statement}
 use Rattle.entry.proofs.queues.offer.Tie as tie
 
 -- Before the first call, where the queue has `k` entries.
-abbrev full : tie.After-before2 → tie.Else1
-full b = b.before.before.before.before.before
+abbrev full : tie.After-before-2 → tie.Else-old-k
+full c = c.before.before
 
-abbrev start : tie.Else1 → tie.Start
-start e = e.before.before.before.before.before
+abbrev start : tie.Else-old-k → tie.Start
+start c = c.before.before.before.before.before
 
-returns : tie.Need-returns
+returns : tie.Need-returns-then-old-k
 returns c =
-    let p = c.before.before.before.before.before.before in
-    let t = p.before.before.before.before in
-    offer_pushes t.before.before.before.before.before.requires t.if1.true p.push.ensures
+    offer_pushes c.requires c.if-old-k.true c.push.ensures
 
-entry-inside-requires : tie.Need-entry-inside-requires
+entry-inside-requires : tie.Need-entry_inside-requires
 entry-inside-requires c κs =
-    let f = c.before.before.before in
-    last_inside (start f).requires f.if1.false
+    last_inside (start c).requires c.if-old-k.false
 
-returns-2 : tie.Need-returns-2
+returns-2 : tie.Need-returns-then-not-before
 returns-2 c =
-    let b = c.before in
-    let f = full b in
-    offer_keeps (start f).pre f.if1.left b.before.entry-inside.ensures b.before2.ensures
-    (not-true _ c.if2.true)
+    let f = full c.before in
+    offer_keeps (start f).requires f.if-old-k.false c.entry_inside.ensures c.before-2.ensures
+    (c.if-not-before.true)
 
 replace-requires : tie.Need-replace-requires
 replace-requires c κs =
-    let t = c.before.before.before in
-    let f = full t.before.before in
-    let h = (start f).pre in
-    (h.some, heaped_at (offer_heap h f.if1.left t.if3.true))
+    let f = full c.before.before.before.before.before in
+    let h = (start f).requires in
+    (h.some, heaped_at (offer_heap h f.if-old-k.false c.if-last-eq0.true))
 
-returns-3 : tie.Need-returns-3
+returns-3 : tie.Need-returns-then-last-eq0
 returns-3 c =
-    let r = c.before.before.before.before.before.before in
-    let t = r.before.before.before.before in
-    let e = t.before in
-    let b = e.before in
-    let f = full b in
-    let h = (start f).pre in
-    let most = f.if1.left in
-    offer_replaces h most b.before.entry-inside.ensures b.before2.ensures (not-false _ e.if2.false)
-    (offer_heap h most t.if3.true)
-    r.replace.ensures
+    let f = full c.before.before.before.before.before.before.before.before.before.before.before.before in
+    let h = (start f).requires in
+    let most = f.if-old-k.false in
+    offer_replaces h most c.entry_inside.ensures c.before-2.ensures (c.if-not-before.false)
+    (offer_heap h most c.if-last-eq0.true)
+    c.replace.ensures
 
 replace-requires-2 : tie.Need-replace-requires-2
 replace-requires-2 c κs =
-    let m = c.before.before.before.before.before.before.before.before.before in
-    let f = full m.before.before.before.before.before.before in
-    ((start f).pre.some, heaped_at m.build.ensures)
+    let f = full c.before.before.before.before.before.before.before.before.before.before.before.before.before.before.before in
+    ((start f).requires.some, heaped_at c.build.ensures)
 
-returns-4 : tie.Need-returns-4
+returns-4 : tie.Need-returns
 returns-4 c =
-    let r = c.before.before.before.before.before.before in
-    let m = r.before.before.before.before.before.before.before.before.before.before in
-    let e = m.before.before.before.before.before in
-    let b = e.before in
-    let f = full b in
-    offer_replaces (start f).pre f.if1.left b.before.entry-inside.ensures b.before2.ensures
-    (not-false _ e.if2.false) m.build.ensures
-    r.replace2.ensures
+    let f = full c.before.before.before.before.before.before.before.before.before.before.before.before.before.before.before.before.before.before.before.before.before.before in
+    offer_replaces (start f).requires f.if-old-k.false c.entry_inside.ensures c.before-2.ensures
+    (c.if-not-before.false) c.build.ensures
+    c.replace-2.ensures
 
 pub offer_spec : {M : Type 1} → statement M
 offer_spec =

@@ -7,29 +7,24 @@ use Rattle.entry.proofs.queues.push.Tie as tie
 
 -- Before the first call.
 abbrev start : tie.After-put → tie.Start
-start p = p.before.before.before.before.before.before.before
+start c = c.before.before.before.before.before.before.before
 
 put-requires : tie.Need-put-requires
 put-requires c κs =
-    let asked = c.before.before.before.before.before.before.requires in
+    let asked = c.requires in
     room_inside _ _ asked.room asked.under
 
-returns : tie.Need-returns
+returns : tie.Need-returns-then-count-k
 returns c =
-    let p = c.before.before.before.before.before.before.before in
-    push_room (start p).requires _ p.put.ensures c.if1.true
+    push_room (start c.before.before.before.before.before.before.before).requires _ c.put.ensures c.if-count-k.true
 
 build-requires : tie.Need-build-requires
 build-requires c κs =
-    let p = c.before.before.before.before.before.before.before.before.before.before in
-    push_builds (start p).requires _ p.put.ensures
+    push_builds (start c.before.before.before.before.before.before.before.before.before.before).requires _ c.put.ensures
 
-returns-2 : tie.Need-returns-2
+returns-2 : tie.Need-returns
 returns-2 c =
-    let b = c.before.before.before.before.before.before.before.before in
-    let e = b.before.before.before.before in
-    let p = e.before.before.before.before.before.before.before in
-    push_full (start p).requires _ p.put.ensures e.if1.false b.build.ensures c.get-u64.ensures
+    push_full (start c.before.before.before.before.before.before.before.before.before.before.before.before.before.before.before.before.before.before).requires _ c.put.ensures c.if-count-k.false c.build.ensures c.get_u64.ensures
 
 pub push_spec : {M : Type 1} → statement M
 push_spec =

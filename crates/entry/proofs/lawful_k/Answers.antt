@@ -1,0 +1,8 @@
+-- `entry::lawful_k` meets its contract.
+use borrow.Author.Rules.{rules}
+use Rattle.entry.specs.Entry.{lawful_k}
+use Rattle.entry.proofs.lawful_k.Goals as goal
+
+pub returns : goal.returns
+unfolding lawful_k
+returns c = c.k_up_to.ensures
