@@ -15,17 +15,16 @@ use Rattle.boxes.proofs.range_gap.Tie as tie
 abbrev rise : ℤ → ℤ → ℕ
 rise a b = cond (lt_z a b) (gap a b) 0
 
-above : (c : tie.After-rise) → c.rise.result ≡ rise c.before.args.to c.before.args.other_from
-above c = at₂ rise (to_z-of_z c.before.ranges.to) (to_z-of_z c.before.ranges.other_from) c.rise.ensures
+above : (c : tie.After-rise-above) → c.rise-above.result ≡ rise c.before.args.to c.before.args.other_from
+above c = at₂ rise (to_z-of_z c.ranges.to) (to_z-of_z c.ranges.other_from) c.rise-above.ensures
 
-returns : tie.Need-returns
+returns : tie.Need-returns-then-above-eq0
 returns c =
-    let b = c.before in
-    let f = b.before.before.ranges in
-    range_below _ _ _ _ (above b.before) (at₂ rise (to_z-of_z f.other-to) (to_z-of_z f.from) b.rise2.ensures) c.if1.true
+    let f = c.ranges in
+    range_below _ _ _ _ (above c.before.before) (at₂ rise (to_z-of_z f.other_to) (to_z-of_z f.from) c.rise-below.ensures) c.if-above-eq0.true
 
-returns-2 : tie.Need-returns-2
-returns-2 c = range_above _ _ _ _ (above c.before.before) c.if1.false
+returns-2 : tie.Need-returns-else-above-eq0
+returns-2 c = range_above _ _ _ _ (above c.before.before) c.if-above-eq0.false
 
 pub range_gap_spec : {M : Type 1} → statement M
 range_gap_spec = tie.close (tie.spec (λ c κs. search rules) (λ c κs. search rules) returns returns-2)
