@@ -282,9 +282,10 @@ module _ {A : Type 0} where
   perm_distinct Permᴰ.nil d = d
   perm_distinct (Permᴰ.cons {a = a} {b = b} {l₁ = l} {l₂ = m} e p) d =
       (perm_all (λ y. b ≡ y → ⊥) p (subst (λ x. All (λ y. x ≡ y → ⊥) l) e d.0), perm_distinct p d.1)
-  perm_distinct (Permᴰ.swap {a = a} {b = b} {a' = c} {b' = g} {l = l} e f) d =
-      ((λ h. d.0.0 (e ∙ sym h ∙ sym f), subst (λ x. All (λ y. x ≡ y → ⊥) l) f d.1.0),
-      (subst (λ x. All (λ y. x ≡ y → ⊥) l) e d.0.1, d.1.1))
+  perm_distinct (Permᴰ.swap {a = a} {b = b} {a' = c} {b' = g} {l = l} e f) d = (
+    (λ h. d.0.0 (e ∙ sym h ∙ sym f), subst (λ x. All (λ y. x ≡ y → ⊥) l) f d.1.0),
+    (subst (λ x. All (λ y. x ≡ y → ⊥) l) e d.0.1, d.1.1),
+  )
   perm_distinct (Permᴰ.trans p q) d = perm_distinct q (perm_distinct p d)
 
   pub distinct_left : (l m : List A) → Distinct (l ++ m) → Distinct l

@@ -1,6 +1,5 @@
 -- `column::get_u64` meets its contract.
 use mathlib.Core.Path.{sym}
-use borrow.Author.Rules.{rules}
 use lib.ListN.{get_or-eq_default}
 use Rattle.column.proofs.get_u64.Goals as goal
 

@@ -1,7 +1,6 @@
 -- A value put into a column: at the start of the part from its place on.
 use Rattle.column.proofs.Inserted.{inserted_part}
 use mir.Facts.{to_z-of_z}
-use borrow.Author.Rules.{rules}
 use Rattle.column.proofs.insert_i32.Goals as goal
 
 pub returns : goal.returns

@@ -1,8 +1,7 @@
 -- Taking out the first element of a column: the loop's invariant is the law of a run that moves down.
 use mathlib.Core.Path.{refl}
 use borrow.Author.Rules.{rules}
-use Prim.Native.Nat.{◌-◌}
-use Rattle.column.proofs.Removed.{ShiftedDown, shifted_down_none, shifted_down_more, shifted_down_all}
+use Rattle.column.proofs.Removed.{shifted_down_none, shifted_down_more, shifted_down_all}
 use Rattle.column.proofs.pull_u32.Goals as goal
 
 pub loop-i-init : goal.loop-i-init

@@ -4,7 +4,7 @@ use lib.IntN.{pos}
 use lib.ListN.{length-set}
 use mir.Facts.{to_z-of_z}
 use mir.Syntax.{w32}
-use Rattle.column.proofs.Inserted.{ShiftedUp, shifted_up_none, shifted_up_more, shifted_up_all}
+use Rattle.column.proofs.Inserted.{shifted_up_none, shifted_up_more, shifted_up_all}
 use Rattle.column.proofs.push_i32.Goals as goal
 
 pub loop-i-init : goal.loop-i-init

@@ -1,9 +1,5 @@
 -- Putting a value at the start of a column: the loop's invariant is the law of a run that moves up.
-use borrow.Author.Rules.{rules, sfits_of}
-use lib.IntN.{pos}
-use lib.ListN.{length-set}
-use mir.Facts.{to_z-of_z}
-use Rattle.column.proofs.Inserted.{ShiftedUp, shifted_up_none, shifted_up_more, shifted_up_all}
+use Rattle.column.proofs.Inserted.{ShiftedUp}
 use Rattle.column.proofs.push_i32.Given as goal
 
 abbrev pub invariant-loop-i : goal.invariant-loop-i

@@ -2,7 +2,7 @@
 use mathlib.Core.Path.{refl}
 use borrow.Author.Rules.{rules}
 use lib.ListN.{length-set}
-use Rattle.column.proofs.Inserted.{ShiftedUp, shifted_up_none, shifted_up_more, shifted_up_all}
+use Rattle.column.proofs.Inserted.{shifted_up_none, shifted_up_more, shifted_up_all}
 use Rattle.column.proofs.push_u32.Goals as goal
 
 pub loop-i-init : goal.loop-i-init

@@ -1,6 +1,5 @@
 -- An element taken out of a column: the first one of the part from its place on.
 use Rattle.column.proofs.Removed.{removed_part}
-use borrow.Author.Rules.{rules}
 use Rattle.column.proofs.remove_i32.Goals as goal
 
 pub returns : goal.returns

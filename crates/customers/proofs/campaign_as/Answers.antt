@@ -1,5 +1,4 @@
 -- `customers::campaign_as` meets its contract.
-use borrow.Author.Rules.{rules}
 use Rattle.customers.specs.Customers.{campaign_as}
 use Rattle.customers.proofs.campaign_as.Goals as goal
 

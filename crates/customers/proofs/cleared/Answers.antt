@@ -1,11 +1,9 @@
 -- `customers::cleared` meets its contract. The loop's invariant: the marks passed are cleared.
 use borrow.Author.Rules.{rules}
-use Prim.Native.Nat.{◌-◌, ◌≤◌}
-use mathlib.Core.List.{map}
 use mathlib.Core.Path.{◌≡◌}
 use lib.ListN.{length}
 use native.Mathlib.Omega.{arith}
-use Rattle.column.proofs.Replaced.{Replaced, each_none, each_more, each_all}
+use Rattle.column.proofs.Replaced.{each_none, each_more, each_all}
 use Rattle.customers.specs.Customers.{with_own, cleared}
 use Rattle.customers.proofs.cleared.Goals as goal
 

@@ -1,5 +1,4 @@
 -- `customers::lowered` meets its contract.
-use borrow.Author.Rules.{rules}
 use mathlib.Core.Path.{◌∙◌}
 use Rattle.customers.specs.Customers.{lowered}
 use Rattle.customers.proofs.lowered.Goals as goal

@@ -1,11 +1,9 @@
 -- `customers::own_marks` meets its contract. The loop's invariant: the marks passed are the customer's own.
 use borrow.Author.Rules.{rules}
-use Prim.Native.Nat.{◌-◌, ◌≤◌}
-use mathlib.Core.List.{map}
 use mathlib.Core.Path.{◌≡◌}
 use lib.ListN.{length}
 use native.Mathlib.Omega.{arith}
-use Rattle.column.proofs.Replaced.{Replaced, each_none, each_more, each_all}
+use Rattle.column.proofs.Replaced.{each_none, each_more, each_all}
 use Rattle.customers.specs.Customers.{own_mark}
 use Rattle.customers.proofs.own_marks.Goals as goal
 

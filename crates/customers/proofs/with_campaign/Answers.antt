@@ -1,5 +1,4 @@
 -- `customers::with_campaign` meets its contract.
-use borrow.Author.Rules.{rules}
 use Rattle.customers.specs.Customers.{with_campaign}
 use Rattle.customers.proofs.with_campaign.Goals as goal
 

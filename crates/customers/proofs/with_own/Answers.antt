@@ -1,5 +1,4 @@
 -- `customers::with_own` meets its contract.
-use borrow.Author.Rules.{rules}
 use borrow.Author.Tests.{eq-eqb, ne_eqb}
 use Rattle.customers.specs.Customers.{with_own}
 use Rattle.customers.proofs.with_own.Goals as goal

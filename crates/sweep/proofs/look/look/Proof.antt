@@ -9,76 +9,61 @@ use Rattle.sweep.proofs.look.look.Statement.{statement}
 use Rattle.sweep.proofs.look.look.Tie as tie
 
 -- Before the first call.
-abbrev start : tie.After-squared-gap-at → tie.Start
-start g = g.before.before.before.before.before
+abbrev start : tie.After-squared_gap_at → tie.Start
+start c = c.before.before.before.before.before
 
-returns : tie.Need-returns
+returns : tie.Need-returns-then-tally-squared_gap_at
 returns c =
-    let g = c.before.before in
-    look_stops (start g).requires g.squared-gap-at.ensures c.if1.true
+    look_stops (start c.before.before).requires c.squared_gap_at.ensures c.if-tally-squared_gap_at.true
 
 -- From the squared distance back to the test before it.
-abbrev passed : tie.After-squared-distance-at → tie.Else1
-passed d = d.before.before.before.before.before
+abbrev passed : tie.After-squared_distance_at-squared → tie.Else-tally-squared_gap_at
+passed c = c.before.before.before.before.before
 
-returns-2 : tie.Need-returns-2
+returns-2 : tie.Need-returns-then-tally-plane_distance_at
 returns-2 c =
-    let f = c.before.before in
-    let e = f.before.before in
-    let g = e.before.before in
-    look_flat (start g).requires g.squared-gap-at.ensures refl e.if1.false f.plane-distance-at.ensures c.if2.true
+    look_flat (start c.before.before.before.before.before.before).requires c.squared_gap_at.ensures refl c.if-tally-squared_gap_at.false c.plane_distance_at.ensures c.if-tally-plane_distance_at.true
 
-returns-3 : tie.Need-returns-3
+returns-3 : tie.Need-returns-then-tally-squared
 returns-3 c =
-    let d = c.before.before in
-    let e = passed d in
+    let e = passed c.before.before in
     let g = e.before.before in
     ⊎_elim
-    (λ w. look_passes (start g).pre g.squared-gap-at.ensures d.squared-distance-at.ensures e.if1.left w.taken)
-    (λ w. look_leaves (start g).pre g.squared-gap-at.ensures d.squared-distance-at.ensures e.if1.left
-    (eqb-true _ _ w.1.taken))
-    c.if3.branch
+    (λ w. look_passes (start g).requires g.squared_gap_at.ensures c.squared_distance_at-squared.ensures e.if-tally-squared_gap_at.false w.taken)
+    (λ w. look_leaves (start g).requires g.squared_gap_at.ensures c.squared_distance_at-squared.ensures e.if-tally-squared_gap_at.false
+    (eqb-true _ _ w.1.true))
+    c.then-tally-squared.branch
 
-returns-4 : tie.Need-returns-4
+returns-4 : tie.Need-returns-then-reference
 returns-4 c =
-    let o = c.before.before.before.before.before.before.before in
-    let p = o.before.before.before.before in
-    let t = p.before.before in
-    let n = t.before in
-    let d = n.before.before.before in
-    let e = passed d in
+    let e = passed c.before.before.before.before.before.before.before.before.before.before.before.before.before.before.before.before.before in
     let g = e.before.before in
     rw c.gone_on.ensures
-    (look_offers (start g).pre g.squared-gap-at.ensures d.squared-distance-at.ensures e.if1.left
-    (eqb-false _ _ n.if4.false) (rw t.if5.true p.pair.ensures) o.offer.ensures)
+    (look_offers (start g).requires g.squared_gap_at.ensures c.squared_distance_at-squared.ensures e.if-tally-squared_gap_at.false
+    (eqb-false _ _ c.if-squared-eq0.false) (rw c.if-reference.true c.pair-e.ensures) c.offer-next.ensures)
 
-returns-5 : tie.Need-returns-5
+returns-5 : tie.Need-returns
 returns-5 c =
-    let o = c.before.before.before.before.before.before.before in
-    let p = o.before.before.before.before in
-    let t = p.before.before in
-    let n = t.before in
-    let d = n.before.before.before in
-    let e = passed d in
+    let e = passed c.before.before.before.before.before.before.before.before.before.before.before.before.before.before.before.before.before in
     let g = e.before.before in
-    rw c.gone-on2.ensures
-    (look_offers (start g).pre g.squared-gap-at.ensures d.squared-distance-at.ensures e.if1.left
-    (eqb-false _ _ n.if4.false) (rw t.if5.false p.pair2.ensures) o.offer2.ensures)
+    rw c.gone_on-2.ensures
+    (look_offers (start g).requires g.squared_gap_at.ensures c.squared_distance_at-squared.ensures e.if-tally-squared_gap_at.false
+    (eqb-false _ _ c.if-squared-eq0.false) (rw c.if-reference.false c.pair-e-2.ensures) c.offer-next-2.ensures)
 
 -- Before the first call, from where the pair is offered.
-abbrev begun : tie.Else4 → tie.Start
-begun n = start (passed n.before.before.before).before.before
+abbrev begun : tie.Else-squared-eq0 → tie.Start
+begun c = start (passed c.before.before.before).before.before
 
-cast-other : tie.Need-overflow-cast-other
+cast-other : tie.Need-overflow_cast-other
 cast-other c = let asked = (begun c).requires in omega (arith, asked.inside, asked.lawful.others.few)
 
-offer-requires : tie.Need-offer-requires
+offer-requires : tie.Need-offer-next-requires
 offer-requires c κs = (begun c.before.before.before.before.before.before).requires.queue
 
-offer-requires-2 : tie.Need-offer-requires-2
+offer-requires-2 : tie.Need-offer-next-requires-2
 offer-requires-2 c κs = (begun c.before.before.before.before.before.before).requires.queue
 
-plane-distance-at-requires : tie.Need-plane-distance-at-requires
+plane-distance-at-requires : tie.Need-plane_distance_at-requires
 plane-distance-at-requires c κs =
     let asked = (start c.before.before.before).requires in
     ((asked.lawful.x, asked.lawful.y), (asked.lawful.others, asked.inside))

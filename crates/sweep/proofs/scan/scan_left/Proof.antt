@@ -10,62 +10,52 @@ use Rattle.sweep.proofs.ScanInvariant.{ScanInvariant, tallied_at, invariant_star
 use Rattle.sweep.proofs.scan.scan_left.Statement.{statement}
 use Rattle.sweep.proofs.scan.scan_left.Tie as tie
 
-abbrev invariant-loop : tie.invariant-loop
+abbrev invariant-loop : tie.invariant-loop-at
 invariant-loop reference xs ys hs limit taken k distance₀ first₀ second₀ at₀ tally₀ distance first second at tally =
     SameLengths (results distance₀ first₀ second₀) (results distance first second)
     × ((limit ≤ at) × (at ≤ taken))
     × ScanInvariant k (results distance₀ first₀ second₀) tally₀ reference (leftward xs ys hs limit (taken - limit)) (leftward xs ys hs limit (at - limit)) (results distance first second) tally
 
-abbrev decreases-loop : tie.decreases-loop
+abbrev decreases-loop : tie.decreases-loop-at
 decreases-loop reference xs ys hs limit taken k distance₀ first₀ second₀ at₀ tally₀ distance first second at tally =
     at
 
-loop-holds : tie.Need-loop-init invariant-loop decreases-loop
+loop-holds : tie.Need-loop-at-init invariant-loop decreases-loop
 loop-holds c =
-    let s = c.before.before.before in
-    let n = length_leftward s.args.xs.now s.args.ys.now s.args.hs.now s.args.limit (s.args.taken - s.args.limit) in
-    (search rules, (s.requires.range, search rules), invariant_starts s.requires _ (omega arith))
+    let n = length_leftward c.args.xs.now c.args.ys.now c.args.hs.now c.args.limit (c.args.true - c.args.limit) in
+    (search rules, (c.requires.range, search rules), invariant_starts c.requires _ (omega arith))
 
-under : (c : tie.Else1 invariant-loop decreases-loop) → (c.before.before.before.before.before.args.limit < c.before.loop.at) × (c.before.loop.at - 1 < c.before.before.before.before.before.args.taken)
-under c = omega (arith, c.if1.false)
+under : (c : tie.Else-at-limit invariant-loop decreases-loop) → (c.before.before.before.before.before.args.limit < c.before.loop-at.at) × (c.before.loop-at.at - 1 < c.before.before.before.before.before.args.true)
+under c = omega (arith, c.if-at-limit.false)
 
-sub-look : tie.Need-overflow-sub-look invariant-loop decreases-loop
+sub-look : tie.Need-overflow_sub-at invariant-loop decreases-loop
 sub-look c = omega (arith, under c)
 
-look-requires : tie.Need-look-requires invariant-loop decreases-loop
+look-requires : tie.Need-look-l-requires invariant-loop decreases-loop
 look-requires c κs =
-    let t = c.before.before.before in
-    let l = t.before in
-    invariant_asks l.before.before.before.before.requires l.loop.invariant.2 _ (leftward_cons _ _ _ _ _ (under t).0) (under t).1
+    invariant_asks c.requires c.loop-at.invariant.2 _ (leftward_cons _ _ _ _ _ (under c.before.before.before).0) (under c.before.before.before).1
 
-sub_at : tie.Need-overflow-sub-at invariant-loop decreases-loop
+sub_at : tie.Need-overflow_sub-at-in-loop-at invariant-loop decreases-loop
 sub_at c = omega (arith, under c.before.before.before.before.before.before.before.before.before.before.before.before)
 
-loop-less : tie.Need-loop-smaller invariant-loop decreases-loop
+loop-less : tie.Need-loop-at-smaller invariant-loop decreases-loop
 loop-less c = omega (arith, under c.before.before.before.before.before.before.before.before.before.before.before.before)
 
-loop-again : tie.Need-loop-preserved invariant-loop decreases-loop
+loop-again : tie.Need-loop-at-preserved invariant-loop decreases-loop
 loop-again c =
-    let d = c.before.before.before.before.before.before.before.before in
-    let t = d.before.before.before.before in
-    let l = t.before in
-    let p = invariant_goes l.before.before.before.before.requires l.loop.invariant.2 (leftward_cons _ _ _ _ _ (under t).0) d.look.ensures c.if2.false in
-    (within_lengths p.updated.rest, omega (arith, under t), p)
+    let p = invariant_goes c.requires c.loop-at.invariant.2 (leftward_cons _ _ _ _ _ (under c.before.before.before.before.before.before.before.before.before.before.before.before).0) c.look-l.ensures c.if-l.false in
+    (within_lengths p.updated.rest, omega (arith, under c.before.before.before.before.before.before.before.before.before.before.before.before), p)
 
-returns : tie.Need-returns invariant-loop decreases-loop
+returns : tie.Need-returns-then-at-limit invariant-loop decreases-loop
 returns c =
-    let l = c.before in
-    let i = l.loop.invariant in
-    let e = invariant_ends l.before.before.before.before.requires i.2 (leftward_nil _ _ _ _ _ (omega (arith, c.if1.true))) in
+    let i = c.loop-at.invariant in
+    let e = invariant_ends c.requires i.2 (leftward_nil _ _ _ _ _ (omega (arith, c.if-at-limit.true))) in
     (tallied_at e.tallied, left_limit _ _ _ _ _ _ _ i.1.0 i.1.1 e.passed)
 
-returns-2 : tie.Need-returns-2 invariant-loop decreases-loop
+returns-2 : tie.Need-returns-then-l invariant-loop decreases-loop
 returns-2 c =
-    let d = c.before.before.before.before.before.before.before.before in
-    let t = d.before.before.before.before in
-    let l = t.before in
-    let i = l.loop.invariant in
-    let e = invariant_stops l.before.before.before.before.requires i.2 (leftward_cons _ _ _ _ _ (under t).0) d.look.ensures c.if2.true in
+    let i = c.loop-at.invariant in
+    let e = invariant_stops c.requires i.2 (leftward_cons _ _ _ _ _ (under c.before.before.before.before.before.before.before.before.before.before.before.before).0) c.look-l.ensures c.if-l.true in
     (tallied_at e.tallied, left_limit _ _ _ _ _ _ _ i.1.0 i.1.1 e.passed)
 
 pub scan_left_spec : {M : Type 1} → statement M

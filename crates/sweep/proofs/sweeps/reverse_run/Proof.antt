@@ -19,77 +19,61 @@ decreases-references ax ay ah bx by bh a-from a-to b-from b-to k count distance�
 
 references-holds : tie.Need-references-init invariant-references decreases-references
 references-holds c =
-    (search rules, invariant_start c.before.before.before.before.before.requires c.start.ensures)
+    (search rules, invariant_start c.requires c.start.ensures)
 
-first-next-requires : tie.Need-first-next-requires invariant-references decreases-references
-first-next-requires c κs = let s = c.before.before.before.before.before.before.requires in (s.a.inside, s.b.inside)
+first-next-requires : tie.Need-first_next-requires invariant-references decreases-references
+first-next-requires c κs = let s = c.requires in (s.a.inside, s.b.inside)
 
-in_first : (w : tie.Then1 invariant-references decreases-references) → w.before.before.references.i < w.before.before.before.before.before.before.before.before.args.a-to
-in_first w = let l = w.before.before in invariant_in l.before.before.before.before.before.before.requires l.references.invariant.1 w.before.first_next.ensures w.if1.true
+in_first : (c : tie.Then-first_next invariant-references decreases-references) → c.before.before.references.i < c.before.before.before.before.before.before.before.before.args.a_to
+in_first c = invariant_in c.requires c.references.invariant.1 c.first_next.ensures c.if-first_next.true
 
-reference-at-requires : tie.Need-reference-at-requires invariant-references decreases-references
+reference-at-requires : tie.Need-reference_at-r-requires invariant-references decreases-references
 reference-at-requires c κs =
-    let s = c.before.before.before.before.before.before.before.before.requires in
+    let s = c.requires in
     (s.a.lawful, s.a.heights, omega (arith, in_first c, s.a.inside))
 
-scan-left-requires : tie.Need-scan-left-requires invariant-references decreases-references
+scan-left-requires : tie.Need-scan_left-tally-requires invariant-references decreases-references
 scan-left-requires c κs =
-    let a = c.before.before.before in
-    let w = a.before in
-    let l = w.before.before in
-    invariant_ask_first l.before.before.before.before.before.before.requires l.references.invariant.1 w.before.first_next.ensures w.if1.true a.reference_at.ensures
+    invariant_ask_first c.requires c.references.invariant.1 c.first_next.ensures c.if-first_next.true c.reference_at-r.ensures
 
-add-i : tie.Need-overflow-add-i invariant-references decreases-references
-add-i c = let w = c.before.before.before.before.before.before.before.before.before.before.before in omega (arith, in_first w, w.before.before.before.before.before.before.before.before.ranges.a-to)
+add-i : tie.Need-overflow_add-i invariant-references decreases-references
+add-i c = omega (arith, in_first c.before.before.before.before.before.before.before.before.before.before.before, c.ranges.a_to)
 
-references-less : tie.Need-references-smaller invariant-references decreases-references
-references-less c = let w = c.before.before.before.before.before.before.before.before.before.before.before in omega (arith, in_first w)
+references-less : tie.Need-references-smaller-then-first_next invariant-references decreases-references
+references-less c = omega (arith, in_first c.before.before.before.before.before.before.before.before.before.before.before)
 
-references-again : tie.Need-references-preserved invariant-references decreases-references
+references-again : tie.Need-references-preserved-then-first_next invariant-references decreases-references
 references-again c =
-    let d = c.before.before.before.before.before.before in
-    let a = d.before.before.before.before in
-    let w = a.before in
-    let l = w.before.before in
     let p =
-    invariant_first l.before.before.before.before.before.before.requires l.references.invariant.1 w.before.first_next.ensures w.if1.true a.reference_at.ensures d.scan-left.ensures in
+    invariant_first c.requires c.references.invariant.1 c.first_next.ensures c.if-first_next.true c.reference_at-r.ensures c.scan_left-tally.ensures in
     (within_lengths p.updated.rest, p)
 
-reference-at-requires-2 : tie.Need-reference-at-requires-2 invariant-references decreases-references
+reference-at-requires-2 : tie.Need-reference_at-r-requires-in-references invariant-references decreases-references
 reference-at-requires-2 c κs =
-    let s = c.before.before.before.before.before.before.before.before.before.requires in
-    (s.b.lawful, s.b.heights, omega (arith, c.if2.false, s.b.inside))
+    let s = c.requires in
+    (s.b.lawful, s.b.heights, omega (arith, c.if-b_to-j.false, s.b.inside))
 
-scan-left-requires-2 : tie.Need-scan-left-requires-2 invariant-references decreases-references
+scan-left-requires-2 : tie.Need-scan_left-tally-requires-in-references invariant-references decreases-references
 scan-left-requires-2 c κs =
-    let a = c.before.before.before in
-    let e = a.before in
-    let l = e.before.before.before in
-    invariant_ask_second l.before.before.before.before.before.before.requires l.references.invariant.1 e.before.before.first_next.ensures e.if2.false a.reference-at2.ensures
+    invariant_ask_second c.requires c.references.invariant.1 c.first_next.ensures c.if-b_to-j.false c.reference_at-r-in-references.ensures
 
-add-j : tie.Need-overflow-add-j invariant-references decreases-references
+add-j : tie.Need-overflow_add-j invariant-references decreases-references
 add-j c =
-    let e = c.before.before.before.before.before.before.before.before.before.before.before in
-    omega (arith, e.if2.false, e.before.before.before.before.before.before.before.before.before.ranges.b-to)
+    omega (arith, c.if-b_to-j.false, c.ranges.b_to)
 
-references-less-2 : tie.Need-references-smaller-2 invariant-references decreases-references
-references-less-2 c = let e = c.before.before.before.before.before.before.before.before.before.before.before in omega (arith, e.if2.false)
+references-less-2 : tie.Need-references-smaller invariant-references decreases-references
+references-less-2 c = omega (arith, c.if-b_to-j.false)
 
-references-again-2 : tie.Need-references-preserved-2 invariant-references decreases-references
+references-again-2 : tie.Need-references-preserved invariant-references decreases-references
 references-again-2 c =
-    let d = c.before.before.before.before.before.before in
-    let a = d.before.before.before.before in
-    let e = a.before in
-    let l = e.before.before.before in
     let p =
-    invariant_second l.before.before.before.before.before.before.requires l.references.invariant.1 e.before.before.first_next.ensures e.before.if1.false e.if2.false
-    a.reference-at2.ensures d.scan-left2.ensures in
+    invariant_second c.requires c.references.invariant.1 c.first_next.ensures c.if-first_next.false c.if-b_to-j.false
+    c.reference_at-r-in-references.ensures c.scan_left-tally-in-references.ensures in
     (within_lengths p.updated.rest, p)
 
 returns : tie.Need-returns invariant-references decreases-references
 returns c =
-    let l = c.before.before.before in
-    invariant_end l.before.before.before.before.before.before.requires l.references.invariant.1 c.before.before.first_next.ensures c.before.if1.false c.if2.true
+    invariant_end c.requires c.references.invariant.1 c.first_next.ensures c.if-first_next.false c.if-b_to-j.true
 
 pub reverse_run_spec : {M : Type 1} → statement M
 reverse_run_spec =
