@@ -1,5 +1,5 @@
 -- Sites written and read again, and bytes read and written again.
-use mathlib.Core.Path.{◌≡◌, refl, sym, ap, ap₂, ◌∙◌, subst⁻¹}
+use mathlib.Core.Path.{◌≡◌, refl, sym, ap, ap₂, ◌∙◌, subst, subst⁻¹}
 use mathlib.Core.Bool.{true, ◌&&◌}
 use mathlib.Core.List.{List, [], ◌∷◌, ◌++◌, flat_map, append_assoc}
 use Prim.Native.Nat.{ℕ, zero, suc, ◌+◌, ◌*◌, ◌≤◌, ◌<◌}
@@ -81,9 +81,10 @@ sites_read (s ∷ l) p q at e h =
     sym (append_assoc p (site_bytes s) (flat_map site_bytes l ++ q)) in
     let next : length (p ++ site_bytes s) ≡ at + 12 =
     omega (arith, length-append p (site_bytes s), site_length s) in
-    rw head
+    subst (λ (x : List ℕ). sites_from x at (suc (length l)) ≡ s ∷ l) (sym head)
     (ap₂ ◌∷◌ (site_read p (flat_map site_bytes l ++ q) s at e h.0)
-    (rw rest (sites_read l (p ++ site_bytes s) q (at + 12) next h.1)))
+    (subst (λ (x : List ℕ). sites_from x (at + 12) (length l) ≡ l) (sym rest)
+    (sites_read l (p ++ site_bytes s) q (at + 12) next h.1)))
 
 -- Bytes that were read as a site are written.
 site_back : (l : List ℕ) (at : ℕ) → Bytes l → at + 12 ≤ length l → site_bytes (site_in l at) ≡ take 12 (drop at l)

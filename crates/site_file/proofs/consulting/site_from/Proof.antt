@@ -15,63 +15,51 @@ use Rattle.site_file.proofs.ReaderAnswer.{
 use Rattle.site_file.proofs.consulting.site_from.Statement.{statement}
 use Rattle.site_file.proofs.consulting.site_from.Tie as tie
 
-abbrev start : tie.After-held-start → tie.Start
+abbrev start : tie.After-held_start → tie.Start
 start c = c.before.before.before.before.before.before.before.before.before.before
 
 -- The site lies inside the file.
-reach : (c : tie.After-held-start)
+reach : (c : tie.After-held_start)
     → (c.held_start.result + 12 * (start c).args.place + 12 ≤ length (start c).args.file.now)
     × (length (start c).args.file.now ≤ 1_572_856)
 reach c =
-    let second = c.before.before.before in
-    let first = second.before.before in
-    let contents = first.before.before in
-    held_reach _ _ _ _ _ contents.before.contents_refusal.ensures contents.if1.false
-    first.before.word_at.ensures
-    first.if2.false second.before.word-at2.ensures second.if3.false c.before.before.count_in.ensures
-    c.before.if4.false c.held_start.ensures
+    held_reach _ _ _ _ _ c.contents_refusal-refusal.ensures c.if-refusal-ne0.false
+    c.word_at.ensures
+    c.if-word_at-first.false c.word_at-2.ensures c.if-word_at-second.false c.count_in-count.ensures
+    c.if-count-place.false c.held_start.ensures
 
-returns : tie.Need-returns
+returns : tie.Need-returns-then-refusal-ne0
 unfolding site_read_answer
-returns c = held_refused _ _ _ _ _ c.before.contents_refusal.ensures c.if1.true
+returns c = held_refused _ _ _ _ _ c.contents_refusal-refusal.ensures c.if-refusal-ne0.true
 
-returns-2 : tie.Need-returns-2
+returns-2 : tie.Need-returns-then-word_at-first
 unfolding site_read_answer
 returns-2 c =
-    let contents = c.before.before in
-    held_first_wrong _ _ _ _ _ contents.before.contents_refusal.ensures contents.if1.false
-    c.before.word_at.ensures c.if2.true
+    held_first_wrong _ _ _ _ _ c.contents_refusal-refusal.ensures c.if-refusal-ne0.false
+    c.word_at.ensures c.if-word_at-first.true
 
-returns-3 : tie.Need-returns-3
+returns-3 : tie.Need-returns-then-word_at-second
 unfolding site_read_answer
 returns-3 c =
-    let first = c.before.before in
-    let contents = first.before.before in
-    held_second_wrong _ _ _ _ _ contents.before.contents_refusal.ensures contents.if1.false
-    first.before.word_at.ensures first.if2.false c.before.word-at2.ensures c.if3.true
+    held_second_wrong _ _ _ _ _ c.contents_refusal-refusal.ensures c.if-refusal-ne0.false
+    c.word_at.ensures c.if-word_at-first.false c.word_at-2.ensures c.if-word_at-second.true
 
-returns-4 : tie.Need-returns-4
+returns-4 : tie.Need-returns-then-count-place
 unfolding site_read_answer
 returns-4 c =
-    let second = c.before.before in
-    let first = second.before.before in
-    let contents = first.before.before in
-    held_past _ _ _ _ _ contents.before.contents_refusal.ensures contents.if1.false
-    first.before.word_at.ensures
-    first.if2.false second.before.word-at2.ensures second.if3.false c.before.count_in.ensures
-    c.if4.true
+    held_past _ _ _ _ _ c.contents_refusal-refusal.ensures c.if-refusal-ne0.false
+    c.word_at.ensures
+    c.if-word_at-first.false c.word_at-2.ensures c.if-word_at-second.false c.count_in-count.ensures
+    c.if-count-place.true
 
-returns-5 : tie.Need-returns-5
+returns-5 : tie.Need-returns
 unfolding site_read_answer
 returns-5 c =
-    let second = c.before.before.before.before in
-    let first = second.before.before in
-    let contents = first.before.before in
-    held_found _ _ _ _ _ contents.before.contents_refusal.ensures contents.if1.false
-    first.before.word_at.ensures
-    first.if2.false second.before.word-at2.ensures second.if3.false
-    c.before.before.before.count_in.ensures
-    c.before.before.if4.false c.before.held_start.ensures c.site_at.ensures
+    held_found _ _ _ _ _ c.contents_refusal-refusal.ensures c.if-refusal-ne0.false
+    c.word_at.ensures
+    c.if-word_at-first.false c.word_at-2.ensures c.if-word_at-second.false
+    c.count_in-count.ensures
+    c.if-count-place.false c.held_start.ensures c.site_at.ensures
 
 pub site_from_spec : {M : Type 1} → statement M
 site_from_spec =

@@ -7,26 +7,23 @@ use Rattle.site_file.proofs.reading.read_refusal.Statement.{statement}
 use Rattle.site_file.proofs.reading.read_refusal.Tie as tie
 
 -- What lawful contents say.
-known : (c : tie.Else1) → Laid c.before.before.before.args.file.now
-known c = laid _ (sym c.before.contents_refusal.ensures ∙ c.if1.false)
+known : (c : tie.Else-contents-ne0) → Laid c.before.before.before.args.file.now
+known c = laid _ (sym c.contents_refusal-contents.ensures ∙ c.if-contents-ne0.false)
 
-returns : tie.Need-returns
-returns c = read_stops _ c.before.contents_refusal.ensures c.if1.true
+returns : tie.Need-returns-then-contents-ne0
+returns c = read_stops _ c.contents_refusal-contents.ensures c.if-contents-ne0.true
 
-returns-2 : tie.Need-returns-2
+returns-2 : tie.Need-returns-then-first-ne0
 returns-2 c =
-    let test = c.before.before.before in
-    read_first _ test.before.contents_refusal.ensures test.if1.false c.before.before.word_at.ensures
-    c.before.content_refusal.ensures c.if2.true
+    read_first _ c.contents_refusal-contents.ensures c.if-contents-ne0.false c.word_at.ensures
+    c.content_refusal-first.ensures c.if-first-ne0.true
 
-returns-3 : tie.Need-returns-3
+returns-3 : tie.Need-returns
 returns-3 c =
-    let next = c.before.before.before in
-    let test = next.before.before.before in
-    read_second _ test.before.contents_refusal.ensures test.if1.false next.before.before.word_at.ensures
-    next.before.content_refusal.ensures next.if2.false c.before.before.word-at2.ensures
-    c.before.word-at3.ensures
-    c.content-refusal2.ensures
+    read_second _ c.contents_refusal-contents.ensures c.if-contents-ne0.false c.word_at.ensures
+    c.content_refusal-first.ensures c.if-first-ne0.false c.word_at-2.ensures
+    c.word_at-3.ensures
+    c.content_refusal.ensures
 
 pub read_refusal_spec : {M : Type 1} → statement M
 read_refusal_spec =
@@ -44,5 +41,5 @@ read_refusal_spec =
     (λ c. search rules)
     (λ c κs.
     let g = known c.before.before.before.before.before in
-    omega (arith, c.word-at3.ensures, c.before.word-at2.ensures))
+    omega (arith, c.word_at-3.ensures, c.before.word_at-2.ensures))
     returns-3)

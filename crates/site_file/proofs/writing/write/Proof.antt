@@ -10,51 +10,47 @@ use Rattle.site_file.proofs.WriteAnswer.{Ready, ready, write_refused, write_answ
 use Rattle.site_file.proofs.writing.write.Statement.{statement}
 use Rattle.site_file.proofs.writing.write.Tie as tie
 
-abbrev start : tie.Else1 → tie.Start
+abbrev start : tie.Else-refusal-ne0 → tie.Start
 start c = c.before.before.before.before.before
 
-abbrev first : tie.Else1 → Columns
+abbrev first : tie.Else-refusal-ne0 → Columns
 first c = let a = (start c).args in columns a.ax.now a.ay.now a.an.now
 
-abbrev second : tie.Else1 → Columns
+abbrev second : tie.Else-refusal-ne0 → Columns
 second c = let a = (start c).args in columns a.bx.now a.by.now a.bn.now
 
-abbrev stored : tie.After-put-sites2 → tie.Else1
+abbrev stored : tie.After-put_sites-2 → tie.Else-refusal-ne0
 stored c = c.before.before.before.before.before.before.before.before.before.before
 
 -- What is known where nothing refuses.
-known : (c : tie.Else1) → Ready (first c) (second c) (length (start c).args.buffer.now)
-known c = ready _ _ _ (sym c.before.write_refusal.ensures ∙ c.if1.false)
+known : (c : tie.Else-refusal-ne0) → Ready (first c) (second c) (length (start c).args.buffer.now)
+known c = ready _ _ _ (sym c.write_refusal-refusal.ensures ∙ c.if-refusal-ne0.false)
 
-returns : tie.Need-returns
+returns : tie.Need-returns-then-refusal-ne0
 unfolding written_answer
 returns c =
-    let call = c.before in
-    write_refused _ _ call.before.before.before.before.args.buffer.now call.write_refusal.ensures
-    c.if1.true
+    write_refused _ _ c.args.buffer.now c.write_refusal-refusal.ensures
+    c.if-refusal-ne0.true
 
-put-sites-requires : tie.Need-put-sites-requires
+put-sites-requires : tie.Need-put_sites-requires
 put-sites-requires c κs =
-    let contents = c.before.before.before in
-    let g = known contents.before.before in
-    (omega (arith, contents.put-contents.auto.0), accepted_level _ g.first)
+    let g = known c.before.before.before.before.before in
+    (omega (arith, c.put_contents.auto.buffer), accepted_level _ g.first)
 
-put-sites-requires-2 : tie.Need-put-sites-requires-2
+put-sites-requires-2 : tie.Need-put_sites-requires-2
 put-sites-requires-2 c κs =
-    let g = known c.before.before.before.before.before.before.before.before.before in
-    let sites = c.before.before.before in (
-      omega (arith, sites.put-sites.auto.0, sites.before.before.before.before.put-contents.auto.0),
+    let g = known c.before.before.before.before.before.before.before.before.before in (
+      omega (arith, c.put_sites.auto.buffer, c.put_contents.auto.buffer),
       accepted_level _ g.second,
     )
 
-returns-2 : tie.Need-returns-2
+returns-2 : tie.Need-returns
 unfolding written_answer
 returns-2 c =
-    let last = c.before.before in
-    let test = stored last in
-    write_answered _ _ (start test).args.buffer.now test.before.write_refusal.ensures test.if1.left
-    last.before.before.before.before.before.before.before.before.put-contents.ensures last.before.before.before.before.put-sites.ensures
-    last.put-sites2.ensures
+    let test = stored c.before.before in
+    write_answered _ _ (start test).args.buffer.now test.before.write_refusal-refusal.ensures test.if-refusal-ne0.false
+    c.put_contents.ensures c.put_sites.ensures
+    c.put_sites-2.ensures
 
 pub write_spec : {M : Type 1} → statement M
 write_spec =
