@@ -1,7 +1,6 @@
 -- `held_start` meets its contract.
 use mathlib.Core.Path.{refl}
 use Rattle.site_file.proofs.ReaderAnswer.{held_first, held_second}
-use borrow.Author.Rules.{rules}
 use Rattle.site_file.proofs.consulting.held_start.Goals as goal
 
 pub returns-in-First : goal.returns-in-First

@@ -1,6 +1,5 @@
 -- `put_word` meets its contract.
 use native.Mathlib.Omega.{arith}
-use borrow.Author.Rules.{rules}
 use lib.ListN.{length-set}
 use Rattle.site_file.proofs.Bytes.{word_stored}
 use Rattle.site_file.proofs.numbers.put_word.Goals as goal

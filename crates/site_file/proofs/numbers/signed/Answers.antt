@@ -1,5 +1,4 @@
 -- `signed` meets its contract, for every `u32`.
-use borrow.Author.Rules.{rules}
 use Rattle.site_file.proofs.Bytes.{signed_low, signed_difference, signed_cast_fits, signed_result}
 use Rattle.site_file.proofs.numbers.signed.Goals as goal
 

@@ -1,7 +1,6 @@
 -- `whole_word` meets its contract.
 use native.Mathlib.Omega.{arith}
 use Rattle.site_file.specs.Bytes.{word}
-use borrow.Author.Rules.{rules}
 use Rattle.site_file.proofs.numbers.whole_word.Goals as goal
 
 pub returns : goal.returns

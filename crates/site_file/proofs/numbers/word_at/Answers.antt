@@ -1,6 +1,5 @@
 -- `word_at` meets its contract: other words are read in the rest of the file.
 use Rattle.site_file.proofs.Word.{word_made, word_none}
-use borrow.Author.Rules.{rules}
 use Rattle.site_file.proofs.numbers.word_at.Goals as goal
 
 pub returns-then-file-at : goal.returns-then-file-at

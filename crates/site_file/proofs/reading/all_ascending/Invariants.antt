@@ -1,13 +1,10 @@
 -- `all_ascending` meets its contract: what is left to test answers for the whole.
-use mathlib.Core.Path.{◌≡◌, refl, sym, ◌∙◌}
+use mathlib.Core.Path.{◌≡◌}
 use Prim.Native.Nat.{◌+◌, ◌*◌, ◌≤◌}
-use borrow.Author.Rules.{rules}
-use borrow.Author.Tests.{not-true, not-false}
 use lib.ListN.{length}
 use Rattle.order.specs.Order.{ascending}
 use Rattle.site.specs.Site.{site_before}
 use Rattle.site_file.specs.File.{sites_from}
-use Rattle.site_file.proofs.File.{ascending_step, ascending_stop, ascending_end}
 use Rattle.site_file.proofs.reading.all_ascending.Given as goal
 
 abbrev pub invariant-loop-left : goal.invariant-loop-left

@@ -1,12 +1,6 @@
 -- `all_lawful` meets its contract: what is left to test answers for the whole.
-use mathlib.Core.Path.{◌≡◌, refl, sym, ◌∙◌}
-use Prim.Native.Nat.{◌+◌, ◌*◌, ◌≤◌}
+use mathlib.Core.Path.{refl, sym, ◌∙◌}
 use borrow.Author.Rules.{rules}
-use borrow.Author.Tests.{not-true, not-false}
-use lib.ListN.{length}
-use Rattle.order.specs.Lists.{all}
-use Rattle.site.specs.Site.{lawful_site}
-use Rattle.site_file.specs.File.{sites_from}
 use Rattle.site_file.proofs.File.{lawful_step, lawful_stop, lawful_end}
 use Rattle.site_file.proofs.reading.all_lawful.Goals as goal
 

@@ -1,13 +1,10 @@
 -- `all_lawful` meets its contract: what is left to test answers for the whole.
-use mathlib.Core.Path.{◌≡◌, refl, sym, ◌∙◌}
+use mathlib.Core.Path.{◌≡◌}
 use Prim.Native.Nat.{◌+◌, ◌*◌, ◌≤◌}
-use borrow.Author.Rules.{rules}
-use borrow.Author.Tests.{not-true, not-false}
 use lib.ListN.{length}
 use Rattle.order.specs.Lists.{all}
 use Rattle.site.specs.Site.{lawful_site}
 use Rattle.site_file.specs.File.{sites_from}
-use Rattle.site_file.proofs.File.{lawful_step, lawful_stop, lawful_end}
 use Rattle.site_file.proofs.reading.all_lawful.Given as goal
 
 abbrev pub invariant-loop-left : goal.invariant-loop-left

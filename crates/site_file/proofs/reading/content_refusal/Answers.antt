@@ -1,6 +1,4 @@
 -- `content_refusal` meets its contract: the limits, then the order.
-use borrow.Author.Rules.{rules}
-use borrow.Author.Tests.{not-true, not-false}
 use Rattle.site_file.proofs.ReadAnswer.{unlawful_site, unordered_sites, lawful_sites}
 use Rattle.site_file.proofs.reading.content_refusal.Goals as goal
 

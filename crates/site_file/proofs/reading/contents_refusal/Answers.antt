@@ -10,7 +10,6 @@ use Rattle.site_file.proofs.ReadAnswer.{
   length_wrong,
   contents_right,
 }
-use borrow.Author.Rules.{rules}
 use Rattle.site_file.proofs.reading.contents_refusal.Goals as goal
 
 pub returns-then-file-lt16 : goal.returns-then-file-lt16

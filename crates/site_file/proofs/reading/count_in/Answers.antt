@@ -1,6 +1,5 @@
 -- `count_in` meets its contract.
 use Rattle.site_file.proofs.File.{count_first, count_second}
-use borrow.Author.Rules.{rules}
 use Rattle.site_file.proofs.reading.count_in.Goals as goal
 
 pub returns-in-First : goal.returns-in-First

@@ -1,5 +1,4 @@
 -- `read` meets its contract: the refusal, or both counts.
-use borrow.Author.Rules.{rules}
 use Rattle.site_file.specs.Calls.{file_read_answer}
 use Rattle.site_file.proofs.ReadAnswer.{read_refused, read_answered}
 use Rattle.site_file.proofs.reading.read.Goals as goal

@@ -1,6 +1,5 @@
 -- `site_at` meets its contract.
 use Rattle.site_file.proofs.File.{site_made}
-use borrow.Author.Rules.{rules}
 use Rattle.site_file.proofs.reading.site_at.Goals as goal
 
 pub returns : goal.returns

@@ -1,5 +1,4 @@
 -- `put_contents` meets its contract: four words stored in a row.
-use borrow.Author.Rules.{rules}
 use Rattle.site_file.proofs.WriteAnswer.{contents_stored}
 use Rattle.site_file.proofs.writing.put_contents.Goals as goal
 

@@ -1,5 +1,4 @@
 -- `put_site` meets its contract: three words stored in a row.
-use borrow.Author.Rules.{rules}
 use Rattle.site_file.proofs.File.{site_stored}
 use Rattle.site_file.proofs.writing.put_site.Goals as goal
 

@@ -1,14 +1,11 @@
 -- `put_sites` meets its contract: what is left to store, stored after what was, is the whole body.
-use mathlib.Core.Path.{◌≡◌, refl, ◌∙◌}
+use mathlib.Core.Path.{◌≡◌}
 use mathlib.Core.List.{flat_map}
 use Prim.Native.Nat.{◌+◌, ◌-◌, ◌*◌, ◌≤◌}
-use native.Mathlib.Omega.{arith}
-use borrow.Author.Rules.{rules}
 use lib.ListN.{length, drop}
 use Rattle.site.specs.SiteList.{columns, sites}
 use Rattle.column.specs.Column.{stored}
 use Rattle.site_file.specs.File.{site_bytes}
-use Rattle.site_file.proofs.File.{sites_step, sites_end}
 use Rattle.site_file.proofs.writing.put_sites.Given as goal
 
 abbrev pub invariant-loop-i : goal.invariant-loop-i
