@@ -1,5 +1,5 @@
 -- One scan: what it leaves out cannot enter, so it finds the best K of all its candidates.
-use mathlib.Core.Path.{◌≡◌, refl, sym, ap, ◌∙◌}
+use mathlib.Core.Path.{◌≡◌, refl, sym, ap, ap₂, subst, ◌∙◌}
 use mathlib.Core.Bool.{Bool, true, false}
 use mathlib.Core.List.{List, [], ◌∷◌, ◌++◌, map, append-nil, Permᴰ}
 use Prim.Native.Nat.{ℕ, suc, ◌≤◌, ◌<◌}
@@ -180,5 +180,6 @@ module _ {X : Type 0} (f : X → Candidate) where
     scan_rest [] s w = rw (scan_nil counts k s) tt
     scan_rest (x ∷ l) s w =
         by_test (beyond k s.entries (f x).gap)
-        (λ t. rw (scan_stop counts k (f x) (map f l) s t) (rw (stopped_list x s t) (beyond_all k s.entries x l w t)))
+        (λ t. rw (scan_stop counts k (f x) (map f l) s t)
+        (subst (λ (e : List Entry). All (λ y. beyond k e (f y).gap ≡ true) (x ∷ l)) (sym (stopped_list x s t)) (beyond_all k s.entries x l w t)))
         (λ n. rw (scan_on counts k (f x) (map f l) s n) (scan_rest l (look_at counts k (f x) s) w.1))

@@ -1,5 +1,5 @@
 -- Laws of runs of sites read from two columns.
-use mathlib.Core.Path.{◌≡◌, refl, sym, ap, ◌∙◌}
+use mathlib.Core.Path.{◌≡◌, refl, sym, ap, ap₂, subst, ◌∙◌}
 use mathlib.Core.List.{List, [], ◌∷◌, ◌++◌}
 use Prim.Native.Nat.{ℕ, zero, suc, ◌+◌, ◌-◌, ◌≤◌, ◌<◌}
 use native.Mathlib.Numerals.{add-one}
@@ -77,8 +77,9 @@ module _ (xs ys hs : List ℤ) where
   take_first limit (suc m) zero h = absurd (omega arith)
   take_first limit (suc m) (suc n) h =
       let same : limit + (suc n - suc m) ≡ limit + (n - m) = omega arith in
-      let at : (limit + (n - m)) + m ≡ limit + n = omega arith in
-      rw (same, at) (ap (λ (r : List Placed). spot xs ys hs (limit + n) ∷ r) (take_first limit m n (omega arith)))
+      let at : limit + n ≡ (limit + (suc n - suc m)) + m = omega arith in
+      ap₂ (λ (i : ℕ) (r : List Placed). spot xs ys hs i ∷ r) at
+      (take_first limit m n (omega arith) ∙ ap (λ (i : ℕ). leftward xs ys hs i m) (sym same))
 
   -- What a scan passed stands past the new limit.
   pub take_leftward : (limit stop at n : ℕ) → limit ≤ stop → stop + n ≡ at

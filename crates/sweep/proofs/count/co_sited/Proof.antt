@@ -22,8 +22,8 @@ decreases-loop ax ay ah bx by bh a-from a-to b-from b-to count₀ i₀ j₀ coun
 
 -- From both fingers on there is a strip, with a site.
 fingers : (c : tie.Then-j-b_to invariant-loop decreases-loop)
-    → let l = c.before.before.loop-i in
-    let s = c.before.before.before.args in
+    → let l = c.loop-i in
+    let s = c.args in
     StripIn s.ax.now s.ay.now s.ah.now l.i s.a_to × (l.i < s.a_to)
     × StripIn s.bx.now s.by.now s.bh.now l.j s.b_to × (l.j < s.b_to)
 fingers c =
@@ -32,12 +32,12 @@ fingers c =
       strip_on l.i s.0 l.invariant.0,
       c.loop-i-test.true,
       strip_on l.j s.1 l.invariant.1,
-      ltb-true _ _ c.if-j-b_to.true,
+      c.if-j-b_to.true,
     )
 
 -- All of them are few.
 few : (c : tie.Then-j-b_to invariant-loop decreases-loop)
-    → let s = c.before.before.before.args in
+    → let s = c.args in
     co_sited_from s.ax.now s.ay.now s.ah.now s.bx.now s.by.now s.bh.now s.a_from s.a_to s.b_from s.b_to ≤ 4_294_836_225
 few c = let s = c.requires in omega (arith, pairs_counted s.0 s.1, all_few s.0 s.1)
 
@@ -48,14 +48,14 @@ inside c = c.before.before.before.before.before.before
 runs : (c : tie.After-run_end-q invariant-loop decreases-loop)
     → let l = (inside c).before.before.loop-i in
     let s = (inside c).before.before.before.args in
-    let p = c.before.run_end-p.result in
+    let p = c.run_end-p.result in
     let q = c.run_end-q.result in
     co_sited_from s.ax.now s.ay.now s.ah.now s.bx.now s.by.now s.bh.now l.i s.a_to l.j s.b_to
     ≡ equal_pairs (take (p - l.i) (drop l.i s.ah.now)) (take (q - l.j) (drop l.j s.bh.now)) + co_sited_from s.ax.now s.ay.now s.ah.now s.bx.now s.by.now s.bh.now p s.a_to q s.b_to
 runs c =
     let f = fingers (inside c) in
     co_sited_runs f.0 f.2 c.run_end-p.ensures c.run_end-q.ensures
-    (sym c.before_at.ensures ∙ c.if-before_at.false) (sym c.before.before_at-else-before_at.ensures ∙ c.if-before_at-2.false)
+    (sym c.before_at.ensures ∙ c.if-before_at.false) (sym c.before_at-else-before_at.ensures ∙ c.if-before_at-2.false)
 
 loop-holds : tie.Need-loop-i-init invariant-loop decreases-loop
 loop-holds c = (c.requires.0.range, c.requires.1.range, omega arith)
@@ -93,7 +93,7 @@ loop-again-2 : tie.Need-loop-i-preserved-then-before_at-2 invariant-loop decreas
 loop-again-2 c =
     let f = fingers c.before.before.before.before in
     let l = c.loop-i in
-    let on = co_sited_second f.0 f.2 f.3 (sym c.before.before_at-else-before_at.ensures ∙ c.if-before_at-2.true) in
+    let on = co_sited_second f.0 f.2 f.3 (sym c.before_at-else-before_at.ensures ∙ c.if-before_at-2.true) in
     (l.invariant.0, omega (arith, f.3), omega (arith, l.invariant.2))
 
 run-end-requires : tie.Need-run_end-p-requires invariant-loop decreases-loop
@@ -103,19 +103,19 @@ run-end-requires-2 : tie.Need-run_end-q-requires invariant-loop decreases-loop
 run-end-requires-2 c κs = let f = fingers c.before.before.before.before.before in (strip_plane f.2, f.3)
 
 -- A run of the first list's heights, and of the second's.
-part-start : tie.Need-slice-bounds-equal-pairs-start invariant-loop decreases-loop
-part-start c = omega (arith, c.before.run_end-p.ensures.onward)
+part-start : tie.Need-slice_bounds-equal_pairs-start invariant-loop decreases-loop
+part-start c = omega (arith, c.run_end-p.ensures.onward)
 
-part_end : tie.Need-slice-bounds-equal-pairs-end invariant-loop decreases-loop
+part_end : tie.Need-slice_bounds-equal_pairs-end invariant-loop decreases-loop
 part_end c =
-    let s = (fingers (inside c)).0 in omega (arith, c.before.run_end-p.ensures.inside, s.inside, s.heights.equal)
+    let s = (fingers (inside c)).0 in omega (arith, c.run_end-p.ensures.inside, s.inside, s.heights.equal)
 
-part-start-2 : tie.Need-slice-bounds-equal-pairs-start-2 invariant-loop decreases-loop
-part-start-2 c = omega (arith, c.before.run_end-q.ensures.onward)
+part-start-2 : tie.Need-slice_bounds-equal_pairs-start-else-before_at-2 invariant-loop decreases-loop
+part-start-2 c = omega (arith, c.run_end-q.ensures.onward)
 
-part-end-2 : tie.Need-slice-bounds-equal-pairs-end-2 invariant-loop decreases-loop
+part-end-2 : tie.Need-slice_bounds-equal_pairs-end-else-before_at-2 invariant-loop decreases-loop
 part-end-2 c =
-    let s = (fingers (inside c.before)).2 in omega (arith, c.before.run_end-q.ensures.inside, s.inside, s.heights.equal)
+    let s = (fingers (inside c.before)).2 in omega (arith, c.run_end-q.ensures.inside, s.inside, s.heights.equal)
 
 equal-pairs-requires : tie.Need-equal_pairs-count-requires invariant-loop decreases-loop
 equal-pairs-requires c κs =
@@ -145,7 +145,7 @@ returns : tie.Need-returns-else-j-b_to invariant-loop decreases-loop
 returns c =
     let l = c.loop-i in
     let s = c.requires in
-    let none = co_sited_none_second (strip_on l.i s.0 l.invariant.0) (strip_on l.j s.1 l.invariant.1) (ltb-false _ _ c.if-j-b_to.false) in
+    let none = co_sited_none_second (strip_on l.i s.0 l.invariant.0) (strip_on l.j s.1 l.invariant.1) c.if-j-b_to.false in
     omega (arith, l.invariant.2)
 
 returns-2 : tie.Need-returns-after-loop-i invariant-loop decreases-loop

@@ -15,9 +15,9 @@ decreases-loop xs ys from to known₀ end₀ known end = end - known
 
 -- The middle is inside.
 middle : (c : tie.In-loop-known invariant-loop decreases-loop)
-    → let l = c.before.loop-known in
+    → let l = c.loop-known in
     let m = l.known + (l.end - l.known) / 2 in
-    (l.known ≤ m) × (m < l.end) × (l.end ≤ c.before.before.args.to)
+    (l.known ≤ m) × (m < l.end) × (l.end ≤ c.args.to)
 middle c = (omega arith, omega (arith, c.loop-known-test.true), c.loop-known.invariant.inside)
 
 loop-holds : tie.Need-loop-known-init invariant-loop decreases-loop

@@ -11,10 +11,10 @@ use borrow.Author.Rules.{rules, sfits_of}
 use Rattle.sweep.proofs.look.plane_distance_at.Statement.{statement}
 use Rattle.sweep.proofs.look.plane_distance_at.Tie as tie
 
-fits_x : (c : tie.After-struct_told-2-1) → SFits w32 c.before.before.before.before.args.reference.x
+fits_x : (c : tie.After-struct_told-2-1) → SFits w32 c.args.reference.x
 fits_x c = sfits_of (search rules)
 
-fits_y : (c : tie.After-struct_told-2-1) → SFits w32 c.before.before.before.before.args.reference.y
+fits_y : (c : tie.After-struct_told-2-1) → SFits w32 c.args.reference.y
 fits_y c = sfits_of (search rules)
 
 plane-distance-requires : tie.Need-plane_distance-requires

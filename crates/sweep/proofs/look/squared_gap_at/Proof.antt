@@ -9,7 +9,7 @@ use borrow.Author.Rules.{rules, sfits_of}
 use Rattle.sweep.proofs.look.squared_gap_at.Statement.{statement}
 use Rattle.sweep.proofs.look.squared_gap_at.Tie as tie
 
-fits_x : (c : tie.After-struct_told-1) → SFits w32 c.before.before.args.reference.x
+fits_x : (c : tie.After-struct_told-1) → SFits w32 c.args.reference.x
 fits_x c = sfits_of (search rules)
 
 returns : tie.Need-returns

@@ -22,10 +22,10 @@ decreases-loop reference xs ys hs limit taken k distance₀ first₀ second₀ a
 
 loop-holds : tie.Need-loop-at-init invariant-loop decreases-loop
 loop-holds c =
-    let n = length_leftward c.args.xs.now c.args.ys.now c.args.hs.now c.args.limit (c.args.true - c.args.limit) in
+    let n = length_leftward c.args.xs.now c.args.ys.now c.args.hs.now c.args.limit (c.args.taken - c.args.limit) in
     (search rules, (c.requires.range, search rules), invariant_starts c.requires _ (omega arith))
 
-under : (c : tie.Else-at-limit invariant-loop decreases-loop) → (c.before.before.before.before.before.args.limit < c.before.loop-at.at) × (c.before.loop-at.at - 1 < c.before.before.before.before.before.args.true)
+under : (c : tie.Else-at-limit invariant-loop decreases-loop) → (c.args.limit < c.loop-at.at) × (c.loop-at.at - 1 < c.args.taken)
 under c = omega (arith, c.if-at-limit.false)
 
 sub-look : tie.Need-overflow_sub-at invariant-loop decreases-loop

@@ -24,8 +24,8 @@ loop-holds c =
     (search rules, invariant_start c.requires c.start.ensures)
 
 -- The second list's finger is inside.
-below : (c : tie.Then-j-b_to invariant-loop decreases-loop) → c.before.before.loop-i.j < c.before.before.before.before.before.before.before.before.args.b_to
-below c = ltb-true _ _ c.if-j-b_to.true
+below : (c : tie.Then-j-b_to invariant-loop decreases-loop) → c.loop-i.j < c.args.b_to
+below c = c.if-j-b_to.true
 
 first-next-requires : tie.Need-first_next-requires invariant-loop decreases-loop
 first-next-requires c κs = let s = c.requires in (s.a.inside, s.b.inside)
@@ -77,7 +77,7 @@ loop-again-2 c =
     (within_lengths p.updated.rest, p)
 
 returns : tie.Need-returns-else-j-b_to invariant-loop decreases-loop
-returns c = invariant_end c.requires c.loop-i.invariant.1 (inr (ltb-false _ _ c.if-j-b_to.false))
+returns c = invariant_end c.requires c.loop-i.invariant.1 (inr c.if-j-b_to.false)
 
 returns-2 : tie.Need-returns-after-loop-i invariant-loop decreases-loop
 returns-2 c = invariant_end c.requires c.loop-i.invariant.1 (inl c.loop-i-test.false)

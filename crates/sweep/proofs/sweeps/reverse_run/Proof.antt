@@ -24,7 +24,7 @@ references-holds c =
 first-next-requires : tie.Need-first_next-requires invariant-references decreases-references
 first-next-requires c κs = let s = c.requires in (s.a.inside, s.b.inside)
 
-in_first : (c : tie.Then-first_next invariant-references decreases-references) → c.before.before.references.i < c.before.before.before.before.before.before.before.before.args.a_to
+in_first : (c : tie.Then-first_next invariant-references decreases-references) → c.references.i < c.args.a_to
 in_first c = invariant_in c.requires c.references.invariant.1 c.first_next.ensures c.if-first_next.true
 
 reference-at-requires : tie.Need-reference_at-r-requires invariant-references decreases-references

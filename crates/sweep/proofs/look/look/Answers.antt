@@ -1,0 +1,50 @@
+-- A look: each return is one of its outcomes.
+use native.Mathlib.Omega.{arith}
+use borrow.Author.Rules.{rules}
+use borrow.Author.Tests.{eqb-true, eqb-false}
+use mathlib.Core.Path.{refl}
+use mathlib.Core.Logic.{⊎_elim}
+use Rattle.sweep.proofs.LookLaws.{look_stops, look_flat, look_passes, look_leaves, look_offers}
+use Rattle.sweep.proofs.look.look.Goals as goal
+use Rattle.sweep.proofs.look.look.Goals.{then-tally-squared-via-then-tally-squared, then-tally-squared-via-else-tally-squared+then-squared-eq0}
+
+pub returns-then-tally-squared_gap_at : goal.returns-then-tally-squared_gap_at
+returns-then-tally-squared_gap_at c = look_stops c.requires c.squared_gap_at.ensures c.if-tally-squared_gap_at.true
+
+pub returns-then-tally-plane_distance_at : goal.returns-then-tally-plane_distance_at
+returns-then-tally-plane_distance_at c = look_flat c.requires c.squared_gap_at.ensures refl c.if-tally-squared_gap_at.false c.plane_distance_at.ensures c.if-tally-plane_distance_at.true
+
+pub returns-then-tally-squared : goal.returns-then-tally-squared
+returns-then-tally-squared c =
+    elim c.then-tally-squared.branch [
+      | then-tally-squared-via-then-tally-squared w ↦
+          look_passes c.requires c.squared_gap_at.ensures c.squared_distance_at-squared.ensures c.if-tally-squared_gap_at.false w.if-tally-squared.true
+      | then-tally-squared-via-else-tally-squared+then-squared-eq0 w ↦
+          look_leaves c.requires c.squared_gap_at.ensures c.squared_distance_at-squared.ensures c.if-tally-squared_gap_at.false w.if-squared-eq0.true
+    ]
+
+pub returns-then-reference : goal.returns-then-reference
+returns-then-reference c =
+    rw c.gone_on.ensures
+    (look_offers c.requires c.squared_gap_at.ensures c.squared_distance_at-squared.ensures c.if-tally-squared_gap_at.false
+    c.if-squared-eq0.false (rw c.if-reference.true c.pair-e.ensures) c.offer-next.ensures)
+
+pub returns : goal.returns
+returns c =
+    rw c.gone_on-2.ensures
+    (look_offers c.requires c.squared_gap_at.ensures c.squared_distance_at-squared.ensures c.if-tally-squared_gap_at.false
+    c.if-squared-eq0.false (rw c.if-reference.false c.pair-e-2.ensures) c.offer-next-2.ensures)
+
+pub overflow_cast-other : goal.overflow_cast-other
+overflow_cast-other c = let asked = c.requires in omega (arith, asked.inside, asked.lawful.others.few)
+
+pub offer-next-requires : goal.offer-next-requires
+offer-next-requires c = c.requires.queue
+
+pub offer-next-requires-2 : goal.offer-next-requires-2
+offer-next-requires-2 c = c.requires.queue
+
+pub plane_distance_at-requires : goal.plane_distance_at-requires
+plane_distance_at-requires c =
+    let asked = c.requires in
+    record { x_value = (asked.lawful.x, asked.lawful.y); coordinates = (asked.lawful.others, asked.inside) }
