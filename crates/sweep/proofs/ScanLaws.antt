@@ -1,5 +1,5 @@
 -- One scan: what it leaves out cannot enter, so it finds the best K of all its candidates.
-use mathlib.Core.Path.{◌≡◌, refl, sym, ap, ap₂, subst, ◌∙◌}
+use mathlib.Core.Path.{◌≡◌, refl, sym, ap, subst, ◌∙◌}
 use mathlib.Core.Bool.{Bool, true, false}
 use mathlib.Core.List.{List, [], ◌∷◌, ◌++◌, map, append-nil, Permᴰ}
 use Prim.Native.Nat.{ℕ, suc, ◌≤◌, ◌<◌}

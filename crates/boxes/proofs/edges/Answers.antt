@@ -3,17 +3,16 @@ use borrow.Author.Rules.{rules, sfits_of}
 use mathlib.Core.Path.{◌≡◌, refl, ◌∙◌, ap₂}
 use mathlib.Core.Bool.{Bool}
 use mathlib.Core.List.{[], ◌∷◌}
-use Prim.Native.Nat.{◌+◌, ◌-◌, ◌≤◌}
+use Prim.Native.Nat.{◌+◌}
 use native.Mathlib.Omega.{arith}
 use lib.IntN.{ℤ, pos}
 use lib.Signed.{lt_z}
-use lib.ListN.{length, drop, get_or}
+use lib.ListN.{drop, get_or}
 use mir.Syntax.{w32}
 use mir.Val.{SFits, to_z, of_z}
 use mir.Facts.{to_z-of_z}
 use Rattle.order.specs.Order.{after, first_of}
 use Rattle.site.proofs.Signed.{at₂}
-use Rattle.boxes.specs.Box.{edges}
 use Rattle.boxes.proofs.Widened.{widened, widened_start, widened_step, widened_end, no_edges}
 use Rattle.boxes.proofs.edges.Goals as goal
 

@@ -1,5 +1,5 @@
 -- `boxes::gap_along` meets its contract.
-use borrow.Author.Rules.{rules, sfits_of}
+use borrow.Author.Rules.{sfits_of}
 use mir.Facts.{to_z-of_z}
 use Rattle.site.proofs.Signed.{at₄}
 use Rattle.boxes.specs.Box.{range_gap}

@@ -1,5 +1,5 @@
 -- `boxes::sorted_edges` meets its contract.
-use borrow.Author.Rules.{rules, sfits_of}
+use borrow.Author.Rules.{sfits_of}
 use mir.Facts.{to_z-of_z}
 use Rattle.boxes.proofs.Widened.{no_edges, sorted_edges}
 use mir.Syntax.{w32}

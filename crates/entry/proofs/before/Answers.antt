@@ -1,5 +1,4 @@
 -- What the comparison tells is the rank.
-use borrow.Author.Rules.{rules}
 use Rattle.entry.proofs.RankCompare.{rank_told}
 use Rattle.entry.proofs.before.Goals as goal
 

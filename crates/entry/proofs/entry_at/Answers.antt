@@ -1,5 +1,4 @@
 -- `entry::entry_at` meets its contract: each number is its column's.
-use borrow.Author.Rules.{rules}
 use Rattle.entry.specs.Entry.{entry}
 use Rattle.entry.proofs.entry_at.Goals as goal
 

@@ -1,5 +1,4 @@
 -- `entry::lawful_k` meets its contract.
-use borrow.Author.Rules.{rules}
 use Rattle.entry.specs.Entry.{lawful_k}
 use Rattle.entry.proofs.lawful_k.Goals as goal
 

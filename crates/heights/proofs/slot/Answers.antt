@@ -1,7 +1,6 @@
 -- `heights::slot` meets its contract.
 use mathlib.Core.Path.{◌≡◌}
 use native.Mathlib.Omega.{arith}
-use borrow.Author.Rules.{rules}
 use lib.IntN.{negsuc}
 use mir.Facts.{to_z-of_z}
 use Rattle.site.specs.Site.{gap}

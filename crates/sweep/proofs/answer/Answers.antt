@@ -1,6 +1,5 @@
 -- The queue finished, and the answer of the state that the tally and the columns held.
 use mathlib.Core.Path.{refl, sym}
-use borrow.Author.Rules.{rules}
 use Rattle.entry.proofs.Queueing.{length_queued}
 use Rattle.sweep.specs.Internal.{state_of}
 use Rattle.sweep.proofs.answer.Goals as goal

@@ -1,5 +1,4 @@
 -- Each way by its own function, and the answer from what it leaves.
-use borrow.Author.Rules.{rules}
 use Rattle.sweep.specs.declared.Way.TheVariants.{Classic, ReverseRun}
 use Rattle.sweep.proofs.SweptStrips.{swept_asks, swept_strips}
 use Rattle.sweep.proofs.run.Goals as goal

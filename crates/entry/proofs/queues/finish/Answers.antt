@@ -1,5 +1,4 @@
 -- Entries that came in are put in order.
-use borrow.Author.Rules.{rules}
 use Rattle.entry.specs.Terms.{queued}
 use Rattle.entry.proofs.Queueing.{finish_none}
 use Rattle.entry.proofs.queues.finish.Goals as goal

@@ -1,6 +1,5 @@
 -- An entry comes in behind the others or on top of a heap, or not at all.
 use borrow.Author.Rules.{rules}
-use borrow.Author.Tests.{not-true, not-false}
 use Rattle.entry.proofs.HeapedFrom.{heaped_at}
 use Rattle.entry.proofs.QueueOf.{offer_pushes, last_inside, offer_keeps, offer_heap, offer_replaces}
 use Rattle.entry.proofs.queues.offer.Statement.{statement}

@@ -1,6 +1,5 @@
 -- While there is room any squared distance can enter, and after that none past the last.
 use borrow.Author.Tests.{eq-eqb, ne_eqb}
-use borrow.Author.Rules.{rules}
 use Rattle.entry.proofs.queues.reach.Goals as goal
 
 pub returns-then-count-k : goal.returns-then-count-k

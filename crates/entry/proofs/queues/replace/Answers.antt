@@ -1,5 +1,4 @@
 -- The entry is put in on top.
-use borrow.Author.Rules.{rules}
 use Rattle.entry.proofs.QueueOf.{replace_asks, replaced}
 use Rattle.entry.proofs.queues.replace.Goals as goal
 

@@ -1,5 +1,4 @@
 -- The last entry stands at the end, and the reach is that of the entries.
-use borrow.Author.Rules.{rules}
 use Rattle.entry.proofs.queues.start.Goals as goal
 
 pub returns : goal.returns

@@ -1,5 +1,4 @@
 -- `site::Site::height_within` meets its contract.
-use borrow.Author.Rules.{rules}
 use lib.IntN.{pos, negsuc}
 use mir.Facts.{to_z-of_z}
 use Rattle.site.specs.Site.{between, height_within}

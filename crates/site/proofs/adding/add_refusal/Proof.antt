@@ -2,7 +2,6 @@
 use mathlib.Core.Path.{◌≡◌, sym, ◌∙◌}
 use mathlib.Core.Bool.{true}
 use borrow.Author.Rules.{rules}
-use borrow.Author.Tests.{not-true, not-false}
 use mir.Facts.{to_z-of_z}
 use Rattle.site.specs.Site.{Site, lawful_site}
 use Rattle.site.specs.SiteList.{Columns, raised, site, raised_site, sites, in_use}

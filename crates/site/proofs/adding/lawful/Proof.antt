@@ -1,7 +1,6 @@
 -- `site::lawful` meets its contract.
 use mathlib.Core.Path.{◌≡◌, refl, sym, ◌∙◌}
 use borrow.Author.Rules.{rules}
-use borrow.Author.Tests.{not-true, not-false}
 use mir.Facts.{to_z-of_z}
 use Rattle.site.specs.Site.{within, height_within}
 use Rattle.site.specs.SiteList.{raised_site}

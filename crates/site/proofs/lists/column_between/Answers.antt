@@ -1,6 +1,5 @@
 -- `site::column_between` meets its contract.
 use mathlib.Core.Path.{◌∙◌}
-use borrow.Author.Rules.{rules}
 use mir.Facts.{to_z-of_z}
 use Rattle.order.specs.Lists.{all}
 use Rattle.site.specs.Site.{between}

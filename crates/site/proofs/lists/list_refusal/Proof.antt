@@ -1,7 +1,6 @@
 -- `site::list_refusal` meets its contract.
 use mathlib.Core.Path.{◌≡◌, sym, ◌∙◌}
 use borrow.Author.Rules.{rules}
-use borrow.Author.Tests.{not-true, not-false}
 use native.Mathlib.Omega.{arith}
 use Rattle.site.specs.Site.{height_within}
 use Rattle.site.specs.SiteList.{columns}

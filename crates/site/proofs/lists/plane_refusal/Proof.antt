@@ -2,7 +2,6 @@
 use mathlib.Core.Path.{◌≡◌, sym, ◌∙◌}
 use mathlib.Core.Bool.{true}
 use borrow.Author.Rules.{rules}
-use borrow.Author.Tests.{not-true, not-false}
 use Rattle.order.specs.Lists.{all}
 use Rattle.site.specs.Site.{within}
 use Rattle.site.specs.SiteList.{Columns, columns}

@@ -1,5 +1,4 @@
 -- `site::remove_site` meets its contract.
-use borrow.Author.Rules.{rules}
 use Rattle.site.specs.SiteList.{raised}
 use Rattle.site.specs.Removal.{remove_site}
 use Rattle.site.proofs.removing.remove_site.Goals as goal

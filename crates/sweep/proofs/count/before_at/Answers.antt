@@ -1,5 +1,5 @@
 -- `sweep::before_at` meets its contract.
-use borrow.Author.Rules.{rules, sfits_of}
+use borrow.Author.Rules.{sfits_of}
 use lib.IntN.{ℤ}
 use mir.Facts.{to_z-of_z}
 use Rattle.site.specs.Site.{site_before}

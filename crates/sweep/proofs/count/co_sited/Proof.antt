@@ -4,7 +4,6 @@ use Prim.Native.Nat.{◌+◌, ◌-◌, ◌≤◌, ◌<◌}
 use native.Mathlib.Omega.{arith}
 use lib.ListN.{take, drop}
 use borrow.Author.Rules.{rules}
-use borrow.Author.Tests.{ltb-true, ltb-false}
 use Rattle.heights.specs.Heights.{equal_pairs}
 use Rattle.sweep.specs.Terms.{StripIn}
 use Rattle.sweep.proofs.CoSited.{co_sited_from, strip_on, strip_plane, part_heights, co_sited_none, co_sited_none_second, pairs_counted, all_few, co_sited_first, co_sited_second, co_sited_runs}

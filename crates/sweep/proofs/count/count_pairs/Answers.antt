@@ -1,6 +1,5 @@
 -- `sweep::count_pairs` meets its contract.
 use native.Mathlib.Omega.{arith}
-use borrow.Author.Rules.{rules}
 use Rattle.sweep.proofs.CoSited.{pairs_counted, all_few, pairs_numbered}
 use Rattle.sweep.proofs.count.count_pairs.Goals as goal
 

@@ -1,9 +1,6 @@
 -- A look: each return is one of its outcomes.
 use native.Mathlib.Omega.{arith}
-use borrow.Author.Rules.{rules}
-use borrow.Author.Tests.{eqb-true, eqb-false}
 use mathlib.Core.Path.{refl}
-use mathlib.Core.Logic.{⊎_elim}
 use Rattle.sweep.proofs.LookLaws.{look_stops, look_flat, look_passes, look_leaves, look_offers}
 use Rattle.sweep.proofs.look.look.Goals as goal
 use Rattle.sweep.proofs.look.look.Goals.{then-tally-squared-via-then-tally-squared, then-tally-squared-via-else-tally-squared+then-squared-eq0}

@@ -1,12 +1,9 @@
 -- A scan to the right: each turn is one look.
 use Prim.Native.Nat.{◌-◌, ◌≤◌}
-use native.Mathlib.Omega.{arith}
-use borrow.Author.Rules.{rules}
 use Rattle.entry.specs.Results.{results}
-use Rattle.entry.proofs.Within.{SameLengths, within_lengths}
+use Rattle.entry.proofs.Within.{SameLengths}
 use Rattle.sweep.specs.Terms.{rightward}
-use Rattle.sweep.proofs.SiteRuns.{rightward_nil, rightward_cons, length_rightward}
-use Rattle.sweep.proofs.ScanInvariant.{ScanInvariant, invariant_starts, invariant_asks, invariant_ends, invariant_stops, invariant_goes}
+use Rattle.sweep.proofs.ScanInvariant.{ScanInvariant}
 use Rattle.sweep.proofs.scan.scan_right.Given as goal
 
 abbrev pub invariant-loop-at : goal.invariant-loop-at

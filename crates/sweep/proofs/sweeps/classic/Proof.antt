@@ -3,7 +3,6 @@ use mathlib.Core.Logic.{inl, inr}
 use Prim.Native.Nat.{◌+◌, ◌-◌, ◌<◌}
 use native.Mathlib.Omega.{arith}
 use borrow.Author.Rules.{rules}
-use borrow.Author.Tests.{ltb-true, ltb-false}
 use Rattle.entry.specs.Results.{results}
 use Rattle.entry.proofs.Within.{SameLengths, within_lengths}
 use Rattle.sweep.proofs.ClassicInvariant.{ClassicInvariant, invariant_start, invariant_ask_first, invariant_ask_second, invariant_first, invariant_second, invariant_end}

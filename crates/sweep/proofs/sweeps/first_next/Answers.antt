@@ -1,7 +1,7 @@
 -- The next of the first list, where it leads or stands alone.
 use mir.Facts.{to_z-of_z}
 use Rattle.sweep.proofs.FirstNext.{next_none, next_alone, next_read}
-use borrow.Author.Rules.{rules, sfits_of}
+use borrow.Author.Rules.{sfits_of}
 use mir.Syntax.{w32}
 use Rattle.sweep.proofs.sweeps.first_next.Goals as goal
 

@@ -1,7 +1,7 @@
 -- A reference read from its columns.
 use mir.Facts.{to_z-of_z}
 use Rattle.sweep.specs.Internal.{reference_at}
-use borrow.Author.Rules.{rules, sfits_of}
+use borrow.Author.Rules.{sfits_of}
 use mir.Syntax.{w32}
 use Rattle.sweep.proofs.sweeps.reference_at.Goals as goal
 
