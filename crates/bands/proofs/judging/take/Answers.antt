@@ -11,11 +11,7 @@ use Rattle.site.specs.Site.{square}
 use Rattle.site.proofs.Distance.{square_fits}
 use Rattle.bands.specs.Bands.{lawful_price}
 use Rattle.bands.specs.Internal.{taken}
-use Rattle.bands.proofs.judging.take.Statement.{statement}
-use Rattle.bands.proofs.judging.take.Tie as tie
-
-mul-t : tie.Need-overflow-mul-t
-mul-t c = square_fits (search rules)
+use Rattle.bands.proofs.judging.take.Goals as goal
 
 -- A price above the limit is told before all.
 dear_first : (limit price later : ℕ) → or_else (refuse_if (ltb limit price) 14) later ≡ cond (leb price limit) later 14
@@ -25,28 +21,9 @@ dear_first limit price later =
     (λ y. rw (y, lt-leb price limit (ltb-true limit price y)))
     (λ n. rw (n, le-leb price limit (ltb-false limit price n)))
 
-returns : tie.Need-returns
-unfolding taken square lawful_price
-returns c =
-    let first = c.before.before in
-    let told = first.before in
-    let own = told.before in
-    rw (first.first-of2.ensures, told.first_of.ensures, own.judge.ensures, own.before.refuse_if.ensures, ← dear_first)
+pub overflow_mul-t : goal.overflow_mul-t
+overflow_mul-t c = square_fits (search rules)
 
-pub take_spec : {M : Type 1} → statement M
-take_spec =
-    tie.close
-    (tie.spec
-    (λ c κs. search rules)
-    (λ c. search rules)
-    (λ c κs. search rules)
-    (λ c κs. search rules)
-    (λ c κs. search rules)
-    (λ c. search rules)
-    (λ c. search rules)
-    mul-t
-    (λ c. search rules)
-    (λ c. search rules)
-    (λ c. search rules)
-    (λ c. search rules)
-    returns)
+pub returns : goal.returns
+unfolding taken square lawful_price
+returns c = rw (c.first_of.ensures, c.first_of-told.ensures, c.judge-own.ensures, c.refuse_if-dear.ensures, ← dear_first)

@@ -1,0 +1,11 @@
+-- `bands::price` meets its contract: the tariff of the table prices as the table does.
+use Rattle.bands.proofs.TariffLaws.{gathered_priceable, gathered_answer}
+use Rattle.bands.proofs.price.Goals as goal
+
+pub price_by-requires : goal.price_by-requires
+price_by-requires c = rw c.gather.ensures (gathered_priceable _)
+
+pub returns : goal.returns
+returns c =
+    let a = c.args in
+    rw (c.gather.ensures, gathered_answer a.bands.now a.distance.now a.count a.prices.now) at c.price_by.ensures
