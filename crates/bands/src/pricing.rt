@@ -68,6 +68,7 @@ fn write_prices(ends: &[u64], rates: &[u32], distance: &[u64], prices: &mut [u32
 }
 
 // Whether each squared distance is below the square of the last band's end.
+#[tactic(auto, using(crate::proofs::Entries::some_past), unfolding(site::specs::Site::square))]
 fn all_below(column: &[u64]) -> bool
     ensures { result ≡ all (λ d. ltb d (square last_to)) column.now }
 {
