@@ -307,6 +307,35 @@ module _ {ax ay ah bx by bh : List ℤ} {p q : Range} {between k : ℕ} {old : T
         → VisitedTo k r old.queue.count (expand_of ax ay ah bx by bh p q k old r) last u
     turns_done h = record { updated = updated_twice done.updated h.updated; state = h.state ∙ then_is }
 
+-- The second visit, from the tally and columns that the first one leaves.
+module _ {l : List ℕ} {ax ay ah bx by bh : List ℤ} {p q : Range} {between k : ℕ} {r : Results}
+    (asked : ExpandAsked ax ay ah bx by bh p q between k (tally_of l) r) {p₁ q₁ : Range} {g₁ : ℕ} {p₂ q₂ : Range} {g₂ : ℕ}
+    (turns : Turns ax ay ah bx by bh p q k (tally_of l) r p₁ q₁ g₁ p₂ q₂ g₂) {n : List ℕ} {after : Results}
+    (done : Stepped ax ay ah bx by bh p₁ q₁ k l r n after) where
+  pub later_fits : get_or n 0 0 + 1 < 2 ^ 64
+  later_fits = number_fits n done.four (later_asks asked turns done.visited_to) turns.fits.1
+
+  pub later_kept : g₂ ≤ get_or (onward n) 3 0
+      → (length (onward n) ≡ 4) × ExpandAsked ax ay ah bx by bh p₂ q₂ g₂ k (tally_of (onward n)) after
+  later_kept near = kept_asks n done.four (later_asks asked turns done.visited_to) turns.fits.1 near
+
+  -- With it all is done, whether it is made
+  pub both_done : g₂ ≤ get_or (onward n) 3 0 → (m : List ℕ) {last : Results}
+      → (length m ≡ 4) × VisitedTo k after (tally_of (onward n)).queue.count (expand_of ax ay ah bx by bh p₂ q₂ k (tally_of (onward n)) after) last (tally_of m)
+      → (length m ≡ 4) × VisitedTo k r (tally_of l).queue.count (expand_of ax ay ah bx by bh p q k (tally_of l) r) last (tally_of m)
+  both_done near m h =
+      let visit = later_asks asked turns done.visited_to in
+      let last = kept_done n done.four visit turns.fits.1 near h refl refl refl refl in
+      (last.four, turns_done asked turns done.visited_to last.visited_to)
+
+  -- or dropped.
+  pub first_alone : get_or (onward n) 3 0 < g₂
+      → (length (onward n) ≡ 4) × VisitedTo k r (tally_of l).queue.count (expand_of ax ay ah bx by bh p q k (tally_of l) r) after (tally_of (onward n))
+  first_alone far =
+      let visit = later_asks asked turns done.visited_to in
+      let last = dropped_done n done.four visit turns.fits.1 far refl refl refl refl in
+      (last.four, turns_done asked turns done.visited_to last.visited_to)
+
 half_length : {xs ys hs : List ℤ} {apart : List Placed → ℕ} {l : List Placed} {h : Half} → HalfOf xs ys hs apart l h
     → length l ≡ h.range.to - h.range.from
 half_length {xs} {ys} {hs} {h = h} is =
