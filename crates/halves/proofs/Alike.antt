@@ -1,10 +1,10 @@
 -- Sites replaced by others whose boxes are as far apart, and they too: they are joined alike.
 use mathlib.Core.Path.{◌≡◌, refl, sym, ap, ap₂, ◌∙◌}
 use mathlib.Core.Bool.{Bool}
-use mathlib.Core.List.{List, [], ◌∷◌, map, map-map, zip_with}
+use mathlib.Core.List.{List, [], ◌∷◌, map, map-map}
 use Prim.Native.Nat.{ℕ, zero, suc, ◌+◌, ◌/◌}
 use lib.Dec.{ltb}
-use lib.ListN.{length, length-map, take, drop}
+use lib.ListN.{length, length-map}
 use Rattle.order.proofs.Order.{by_test}
 use Rattle.order.proofs.Lists.{map_take, map_drop}
 use Rattle.site.specs.Site.{Site, squared_distance}
@@ -15,7 +15,6 @@ use Rattle.sweep.specs.Strip.{Placed, pair, sites_of}
 use Rattle.sweep.proofs.Alike.{each, pair_alike}
 use Rattle.halves.specs.Gap.{squared_strip_gap}
 use Rattle.halves.specs.Halves.{Visited, visited, lower, upper, sooner, later, expand, visit, visit_to, halves_over, halves_from, halves}
-use Rattle.halves.proofs.VisitLaws.{passed}
 
 -- ---- halves of things replaced by others
 

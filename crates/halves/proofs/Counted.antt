@@ -1,15 +1,15 @@
 -- How many range pairs a join by halves visits: one at least, and fewer than twice the pairs of the two ranges.
-use mathlib.Core.Path.{◌≡◌, ap, ◌∙◌}
+use mathlib.Core.Path.{ap}
 use mathlib.Core.Bool.{Bool}
 use mathlib.Core.Logic.{⊎_elim}
 use mathlib.Core.List.{List}
-use Prim.Native.Nat.{ℕ, suc, ◌+◌, ◌*◌, ◌≤◌, ◌<◌, ◌^◌}
+use Prim.Native.Nat.{ℕ, ◌+◌, ◌*◌, ◌≤◌, ◌<◌, ◌^◌}
 use native.Mathlib.Nat.{add-mul, mul-add, mul-le-mul}
 use native.Mathlib.Omega.{arith}
 use lib.ListN.{length}
 use Rattle.entry.specs.declared.Entry.{Entry}
 use Rattle.halves.specs.Halves.{Visited, visited, halves_over}
-use Rattle.halves.proofs.VisitLaws.{Parts, Closed, halves_hold}
+use Rattle.halves.proofs.VisitLaws.{Closed, halves_hold}
 
 module _ {A B : Type 0} (gap : List A → List B → ℕ) (pair : A → B → Entry) (counts : Entry → Bool) (k : ℕ) where
   -- A join from `n` range pairs on that ends with `m`.

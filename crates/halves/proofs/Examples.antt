@@ -8,7 +8,6 @@ use Rattle.order.specs.Lists.{sum, last}
 use Rattle.order.specs.Order.{lex, first_of, foremost}
 use Rattle.site.specs.Site.{gap, square, squared_distance}
 use Rattle.site.specs.SiteList.{site}
-use Rattle.entry.specs.declared.Entry.{Entry}
 use Rattle.entry.specs.Entry.{entry, rank_before, apart, offer, last_distance}
 use Rattle.boxes.specs.Box.{edges, box_around, coordinate_columns, box_of, range_gap, gaps, squared_box_gap}
 use Rattle.sweep.specs.Scan.{beyond, taken}

@@ -4,7 +4,7 @@ use mathlib.Core.Bool.{Bool}
 use mathlib.Core.Logic.{◌⊎◌, ⊎_elim}
 use mathlib.Core.List.Memᴰ
 use mathlib.Core.List.Permᴰ
-use mathlib.Core.List.{List, [], ◌∷◌, ◌++◌, map, append-nil, append_assoc, Memᴰ, Permᴰ}
+use mathlib.Core.List.{List, [], ◌∷◌, ◌++◌, append-nil, append_assoc, Memᴰ, Permᴰ}
 use Prim.Native.Nat.{ℕ, ◌≤◌}
 use native.Mathlib.Omega.{arith}
 use lib.ListN.{length}
@@ -14,12 +14,11 @@ use Rattle.entry.specs.declared.Entry.{Entry}
 use Rattle.entry.specs.Entry.{best_k, apart}
 use Rattle.boxes.proofs.Box.{box_gap_under}
 use Rattle.sweep.specs.Strip.{Placed, pair, product, pairs, sites_of}
-use Rattle.sweep.specs.Scan.{beyond, taken}
 use Rattle.sweep.proofs.ScanLaws.{best_k_perm, beyond_under, taken_best}
 use Rattle.sweep.proofs.ProductLaws.{product_nil, product_cons, product_nil_right, product_append_left, product_append_right, mem_product}
 use Rattle.halves.specs.Gap.{squared_strip_gap}
 use Rattle.halves.specs.Halves.{Visited, visited, halves_over, halves_from, halves}
-use Rattle.halves.proofs.VisitLaws.{Parts, passed, offered, Closed, halves_hold}
+use Rattle.halves.proofs.VisitLaws.{Parts, Closed, halves_hold}
 
 -- A gap of two ranges that is at most the weight of each of their pairs.
 pub record Bounding {A B : Type 0} (gap : List A → List B → ℕ) (pair : A → B → Entry) : Type 0 where

@@ -1,5 +1,5 @@
 -- The halves of a range, by its places.
-use mathlib.Core.Path.{◌≡◌, refl, sym, ap, ap₂, ◌∙◌}
+use mathlib.Core.Path.{◌≡◌, refl, sym, ap, ◌∙◌}
 use mathlib.Core.Bool.{Bool, true, false}
 use mathlib.Core.List.{List, ◌++◌}
 use Prim.Native.Nat.{ℕ, ◌+◌, ◌-◌, ◌/◌, ◌≤◌, ◌<◌, ◌^◌}
@@ -11,11 +11,9 @@ use lib.Seq.{take-append_seam, drop-append_seam}
 use borrow.Author.Tests.{lt-ltb, le-ltb}
 use Rattle.boxes.specs.Box.{box_of}
 use Rattle.sweep.specs.Strip.{Placed, sites_of}
-use Rattle.sweep.specs.Terms.{rightward}
 use Rattle.sweep.proofs.SiteRuns.{rightward_join, length_rightward}
 use Rattle.halves.specs.declared.Range.{Range}
 use Rattle.halves.specs.declared.Half.{Half}
-use Rattle.halves.specs.declared.Halves.{Halves}
 use Rattle.halves.specs.Halves.{lower, upper, sooner, later}
 use Rattle.halves.specs.Terms.{SomeStrip}
 use Rattle.halves.specs.Internal.{range_sites, sites_in, RangeIn, gap_of, gap_to, HalfOf, HalvesOf}

@@ -1,8 +1,8 @@
 -- The visit of two whole strips: what it asks, and what the answer tells of it.
-use mathlib.Core.Path.{◌≡◌, refl, sym, ap, ap₂, ◌∙◌}
+use mathlib.Core.Path.{◌≡◌, sym, ap, ap₂, ◌∙◌}
 use mathlib.Core.Logic.{◌⊎◌, ⊎_elim, inl, inr}
 use mathlib.Core.List.{List}
-use Prim.Native.Nat.{ℕ, ◌-◌, ◌≤◌, ◌<◌, ◌^◌}
+use Prim.Native.Nat.{ℕ, ◌-◌}
 use native.Mathlib.Omega.{arith}
 use lib.IntN.{ℤ}
 use lib.ListN.{length}
@@ -17,10 +17,9 @@ use Rattle.boxes.specs.Box.{box_of, squared_box_gap}
 use Rattle.sweep.specs.Strip.{Placed, pair, sites_of}
 use Rattle.sweep.specs.Terms.{StripIn, SweepAsked}
 use Rattle.halves.specs.declared.Halved.{Halved}
-use Rattle.halves.specs.declared.Range.{Range}
 use Rattle.halves.specs.declared.Tally.{Tally}
 use Rattle.halves.specs.Gap.{squared_strip_gap}
-use Rattle.halves.specs.Halves.{Visited, visited, halves_from, halves}
+use Rattle.halves.specs.Halves.{visited, halves_from, halves}
 use Rattle.halves.specs.Terms.{SomeStrip, HalvedTo, HalvedStrips}
 use Rattle.halves.specs.Internal.{range_sites, visited_of, VisitedTo}
 use Rattle.halves.proofs.VisitLaws.{halves_none}

@@ -13,9 +13,9 @@ use Rattle.entry.specs.declared.Entry.{Entry}
 use Rattle.entry.specs.declared.Queue.{Queue}
 use Rattle.entry.specs.Entry.{entry, apart}
 use Rattle.entry.specs.Results.{Results, results}
-use Rattle.entry.specs.Terms.{queued, Queueing, Offered, Updated}
+use Rattle.entry.specs.Terms.{queued, Queueing, Offered}
 use Rattle.entry.proofs.Updated.{updated_none, updated_offered, updated_twice}
-use Rattle.boxes.specs.Box.{box_of, squared_box_gap}
+use Rattle.boxes.specs.Box.{box_of}
 use Rattle.boxes.proofs.Box.{single_gap}
 use Rattle.sweep.specs.Strip.{Placed, pair, sites_of}
 use Rattle.sweep.specs.Scan.{beyond, taken}

@@ -1,6 +1,5 @@
 -- The queue finished, and the answer of what the tally and the columns held.
 use mathlib.Core.Path.{refl, sym}
-use borrow.Author.Rules.{rules}
 use Rattle.entry.proofs.Queueing.{length_queued}
 use Rattle.halves.specs.Internal.{visited_of}
 use Rattle.halves.proofs.answer.Goals as goal

@@ -1,5 +1,4 @@
 -- The visits, and the answer from what they leave.
-use borrow.Author.Rules.{rules}
 use Rattle.entry.proofs.Updated.{updated_asks}
 use Rattle.halves.proofs.Joining.{halved_strips}
 use Rattle.halves.proofs.run.Goals as goal

@@ -1,5 +1,4 @@
 -- `halves::gap::box_across` meets its contract.
-use borrow.Author.Rules.{rules}
 use Prim.Native.Nat.{◌-◌}
 use lib.ListN.{drop}
 use lib.Signed.{lt_z}

@@ -1,6 +1,5 @@
 -- `halves::gap::box_of` meets its contract.
 use mathlib.Core.Path.{◌∙◌}
-use borrow.Author.Rules.{rules}
 use Rattle.halves.proofs.SquaredStripGap.{part_sorted, range_box}
 use Rattle.halves.proofs.gap.box_of.Goals as goal
 

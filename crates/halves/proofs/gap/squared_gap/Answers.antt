@@ -1,6 +1,5 @@
 -- `halves::gap::squared_gap` meets its contract.
 use mathlib.Core.Path.{ap₂, ◌∙◌}
-use borrow.Author.Rules.{rules}
 use Rattle.boxes.specs.Box.{squared_box_gap}
 use Rattle.halves.specs.Gap.{squared_strip_gap}
 use Rattle.halves.proofs.SquaredStripGap.{range_within, strips_gap}

@@ -1,6 +1,5 @@
 -- A pair of ranges that is kept is offered, or two smaller ones are visited in turn.
 use native.Mathlib.Omega.{arith}
-use borrow.Author.Rules.{rules}
 use Rattle.halves.proofs.SquaredStripGap.{range_within}
 use Rattle.halves.proofs.Visiting.{number_fits, kept_asks, kept_done, dropped_done, expand_offers, sooner_asks, first_turns, second_turns, later_fits, later_kept, both_done, first_alone}
 use Rattle.halves.proofs.visits.+expand.Goals as goal

@@ -1,5 +1,4 @@
 -- The boxes in the order of their lists.
-use borrow.Author.Rules.{rules}
 use Rattle.halves.specs.Internal.{gap_of}
 use Rattle.halves.proofs.visits.gap_to.Goals as goal
 

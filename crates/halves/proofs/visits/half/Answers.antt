@@ -1,6 +1,5 @@
 -- A half made of its places, their box and its gap.
 use native.Mathlib.Omega.{arith}
-use borrow.Author.Rules.{rules}
 use Rattle.halves.proofs.SquaredStripGap.{range_within}
 use Rattle.halves.proofs.Halving.{half_made}
 use Rattle.halves.proofs.visits.half.Goals as goal

@@ -1,6 +1,5 @@
 -- Both halves of a range, by their places.
 use native.Mathlib.Omega.{arith}
-use borrow.Author.Rules.{rules}
 use Rattle.halves.proofs.Halving.{some_part, upper_sooner, lower_sooner}
 use Rattle.halves.proofs.visits.halve.Goals as goal
 

@@ -1,6 +1,5 @@
 -- The tally of its four numbers.
 use mathlib.Core.Path.{refl}
-use borrow.Author.Rules.{rules}
 use Rattle.halves.specs.Internal.{tally_of}
 use Rattle.halves.proofs.visits.held.Goals as goal
 

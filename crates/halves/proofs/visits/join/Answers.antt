@@ -2,7 +2,6 @@
 use mathlib.Core.Path.{refl}
 use mathlib.Core.Logic.{inl, inr}
 use native.Mathlib.Omega.{arith}
-use borrow.Author.Rules.{rules}
 use Rattle.halves.proofs.SquaredStripGap.{range_within}
 use Rattle.halves.proofs.Visiting.{visit_drops, visit_keeps, visit_expands}
 use Rattle.halves.proofs.Joining.{some_strip, join_none, join_asks, join_done}

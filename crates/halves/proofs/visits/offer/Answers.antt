@@ -1,7 +1,6 @@
 -- A pair offered, or left where the cells are co-sited.
 use native.Mathlib.Omega.{arith}
 use lib.ListN.{length-set}
-use borrow.Author.Rules.{rules}
 use Rattle.halves.specs.Internal.{tally_of}
 use Rattle.halves.proofs.Visiting.{tally_offered, offer_none, offer_some}
 use Rattle.halves.proofs.visits.offer.Goals as goal
