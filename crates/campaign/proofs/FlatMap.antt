@@ -15,10 +15,10 @@ module _ {I A : Type 0} (part : I → List A) where
   flat_append [] m = refl
   flat_append (i ∷ l) m = rw (flat_append l m) (sym (append_assoc (part i) (flat_map part l) (flat_map part m)))
 
-  pub flat_map : {J : Type 0} (f : J → I) (l : List J) → flat_map part (map f l) ≡ flat_map (λ j. part (f j)) l
+  pub flat_map_map : {J : Type 0} (f : J → I) (l : List J) → flat_map part (map f l) ≡ flat_map (λ j. part (f j)) l
   unfolding flat_map
-  flat_map f [] = refl
-  flat_map f (j ∷ l) = ap (λ (r : List A). part (f j) ++ r) (flat_map f l)
+  flat_map_map f [] = refl
+  flat_map_map f (j ∷ l) = ap (λ (r : List A). part (f j) ++ r) (flat_map_map f l)
 
   -- The order of the things is free.
   pub flat_perm : {l m : List I} → Permᴰ l m → Permᴰ (flat_map part l) (flat_map part m)
@@ -82,7 +82,7 @@ module _ {J A B C : Type 0} (f : A → B → C) where
       rw (
         product_append_left f (part i) (flat_map part l) (flat_map part' m),
         flat_append both (map (pair i) m) (product pair l m),
-        flat_map both (pair i) m,
+        flat_map_map both (pair i) m,
         flat_same (λ j. both (pair i j)) (λ j. product f (part i) (part' j)) m (λ j h. is i j),
       )
       (perm_append (product_flat_right (part i) part' m) (product_flat pair both part part' is l m))

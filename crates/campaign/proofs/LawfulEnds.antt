@@ -18,7 +18,7 @@ use Rattle.sweep.specs.Strip.{whole, strip}
 use Rattle.sweep.proofs.Strip.{length_whole}
 use Rattle.campaign.specs.Grid.{lawful_ends, strip_at, strip_holding, count_from}
 use Rattle.campaign.specs.Internal.{strip_from, strip_to}
-use Rattle.campaign.proofs.FlatMap.{flat_map}
+use Rattle.campaign.proofs.FlatMap.{flat_map_map}
 
 -- What lawful ends of a list of `n` are.
 pub record Cut (n : ℕ) (ends : List ℕ) : Type 0 where
@@ -125,7 +125,7 @@ parts_from {A} from (e ∷ l) w u =
     let on : from + (e - from) ≡ e = omega arith in
     let rest : flat_map (cut_part from (e ∷ l) w) (count_from 1 (length l)) ≡ take (last e l - e) (drop e w) =
     ap (flat_map (cut_part from (e ∷ l) w)) (count_suc 0 (length l))
-    ∙ flat_map (cut_part from (e ∷ l) w) suc (count_from 0 (length l))
+    ∙ flat_map_map (cut_part from (e ∷ l) w) suc (count_from 0 (length l))
     ∙ parts_from e l w tail in
     ap (λ (r : List A). take (e - from) (drop from w) ++ r) rest
     ∙ sym (ap (λ (n : ℕ). take n (drop from w)) split

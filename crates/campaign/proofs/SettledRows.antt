@@ -140,10 +140,10 @@ module _ (marks : List ℕ) (rows n : ℕ) where
       )
 
 -- All jobs are settled exactly where as many are as there are jobs.
-pub all_counted : {c : Campaign} {n : ℕ} → n ≡ length (keep (settled c.marks) (jobs c.first_strips c.second_strips))
+pub all_counted : (c : Campaign) {n : ℕ} → n ≡ length (keep (settled c.marks) (jobs c.first_strips c.second_strips))
     → eqb n (c.first_strips * c.second_strips) ≡ all_settled c
 unfolding all_settled jobs
-all_counted {c} is =
+all_counted c is =
     let rows = count_from 0 c.first_strips in
     let cols = count_from 0 c.second_strips in
     let whole : length (product job_of rows cols) ≡ c.first_strips * c.second_strips =

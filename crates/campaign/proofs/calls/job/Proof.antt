@@ -11,45 +11,40 @@ use Rattle.campaign.proofs.calls.job.Statement.{statement}
 use Rattle.campaign.proofs.calls.job.Tie as tie
 
 abbrev one : tie.Start → Columns
-one s = raised s.args.ax.now s.args.ay.now s.args.an.now s.args.ah.now
+one c = raised c.args.ax.now c.args.ay.now c.args.an.now c.args.ah.now
 
 abbrev other : tie.Start → Columns
-other s = raised s.args.bx.now s.args.by.now s.args.bn.now s.args.bh.now
+other c = raised c.args.bx.now c.args.by.now c.args.bn.now c.args.bh.now
 
 abbrev held : tie.Start → Results
-held s = results s.args.distance.now s.args.first.now s.args.second.now
+held c = results c.args.distance.now c.args.first.now c.args.second.now
 
 abbrev named : tie.Start → Job
-named s = job_of s.args.s s.args.t
+named c = job_of c.args.s c.args.t
 
 -- What was lent, where the job is not refused.
-abbrev start : tie.Else1 → tie.Start
-start e = e.before.before.before.before.before.before.before.before.before.before
+abbrev start : tie.Else-refused-ne0 → tie.Start
+start c = c.before.before.before.before.before.before.before
 
-accepted : (e : tie.Else1)
-    → let s = start e in job_refusal s.args.customer s.args.g (one s) (other s) (held s) (named s) ≡ 0
-accepted e = sym e.before.refusal.ensures ∙ e.if1.false
+accepted : (c : tie.Else-refused-ne0)
+    → let s = start c in job_refusal s.args.customer s.args.g (one s) (other s) (held s) (named s) ≡ 0
+accepted c = sym c.refusal-refused.ensures ∙ c.if-refused-ne0.false
 
-returns : tie.Need-returns
+returns : tie.Need-returns-then-refused-ne0
 returns c =
-    let test = c.before in
-    let s = test.before.before.before.before.before.before.before.before.before.before in
     rw c.refused.ensures
-    (job_refused s.args.way _ _ (one s) (other s) (held s) (named s) test.before.refusal.ensures test.if1.true)
+    (job_refused c.args.way _ _ (one c.before.before.before.before.before.before.before.before) (other c.before.before.before.before.before.before.before.before) (held c.before.before.before.before.before.before.before.before) (named c.before.before.before.before.before.before.before.before) c.refusal-refused.ensures c.if-refused-ne0.true)
 
 work-requires : tie.Need-work-requires
 work-requires c κs =
-    let e = c.before.before.before in
-    work_asked _ _ _ _ _ _ _ _ _ _ (held (start e)) _ _ (accepted e)
+    work_asked _ _ _ _ _ _ _ _ _ _ (held (start c.before.before.before)) _ _ (accepted c.before.before.before)
 
-returns-2 : tie.Need-returns-2
+returns-2 : tie.Need-returns
 returns-2 c =
-    let w = c.before.before.before.before.before.before in
-    let e = w.before.before.before.before in
-    let s = start e in
-    let level = job_levels _ _ (one s) (other s) (held s) _ _ (accepted e) in
-    job_worked s.args.way _ _ (one s) (other s) (held s) (named s) (accepted e)
-    (w.work.ensures.numbered _ _ level.0 level.1)
+    let s = start c.before.before.before.before.before.before.before.before.before.before in
+    let level = job_levels _ _ (one s) (other s) (held s) _ _ (accepted c.before.before.before.before.before.before.before.before.before.before) in
+    job_worked s.args.way _ _ (one s) (other s) (held s) (named s) (accepted c.before.before.before.before.before.before.before.before.before.before)
+    (c.work.ensures.numbered _ _ level.0 level.1)
 
 pub job_spec : {M : Type 1} → statement M
 job_spec =

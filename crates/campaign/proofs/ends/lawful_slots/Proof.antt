@@ -7,17 +7,17 @@ use Rattle.campaign.proofs.EndsInvariant.{slots_fail, slots_decide}
 use Rattle.campaign.proofs.ends.lawful_slots.Statement.{statement}
 use Rattle.campaign.proofs.ends.lawful_slots.Tie as tie
 
-long : (s : tie.Start) → length s.args.t2 ≡ 32
-long s = search rules
+long : (c : tie.Start) → length c.args.slots ≡ 32
+long c = search rules
 
-returns : tie.Need-returns
-returns c = slots_fail _ _ _ c.if1.true
+returns : tie.Need-returns-then-count-gt32
+returns c = slots_fail _ _ _ c.if-count-gt32.true
 
-slice-aggregate-lawful : tie.Need-slice-aggregate-lawful
-slice-aggregate-lawful c = in_use_lem _ _ (long c.before.before) c.before.if1.false
+slice-aggregate-lawful : tie.Need-slice_bounds-lawful-end
+slice-aggregate-lawful c = in_use_lem _ _ (long c.before.before) c.if-count-gt32.false
 
-returns-2 : tie.Need-returns-2
-returns-2 c = slots_decide _ _ _ c.before.before.if1.false c.lawful.ensures
+returns-2 : tie.Need-returns
+returns-2 c = slots_decide _ _ _ c.if-count-gt32.false c.lawful.ensures
 
 pub lawful_slots_spec : {M : Type 1} → statement M
 lawful_slots_spec =

@@ -8,27 +8,24 @@ use Rattle.campaign.proofs.JobRefusal.{refuses_campaign, fault_decides}
 use Rattle.campaign.proofs.jobs.refusal.Statement.{statement}
 use Rattle.campaign.proofs.jobs.refusal.Tie as tie
 
-returns : tie.Need-returns
-returns c = refuses_campaign _ _ _ _ _ _ _ c.before.refusal.ensures c.if1.true
+returns : tie.Need-returns-then-refused-ne0
+returns c = refuses_campaign _ _ _ _ _ _ _ c.refusal-refused.ensures c.if-refused-ne0.true
 
-long : (c : tie.After-campaign-as) → length c.campaign_as.result.marks ≡ 1024
+long : (c : tie.After-campaign_as-c) → length c.campaign_as-c.result.marks ≡ 1024
 long c = search rules
 
-slice-aggregate-fault : tie.Need-slice-aggregate-fault
+slice-aggregate-fault : tie.Need-slice_bounds-fault-end
 slice-aggregate-fault c = sym (long c.before.before)
 
 fault-requires : tie.Need-fault-requires
 unfolding campaign_as
 fault-requires c κs =
-    let e = c.before.before.before in
-    let p = campaign_parts _ _ _ _ (sound_campaign _ _ _ _ _ e.before.refusal.ensures e.if1.false) in
+    let p = campaign_parts _ _ _ _ (sound_campaign _ _ _ _ _ c.refusal-refused.ensures c.if-refused-ne0.false) in
     (p.rows, p.cols)
 
-returns-2 : tie.Need-returns-2
+returns-2 : tie.Need-returns
 returns-2 c =
-    let made = c.before.before.before in
-    let e = made.before in
-    fault_decides _ _ _ _ _ _ _ e.before.refusal.ensures e.if1.false made.campaign_as.ensures c.fault.ensures
+    fault_decides _ _ _ _ _ _ _ c.refusal-refused.ensures c.if-refused-ne0.false c.campaign_as-c.ensures c.fault.ensures
 
 pub refusal_spec : {M : Type 1} → statement M
 refusal_spec =

@@ -17,89 +17,88 @@ use Rattle.campaign.proofs.jobs.work.Statement.{statement}
 use Rattle.campaign.proofs.jobs.work.Tie as tie
 
 abbrev one : tie.Start → List ℕ → Columns
-one s an = raised s.args.ax.now s.args.ay.now an s.args.ah.now
+one c an = raised c.args.ax.now c.args.ay.now an c.args.ah.now
 
 abbrev other : tie.Start → List ℕ → Columns
-other s bn = raised s.args.bx.now s.args.by.now bn s.args.bh.now
+other c bn = raised c.args.bx.now c.args.by.now bn c.args.bh.now
 
 abbrev named : tie.Start → Job
-named s = job_of s.args.s s.args.t
+named c = job_of c.args.s c.args.t
 
 abbrev held : tie.Start → Results
-held s = results s.args.distance.now s.args.first.now s.args.second.now
+held c = results c.args.distance.now c.args.first.now c.args.second.now
 
-few : (s : tie.Start) → (s.args.s < 32) × (s.args.t < 32)
-few s = job_few s.requires.1.0
+few : (c : tie.Start) → (c.args.s < 32) × (c.args.t < 32)
+few c = job_few c.requires.1.0
 
 -- From the test of a skip back to the customer's campaign as it was made, and to what was lent.
-abbrev made : tie.After-skips → tie.After-campaign-as
-made c = c.before.before
+abbrev made : tie.After-skips → tie.After-campaign_as-c
+made c = c.before
 
-abbrev start : tie.After-campaign-as → tie.Start
-start own = own.before.before.before.before
+abbrev start : tie.After-campaign_as-c → tie.Start
+start c = c.before.before.before.before
 
 -- What the campaign as it was made asks.
-asked : (own : tie.After-campaign-as)
-    → let s = start own in JobAsked own.campaign_as.result (length s.args.ax.now) (length s.args.bx.now) (named s)
-asked own = asked_as own.campaign_as.ensures (start own).requires.1.0
+asked : (c : tie.After-campaign_as-c)
+    → let s = start c in JobAsked c.campaign_as-c.result (length s.args.ax.now) (length s.args.bx.now) (named s)
+asked c = asked_as c.campaign_as-c.ensures (start c).requires.1.0
 
-ready : (own : tie.After-campaign-as) → ReadyFor own.campaign_as.result (held (start own))
-ready own = ready_as own.campaign_as.ensures (start own).requires.1.1
+ready : (c : tie.After-campaign_as-c) → ReadyFor c.campaign_as-c.result (held (start c))
+ready c = ready_as c.campaign_as-c.ensures (start c).requires.1.1
 
 -- Whether the job is skipped, of the lists and columns that were lent.
 judged : (c : tie.After-skips) (an bn : List ℕ) (la : Level (one (start (made c)) an)) (lb : Level (other (start (made c)) bn))
     → let s = start (made c) in
-    let own = (made c).campaign_as.result in
+    let own = (made c).campaign_as-c.result in
     c.skips.result ≡ skips own (sites (one s an)) (sites (other s bn)) (entries_of own.entries (held s)) (named s)
 judged c an bn la lb = c.skips.ensures.numbered an bn la lb _ _ (ready (made c)).room
 
 skips-requires : tie.Need-skips-requires
 skips-requires c κs =
-    let w = ready c.before in
-    ((start c.before).requires.0, (asked c.before, (w.most, (room_lengths _ _ w.room).0)))
+    let w = ready c in
+    ((start c).requires.0, (asked c, (w.most, (room_lengths _ _ w.room).0)))
 
 skipped-requires : tie.Need-skipped-requires
 skipped-requires c κs = few (start (made c.before))
 
-returns : tie.Need-returns
+returns : tie.Need-returns-then-skips
 returns c =
-    let test = c.before in
-    let own = made test.before in
+    let own = made c.before.before in
     let s = start own in
     record {
       numbered = λ an bn la lb.
           rw c.skipped.ensures
-          (job_skipped s.args.way _ _ (sites (one s an)) (sites (other s bn)) (held s) (named s) s.pre.1.1
-          own.campaign_as.ensures (sym (judged test.before an bn la lb) ∙ test.if1.true) refl);
+          (job_skipped s.args.way _ _ (sites (one s an)) (sites (other s bn)) (held s) (named s) s.requires.1.1
+          own.campaign_as-c.ensures (sym (judged c.before.before an bn la lb) ∙ c.if-skips.true) refl);
     }
 
 -- From the end of a sweep back to the test before it.
-abbrev unskipped : tie.After-swept → tie.Else1
-unskipped w = w.before.before.before.before
+abbrev unskipped : tie.After-swept-joined → tie.Else-skips
+unskipped c = c.before.before.before.before
 
-abbrev swept-before : tie.After-slice-known6 → tie.After-swept
+abbrev swept-before : tie.After-slice_known-6-1 → tie.After-swept-joined
 swept-before c = c.before.before.before.before.before.before
 
-swept-requires : tie.Need-swept-requires
+swept-requires : tie.Need-swept-joined-requires
 swept-requires c κs =
-    let own = c.before.before.before.before.before.before in ((start own).requires.0, (asked own, ready own))
+    ((start c.before.before.before.before.before).requires.0, (asked c.before.before.before.before.before, ready c.before.before.before.before.before))
 
 done-requires : tie.Need-done-requires
 done-requires c κs = few (start (made (unskipped (swept-before c)).before))
 
-returns-2 : tie.Need-returns-2
+returns-2 : tie.Need-returns
 returns-2 c =
     let w = swept-before c.before in
     let test = unskipped w in
     let own = made test.before in
     let s = start own in
-    let lawful = s.pre.0 in
+    let lawful = s.requires.0 in
     record {
       numbered = λ an bn la lb.
           rw c.done.ensures
-          (job_swept s.args.way _ _ (sites (one s an)) (sites (other s bn)) (held s) (named s) s.pre.1.1
-          (x_sorted an lawful.0 la) (x_sorted bn lawful.1 lb) own.campaign_as.ensures
-          (sym (judged test.before an bn la lb) ∙ test.if1.left) (w.swept.ensures.numbered an bn la lb) refl);
+          (job_swept s.args.way _ _ (sites (one s an)) (sites (other s bn)) (held s) (named s) s.requires.1.1
+          (x_sorted an lawful.0 la) (x_sorted bn lawful.1 lb) own.campaign_as-c.ensures
+          (sym (judged test.before an bn la lb) ∙ test.if-skips.false) (w.swept-joined.ensures.numbered an bn la lb) refl);
     }
 
 pub work_spec : {M : Type 1} → statement M

@@ -16,85 +16,70 @@ use Rattle.campaign.proofs.opening.refusal.Tie as tie
 
 -- What was lent.
 abbrev one : tie.Start → Columns
-one s = raised s.args.ax.now s.args.ay.now s.args.an.now s.args.ah.now
+one c = raised c.args.ax.now c.args.ay.now c.args.an.now c.args.ah.now
 
 abbrev other : tie.Start → Columns
-other s = raised s.args.bx.now s.args.by.now s.args.bn.now s.args.bh.now
+other c = raised c.args.bx.now c.args.by.now c.args.bn.now c.args.bh.now
 
-abbrev start : tie.After-caller-refusal → tie.Start
-start l = l.before.before.before.before.before.before.before.before
+abbrev start : tie.After-caller_refusal-refused → tie.Start
+start c = c.before.before.before.before.before.before.before.before
 
 -- The tests passed.
-past_k : (m : tie.Else2) → lawful_k (start m.before.before.before).args.k ≡ true
-past_k m = sym m.before.lawful_k.ensures ∙ not-false _ m.if2.false
+past_k : (c : tie.Else-not-lawful_k) → lawful_k (start c.before.before.before).args.k ≡ true
+past_k c = sym c.lawful_k.ensures ∙ c.if-not-lawful_k.false
 
-past_cuts : (n : tie.Else3)
-    → let s = start n.before.before.before.before.before in
+past_cuts : (c : tie.Else-not-lawful_cuts)
+    → let s = start c.before.before.before.before.before in
     (lawful_ends (length s.args.ax.now) s.args.first_ends.now && lawful_ends (length s.args.bx.now) s.args.second_ends.now) ≡ true
-past_cuts n = sym n.before.lawful_cuts.ensures ∙ not-false _ n.if3.false
+past_cuts c = sym c.lawful_cuts.ensures ∙ c.if-not-lawful_cuts.false
 
-past_grid : (o : tie.Else4)
-    → let s = start o.before.before.before.before.before.before.before in
+past_grid : (c : tie.Else-not-grid_cuts)
+    → let s = start c.before.before.before.before.before.before.before in
     grid_cuts s.args.g s.args.first_ends.now s.args.second_ends.now ≡ true
-past_grid o = sym o.before.grid_cuts.ensures ∙ not-false _ o.if4.false
+past_grid c = sym c.grid_cuts.ensures ∙ c.if-not-grid_cuts.false
 
-returns : tie.Need-returns
-returns c = opens_caller _ _ _ _ _ _ _ _ c.before.caller_refusal.ensures c.if1.true
+returns : tie.Need-returns-then-refused-ne0
+returns c = opens_caller _ _ _ _ _ _ _ _ c.caller_refusal-refused.ensures c.if-refused-ne0.true
 
-returns-2 : tie.Need-returns-2
+returns-2 : tie.Need-returns-then-not-lawful_k
 returns-2 c =
-    let e = c.before.before in
-    opens_k _ _ _ _ _ _ _ _ e.before.caller_refusal.ensures e.if1.false
-    (sym c.before.lawful_k.ensures ∙ not-true _ c.if2.true)
+    opens_k _ _ _ _ _ _ _ _ c.caller_refusal-refused.ensures c.if-refused-ne0.false
+    (sym c.lawful_k.ensures ∙ c.if-not-lawful_k.true)
 
-returns-3 : tie.Need-returns-3
+returns-3 : tie.Need-returns-then-not-lawful_cuts
 returns-3 c =
-    let m = c.before.before in
-    let e = m.before.before in
-    opens_cuts _ _ _ _ _ _ _ _ e.before.caller_refusal.ensures e.if1.false (past_k m)
-    (sym c.before.lawful_cuts.ensures ∙ not-true _ c.if3.true)
+    opens_cuts _ _ _ _ _ _ _ _ c.caller_refusal-refused.ensures c.if-refused-ne0.false (past_k c.before.before)
+    (sym c.lawful_cuts.ensures ∙ c.if-not-lawful_cuts.true)
 
-grid-cuts-requires : tie.Need-grid-cuts-requires
+grid-cuts-requires : tie.Need-grid_cuts-requires
 unfolding lawful_cuts
 grid-cuts-requires c κs =
     let s = start c.before.before.before.before.before in cuts_few (one s) (other s) _ _ (past_cuts c)
 
-returns-4 : tie.Need-returns-4
+returns-4 : tie.Need-returns-then-not-grid_cuts
 returns-4 c =
-    let n = c.before.before in
-    let m = n.before.before in
-    let e = m.before.before in
-    opens_grid _ _ _ _ _ _ _ _ e.before.caller_refusal.ensures e.if1.false (past_k m) (past_cuts n)
-    (sym c.before.grid_cuts.ensures ∙ not-true _ c.if4.true)
+    opens_grid _ _ _ _ _ _ _ _ c.caller_refusal-refused.ensures c.if-refused-ne0.false (past_k c.before.before.before.before) (past_cuts c.before.before)
+    (sym c.grid_cuts.ensures ∙ c.if-not-grid_cuts.true)
 
-returns-5 : tie.Need-returns-5
+returns-5 : tie.Need-returns-then-not-room
 returns-5 c =
-    let o = c.before.before in
-    let n = o.before.before in
-    let m = n.before.before in
-    let e = m.before.before in
-    opens_room _ _ _ _ _ _ _ _ e.before.caller_refusal.ensures e.if1.false (past_k m) (past_cuts n) (past_grid o)
-    (sym c.before.room.ensures ∙ not-true _ c.if5.true)
+    opens_room _ _ _ _ _ _ _ _ c.caller_refusal-refused.ensures c.if-refused-ne0.false (past_k c.before.before.before.before.before.before) (past_cuts c.before.before.before.before) (past_grid c.before.before)
+    (sym c.room.ensures ∙ c.if-not-room.true)
 
 -- All other tests passed: the marks decide.
-decided : (c : tie.After-lawful-grid) {t : Bool} → c.lawful_grid.result ≡ t
+decided : (c : tie.After-lawful_grid) {t : Bool} → c.lawful_grid.result ≡ t
     → let s = start c.before.before.before.before.before.before.before.before.before.before in
     cond (not t) 7 0 ≡ open_refusal s.args.customer s.args.g (one s) (other s) s.args.k s.args.first_ends.now
     s.args.second_ends.now (results s.args.distance.now s.args.first.now s.args.second.now)
 decided c h =
-    let p = c.before in
-    let o = p.before.before in
-    let n = o.before.before in
-    let m = n.before.before in
-    let e = m.before.before in
-    opens _ _ _ _ _ _ _ _ e.before.caller_refusal.ensures e.if1.false (past_k m) (past_cuts n) (past_grid o)
-    (sym p.before.room.ensures ∙ not-false _ p.if5.false) (sym c.lawful_grid.ensures ∙ h)
+    opens _ _ _ _ _ _ _ _ c.caller_refusal-refused.ensures c.if-refused-ne0.false (past_k c.before.before.before.before.before.before.before) (past_cuts c.before.before.before.before.before) (past_grid c.before.before.before)
+    (sym c.room.ensures ∙ c.if-not-room.false) (sym c.lawful_grid.ensures ∙ h)
 
-returns-6 : tie.Need-returns-6
-returns-6 c = decided c.before c.if6.true
+returns-6 : tie.Need-returns-then-lawful_grid
+returns-6 c = decided c.before c.if-lawful_grid.true
 
-returns-7 : tie.Need-returns-7
-returns-7 c = decided c.before c.if6.false
+returns-7 : tie.Need-returns-else-lawful_grid
+returns-7 c = decided c.before c.if-lawful_grid.false
 
 pub refusal_spec : {M : Type 1} → statement M
 refusal_spec =

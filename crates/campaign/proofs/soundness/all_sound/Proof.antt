@@ -19,79 +19,76 @@ use Rattle.campaign.proofs.AllAscending.{all_more, all_falls, all_end}
 use Rattle.campaign.proofs.soundness.all_sound.Statement.{statement}
 use Rattle.campaign.proofs.soundness.all_sound.Tie as tie
 
-abbrev invariant-loop : tie.invariant-loop
+abbrev invariant-loop : tie.invariant-loop-i
 invariant-loop distance first second count ax ay ah bx by bh first_ends second-ends marks i₀ i =
     (i ≤ count)
     × Numbered ax ay ah bx by bh
     (λ a b. all (sound_entry marks first_ends second-ends a b) (drop i (entries_of count (results distance first second)))
     ≡ all (sound_entry marks first_ends second-ends a b) (entries_of count (results distance first second)))
 
-abbrev decreases-loop : tie.decreases-loop
+abbrev decreases-loop : tie.decreases-loop-i
 decreases-loop distance first second count ax ay ah bx by bh first_ends second-ends marks i₀ i = count - i
 
 abbrev listed : tie.Start invariant-loop decreases-loop → List Entry
-listed s = entries_of s.args.count (results s.args.distance.now s.args.first.now s.args.second.now)
+listed c = entries_of c.args.count (results c.args.distance.now c.args.first.now c.args.second.now)
 
 abbrev test : tie.Start invariant-loop decreases-loop → List ℕ → List ℕ → Entry → Bool
-test s an bn =
-    sound_entry s.args.marks.now s.args.first_ends.now s.args.second_ends.now
-    (sites (raised s.args.ax.now s.args.ay.now an s.args.ah.now))
-    (sites (raised s.args.bx.now s.args.by.now bn s.args.bh.now))
+test c an bn =
+    sound_entry c.args.marks.now c.args.first_ends.now c.args.second_ends.now
+    (sites (raised c.args.ax.now c.args.ay.now an c.args.ah.now))
+    (sites (raised c.args.bx.now c.args.by.now bn c.args.bh.now))
 
-abbrev start : tie.After-sound-entry invariant-loop decreases-loop → tie.Start invariant-loop decreases-loop
+abbrev start : tie.After-sound_entry invariant-loop decreases-loop → tie.Start invariant-loop decreases-loop
 start c = c.before.before.before.before.before.before.before.before.before.before
 
-learnt : (c : tie.After-sound-entry invariant-loop decreases-loop) (an bn : List ℕ)
+learnt : (c : tie.After-sound_entry invariant-loop decreases-loop) (an bn : List ℕ)
     → Level (raised (start c).args.ax.now (start c).args.ay.now an (start c).args.ah.now)
     → Level (raised (start c).args.bx.now (start c).args.by.now bn (start c).args.bh.now)
     → c.sound_entry.result ≡ test (start c) an bn
-    (get_or (listed (start c)) c.before.before.before.loop.i (entry 0 0 0))
+    (get_or (listed (start c)) c.loop-i.i (entry 0 0 0))
 learnt c an bn la lb =
     c.sound_entry.ensures.numbered an bn la lb
     ∙ ap (test (start c) an bn)
-    (stands_at _ _ (start c).requires.0 _ c.before.before.loop-test.true c.before.entry_at.ensures)
+    (stands_at _ _ (start c).requires.0 _ c.loop-i-test.true c.entry_at-e.ensures)
 
-loop-holds : tie.Need-loop-init invariant-loop decreases-loop
+loop-holds : tie.Need-loop-i-init invariant-loop decreases-loop
 loop-holds c = (search rules, record { numbered = λ an bn la lb. refl })
 
-sound-entry-requires : tie.Need-sound-entry-requires invariant-loop decreases-loop
-sound-entry-requires c κs = c.before.before.before.before.before.before.before.before.before.requires.1
+sound-entry-requires : tie.Need-sound_entry-requires invariant-loop decreases-loop
+sound-entry-requires c κs = c.requires.1
 
-returns : tie.Need-returns invariant-loop decreases-loop
+returns : tie.Need-returns-then-not-sound_entry invariant-loop decreases-loop
 returns c =
-    let l = c.before.before.before.before.loop in
-    let s = c.before.before.before.before.before.before.before.before.before.before.before in
+    let l = c.loop-i in
     record {
       numbered = λ an bn la lb.
-          all_falls (test s an bn) (listed s) l.i (l.invariant.1.numbered an bn la lb) (entry 0 0 0)
-          (omega (arith, entries_many _ _ s.requires.0, c.before.before.before.loop-test.true))
-          (learnt c.before an bn la lb) (not-true _ c.if1.true);
+          all_falls (test c.before.before.before.before.before.before.before.before.before.before.before an bn) (listed c.before.before.before.before.before.before.before.before.before.before.before) l.i (l.invariant.1.numbered an bn la lb) (entry 0 0 0)
+          (omega (arith, entries_many _ _ c.requires.0, c.loop-i-test.true))
+          (learnt c.before an bn la lb) (c.if-not-sound_entry.true);
     }
 
-add-i : tie.Need-overflow-add-i invariant-loop decreases-loop
-add-i c = omega (arith, c.before.before.before.loop-test.true)
+add-i : tie.Need-overflow_add-i invariant-loop decreases-loop
+add-i c = omega (arith, c.loop-i-test.true)
 
-loop-again : tie.Need-loop-preserved invariant-loop decreases-loop
+loop-again : tie.Need-loop-i-preserved invariant-loop decreases-loop
 loop-again c =
-    let l = c.before.before.before.before.loop in
-    let s = c.before.before.before.before.before.before.before.before.before.before.before in (
-      omega (arith, c.before.before.before.loop-test.true),
+    let l = c.loop-i in (
+      omega (arith, c.loop-i-test.true),
       record {
         numbered = λ an bn la lb.
-            all_more (test s an bn) (listed s) l.i (l.invariant.1.numbered an bn la lb) (entry 0 0 0)
-            (omega (arith, entries_many _ _ s.requires.0, c.before.before.before.loop-test.true))
-            (learnt c.before an bn la lb) (not-false _ c.if1.false);
+            all_more (test c.before.before.before.before.before.before.before.before.before.before.before an bn) (listed c.before.before.before.before.before.before.before.before.before.before.before) l.i (l.invariant.1.numbered an bn la lb) (entry 0 0 0)
+            (omega (arith, entries_many _ _ c.requires.0, c.loop-i-test.true))
+            (learnt c.before an bn la lb) (c.if-not-sound_entry.false);
       },
     )
 
-returns-2 : tie.Need-returns-2 invariant-loop decreases-loop
+returns-2 : tie.Need-returns invariant-loop decreases-loop
 returns-2 c =
-    let l = c.before.loop in
-    let s = c.before.before.before.before.before.before.before.before in
+    let l = c.loop-i in
     record {
       numbered = λ an bn la lb.
-          all_end (test s an bn) (listed s) l.i (l.invariant.1.numbered an bn la lb)
-          (omega (arith, entries_many _ _ s.requires.0));
+          all_end (test c.before.before.before.before.before.before.before.before an bn) (listed c.before.before.before.before.before.before.before.before) l.i (l.invariant.1.numbered an bn la lb)
+          (omega (arith, entries_many _ _ c.requires.0));
     }
 
 pub all_sound_spec : {M : Type 1} → statement M

@@ -10,9 +10,9 @@ use Rattle.campaign.proofs.Sound.{marks_refused, sound_decides}
 use Rattle.campaign.proofs.soundness.keeper_refusal.Statement.{statement}
 use Rattle.campaign.proofs.soundness.keeper_refusal.Tie as tie
 
-returns : tie.Need-returns
+returns : tie.Need-returns-then-not-lawful_grid
 returns c = record {
-  numbered = λ an bn la lb. marks_refused _ _ _ _ _ (sym c.before.lawful_grid.ensures ∙ not-true _ c.if1.true);
+  numbered = λ an bn la lb. marks_refused _ _ _ _ _ (sym c.lawful_grid.ensures ∙ c.if-not-lawful_grid.true);
 }
 
 -- The marks passed: the campaign decides.
@@ -26,19 +26,17 @@ decided : (c : tie.After-sound) {t : Bool} → c.sound.result ≡ t
     cond (not t) 7 0 ≡ keeper_refusal s.args.customer s.args.g a b
     (results s.args.distance.now s.args.first.now s.args.second.now))
 decided c h =
-    let made = c.before in
-    let marks = made.before in
     record {
       numbered = λ an bn la lb.
-          sound_decides _ _ _ _ _ (sym marks.before.lawful_grid.ensures ∙ not-false _ marks.if1.false)
-          made.campaign_as.ensures (sym (c.sound.ensures.numbered an bn la lb) ∙ h);
+          sound_decides _ _ _ _ _ (sym c.lawful_grid.ensures ∙ c.if-not-lawful_grid.false)
+          c.campaign_as-c.ensures (sym (c.sound.ensures.numbered an bn la lb) ∙ h);
     }
 
-returns-2 : tie.Need-returns-2
-returns-2 c = decided c.before c.if2.true
+returns-2 : tie.Need-returns-then-sound
+returns-2 c = decided c.before c.if-sound.true
 
-returns-3 : tie.Need-returns-3
-returns-3 c = decided c.before c.if2.false
+returns-3 : tie.Need-returns-else-sound
+returns-3 c = decided c.before c.if-sound.false
 
 pub keeper_refusal_spec : {M : Type 1} → statement M
 keeper_refusal_spec =

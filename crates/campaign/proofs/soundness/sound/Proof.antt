@@ -16,102 +16,93 @@ use Rattle.campaign.proofs.soundness.sound.Tie as tie
 
 -- The lists with their numbers.
 abbrev first : tie.Start → List ℕ → Columns
-first s an = raised s.args.ax.now s.args.ay.now an s.args.ah.now
+first c an = raised c.args.ax.now c.args.ay.now an c.args.ah.now
 
 abbrev second : tie.Start → List ℕ → Columns
-second s bn = raised s.args.bx.now s.args.by.now bn s.args.bh.now
+second c bn = raised c.args.bx.now c.args.by.now bn c.args.bh.now
 
-abbrev start : tie.Else1 → tie.Start
-start e = e.before.before.before.before.before
+abbrev start : tie.Else-not-sound_plan → tie.Start
+start c = c.before.before.before.before.before
 
-planned : (e : tie.Else1) → sound_plan (start e).args.c (length (start e).args.ax.now)
-    (length (start e).args.bx.now) ≡ true
-planned e = sym e.before.sound_plan.ensures ∙ not-false _ e.if1.false
+planned : (c : tie.Else-not-sound_plan) → sound_plan (start c).args.c (length (start c).args.ax.now)
+    (length (start c).args.bx.now) ≡ true
+planned c = sym c.sound_plan.ensures ∙ c.if-not-sound_plan.false
 
-long : (s : tie.Start) → (length s.args.c.first_ends ≡ 32) × (length s.args.c.second_ends ≡ 32)
-long s = (search rules, search rules)
+long : (c : tie.Start) → (length c.args.c.first_ends ≡ 32) × (length c.args.c.second_ends ≡ 32)
+long c = (search rules, search rules)
 
-abbrev one : tie.Else2 → tie.Else1
-one f = f.before.before.before
+abbrev one : tie.Else-not-room → tie.Else-not-sound_plan
+one c = c.before.before.before
 
-roomy : (f : tie.Else2)
-    → room_for (start (one f)).args.c.k
-    (results (start (one f)).args.distance.now (start (one f)).args.first.now (start (one f)).args.second.now)
+roomy : (c : tie.Else-not-room)
+    → room_for (start (one c)).args.c.k
+    (results (start (one c)).args.distance.now (start (one c)).args.first.now (start (one c)).args.second.now)
     ≡ true
-roomy f = sym f.before.room.ensures ∙ not-false _ f.if2.false
+roomy c = sym c.room.ensures ∙ c.if-not-room.false
 
-returns : tie.Need-returns
+returns : tie.Need-returns-then-not-sound_plan
 returns c =
-    let s = c.before.before.before.before.before in
     record {
       numbered = λ an bn la lb.
-          plan_fails _ (first s an) (second s bn) _ la lb
-          (sym c.before.sound_plan.ensures ∙ not-true _ c.if1.true);
+          plan_fails _ (first c.before.before.before.before.before an) (second c.before.before.before.before.before bn) _ la lb
+          (sym c.sound_plan.ensures ∙ c.if-not-sound_plan.true);
     }
 
-returns-2 : tie.Need-returns-2
+returns-2 : tie.Need-returns-then-not-room
 returns-2 c =
-    let e = c.before.before.before in
     record {
       numbered = λ an bn la lb.
-          room_fails _ (first (start e) an) (second (start e) bn) _ la lb (planned e)
-          (sym c.before.room.ensures ∙ not-true _ c.if2.true);
+          room_fails _ (first (start c.before.before.before) an) (second (start c.before.before.before) bn) _ la lb (planned c.before.before.before)
+          (sym c.room.ensures ∙ c.if-not-room.true);
     }
 
-returns-3 : tie.Need-returns-3
+returns-3 : tie.Need-returns-then-c
 returns-3 c =
-    let f = c.before.before in
-    let e = one f in
+    let e = one c.before.before in
     record {
       numbered = λ an bn la lb.
-          too_many _ (first (start e) an) (second (start e) bn) _ la lb (planned e) (roomy f) c.if3.true;
+          too_many _ (first (start e) an) (second (start e) bn) _ la lb (planned e) (roomy c.before.before) c.if-c.true;
     }
 
-sound-entries-requires : tie.Need-sound-entries-requires
+sound-entries-requires : tie.Need-sound_entries-requires
 sound-entries-requires c κs =
-    let f = c.before.before in
-    let p = plan_parts _ _ _ (planned (one f)) in
-    ((start (one f)).requires, ((p.rows, p.cols), record { room = roomy f; most = c.if3.false }))
+    let p = plan_parts _ _ _ (planned (one c.before.before)) in
+    ((start (one c.before.before)).requires, ((p.rows, p.cols), record { room = roomy c.before.before; most = c.if-c.false }))
 
-returns-4 : tie.Need-returns-4
+returns-4 : tie.Need-returns-then-not-sound_entries
 returns-4 c =
-    let f = c.before.before.before.before in
-    let e = one f in
+    let e = one c.before.before.before.before in
     record {
       numbered = λ an bn la lb.
-          entries_fail _ (first (start e) an) (second (start e) bn) _ la lb (planned e) (roomy f)
-          (c.before.sound_entries.ensures.numbered an bn la lb) (not-true _ c.if4.true);
+          entries_fail _ (first (start e) an) (second (start e) bn) _ la lb (planned e) (roomy c.before.before.before.before)
+          (c.sound_entries.ensures.numbered an bn la lb) (c.if-not-sound_entries.true);
     }
 
-returns-5 : tie.Need-returns-5
+returns-5 : tie.Need-returns-then-c-2
 returns-5 c =
-    let g = c.before.before in
-    let f = g.before.before.before.before in
-    let e = one f in
+    let e = one c.before.before.before.before.before.before in
     record {
       numbered = λ an bn la lb.
-          full_sound _ (first (start e) an) (second (start e) bn) _ la lb (planned e) (roomy f)
-          (g.before.sound_entries.ensures.numbered an bn la lb) (not-false _ g.if4.false)
-          (long (start e)).0 (long (start e)).1 c.if5.true;
+          full_sound _ (first (start e) an) (second (start e) bn) _ la lb (planned e) (roomy c.before.before.before.before.before.before)
+          (c.sound_entries.ensures.numbered an bn la lb) (c.if-not-sound_entries.false)
+          (long (start e)).0 (long (start e)).1 c.if-c-2.true;
     }
 
-abbrev two : tie.Else5 → tie.Else2
+abbrev two : tie.Else-c-2 → tie.Else-not-room
 two c = c.before.before.before.before.before.before
 
-settled-pairs-requires : tie.Need-settled-pairs-requires
-settled-pairs-requires c κs = let e = one (two c.before) in ((start e).pre, planned e)
+settled-pairs-requires : tie.Need-settled_pairs-requires
+settled-pairs-requires c κs = let e = one (two c.before) in ((start e).requires, planned e)
 
-returns-6 : tie.Need-returns-6
+returns-6 : tie.Need-returns
 returns-6 c =
-    let h = c.before.before in
-    let g = h.before.before in
-    let f = two h in
+    let f = two c.before.before in
     let e = one f in
     record {
       numbered = λ an bn la lb.
           total_decides _ (first (start e) an) (second (start e) bn) _ la lb (planned e) (roomy f)
-          (g.before.sound_entries.ensures.numbered an bn la lb) (not-false _ g.if4.false)
-          g.before.before.if3.false h.if5.false (c.settled-pairs.ensures.numbered an bn la lb);
+          (c.sound_entries.ensures.numbered an bn la lb) (c.if-not-sound_entries.false)
+          c.if-c.false c.if-c-2.false (c.settled_pairs.ensures.numbered an bn la lb);
     }
 
 pub sound_spec : {M : Type 1} → statement M

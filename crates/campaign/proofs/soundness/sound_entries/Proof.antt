@@ -15,83 +15,82 @@ use Rattle.campaign.proofs.Sound.{order_fails, entries_decide}
 use Rattle.campaign.proofs.soundness.sound_entries.Statement.{statement}
 use Rattle.campaign.proofs.soundness.sound_entries.Tie as tie
 
-abbrev start : tie.After-marks → tie.Start
+abbrev start : tie.After-marks-1 → tie.Start
 start c = c.before.before.before.before.before.before.before.before.before
 
 abbrev lent : tie.Start → Results
-lent s = results s.args.distance.now s.args.first.now s.args.second.now
+lent c = results c.args.distance.now c.args.first.now c.args.second.now
 
 -- No column is shorter than the entries.
-enough : (s : tie.Start)
-    → let n = s.args.c.entries in
-    (n ≤ length s.args.distance.now) × (n ≤ length s.args.first.now) × (n ≤ length s.args.second.now)
-enough s =
-    let n = room_lengths s.args.c.k (lent s) s.requires.1.1.room in
-    let most = s.requires.1.1.most in
+enough : (c : tie.Start)
+    → let n = c.args.c.entries in
+    (n ≤ length c.args.distance.now) × (n ≤ length c.args.first.now) × (n ≤ length c.args.second.now)
+enough c =
+    let n = room_lengths c.args.c.k (lent c) c.requires.1.1.room in
+    let most = c.requires.1.1.most in
     (omega arith, omega arith, omega arith)
 
-long : (s : tie.Start) → (length s.args.c.first_ends ≡ 32) × (length s.args.c.second_ends ≡ 32) × (length s.args.c.marks ≡ 1024)
-long s = (search rules, search rules, search rules)
+long : (c : tie.Start) → (length c.args.c.first_ends ≡ 32) × (length c.args.c.second_ends ≡ 32) × (length c.args.c.marks ≡ 1024)
+long c = (search rules, search rules, search rules)
 
-slice-aggregate-distances : tie.Need-slice-aggregate-distances
-slice-aggregate-distances c = sym (length-take-le _ _ (enough (start c.before)).0)
+slice-aggregate-distances : tie.Need-slice_bounds-distances-end
+slice-aggregate-distances c = sym (length-take-le _ _ (enough (start c)).0)
 
-slice-aggregate-firsts : tie.Need-slice-aggregate-firsts
-slice-aggregate-firsts c = sym (length-take-le _ _ (enough (start c.before.before)).1)
+slice-aggregate-firsts : tie.Need-slice_bounds-firsts-end
+slice-aggregate-firsts c = sym (length-take-le _ _ (enough (start c)).1)
 
-slice-aggregate-seconds : tie.Need-slice-aggregate-seconds
-slice-aggregate-seconds c = sym (length-take-le _ _ (enough (start c.before.before.before)).2)
+slice-aggregate-seconds : tie.Need-slice_bounds-seconds-end
+slice-aggregate-seconds c = sym (length-take-le _ _ (enough (start c)).2)
 
-in-order-requires : tie.Need-in-order-requires
+in-order-requires : tie.Need-in_order-requires
 in-order-requires c κs =
-    let s = start c.before.before.before in
-    room_below s.args.c.k s.args.c.entries (lent s) s.pre.1.1.room s.pre.1.1.most
+    let s = start c in
+    room_below s.args.c.k s.args.c.entries (lent s) s.requires.1.1.room s.requires.1.1.most
 
 -- What `in_order` told, of the whole columns.
-learnt : (c : tie.After-in-order) → let s = start c.before.before.before.before in
+learnt : (c : tie.After-in_order) → let s = start c.before in
     c.in_order.result ≡ ascending rank_before (entries_of s.args.c.entries (lent s))
 learnt c =
-    let s = start c.before.before.before.before in
+    let s = start c.before in
     c.in_order.ensures ∙ ap (ascending rank_before) (entries_below s.args.c.entries (lent s))
 
-returns : tie.Need-returns
-returns c = record { numbered = λ an bn la lb. order_fails _ _ _ _ (sym (learnt c.before) ∙ not-true _ c.if1.true) }
+returns : tie.Need-returns-then-not-in_order
+returns c = record { numbered = λ an bn la lb. order_fails _ _ _ _ (sym (learnt c.before) ∙ c.if-not-in_order.true) }
 
-abbrev begun : tie.Else1 → tie.Start
-begun c = start c.before.before.before.before.before
+abbrev begun : tie.Else-not-in_order → tie.Start
+begun c = start c.before.before
 
-array-share-prefix-first-ends : tie.Need-array-share-prefix-first-ends
+array-share-prefix-first-ends : tie.Need-slice_bounds-first_ends-end
 array-share-prefix-first-ends c = omega (arith, long (begun c), (begun c).requires.1.0.0)
 
-slice-aggregate-all-sound : tie.Need-slice-aggregate-all-sound
-slice-aggregate-all-sound c = let s = begun c.before in in_use_lem _ _ (long s).0 s.pre.1.0.0
+slice-aggregate-all-sound : tie.Need-slice_bounds-all_sound-end
+slice-aggregate-all-sound c = let s = begun c.before in in_use_lem _ _ (long s).0 s.requires.1.0.0
 
-array-share-prefix-second-ends : tie.Need-array-share-prefix-second-ends
+array-share-prefix-second-ends : tie.Need-slice_bounds-second_ends-end
 array-share-prefix-second-ends c = omega (arith, long (begun c.before), (begun c.before).requires.1.0.1)
 
-slice-aggregate-all-sound-2 : tie.Need-slice-aggregate-all-sound-2
-slice-aggregate-all-sound-2 c = let s = begun c.before.before in in_use_lem _ _ (long s).1 s.pre.1.0.1
+slice-aggregate-all-sound-2 : tie.Need-slice_bounds-all_sound-end-2
+slice-aggregate-all-sound-2 c = let s = begun c.before.before in in_use_lem _ _ (long s).1 s.requires.1.0.1
 
-slice-aggregate-all-sound-3 : tie.Need-slice-aggregate-all-sound-3
+slice-aggregate-all-sound-3 : tie.Need-slice_bounds-all_sound-end-3
 slice-aggregate-all-sound-3 c = sym (long (begun c.before.before.before)).2
 
-all-sound-requires : tie.Need-all-sound-requires
+all-sound-requires : tie.Need-all_sound-requires
 all-sound-requires c κs =
     let s = begun c.before.before.before in
-    let p = s.pre.1.0 in
+    let p = s.requires.1.0 in
     let rows = in_use_lem s.args.c.first_ends s.args.c.first_strips (long s).0 p.0 in
     let cols = in_use_lem s.args.c.second_ends s.args.c.second_strips (long s).1 p.1 in
-    let room = room_below s.args.c.k s.args.c.entries (lent s) s.pre.1.1.room s.pre.1.1.most in
-    (room, (s.pre.0, (omega (arith, rows, p.0), omega (arith, cols, p.1))))
+    let room = room_below s.args.c.k s.args.c.entries (lent s) s.requires.1.1.room s.requires.1.1.most in
+    (room, (s.requires.0, (omega (arith, rows, p.0), omega (arith, cols, p.1))))
 
-returns-2 : tie.Need-returns-2
+returns-2 : tie.Need-returns
 returns-2 c =
-    let e = c.before.before.before.before in
-    let s = begun e in
+    let s = begun c.before.before.before.before in
     record {
       numbered = λ an bn la lb.
-          entries_decide _ _ _ _ (entries_below s.args.c.entries (lent s)) (sym (learnt e.before) ∙ not-false _ e.if1.false)
-          (c.All-sound.ensures.numbered an bn la lb);
+          entries_decide _ _ _ _ (entries_below s.args.c.entries (lent s)) (sym (learnt c.before.before.before.before.before) ∙ c.if-not-in_order.false)
+          (c.all_sound.ensures.numbered an bn la lb);
     }
 
 pub sound_entries_spec : {M : Type 1} → statement M

@@ -10,66 +10,57 @@ use Rattle.campaign.proofs.soundness.sound_entry.Tie as tie
 
 -- The lists with their numbers.
 abbrev first : tie.Start → List ℕ → Columns
-first s an = raised s.args.ax.now s.args.ay.now an s.args.ah.now
+first c an = raised c.args.ax.now c.args.ay.now an c.args.ah.now
 
 abbrev second : tie.Start → List ℕ → Columns
-second s bn = raised s.args.bx.now s.args.by.now bn s.args.bh.now
+second c bn = raised c.args.bx.now c.args.by.now bn c.args.bh.now
 
-returns : tie.Need-returns
+returns : tie.Need-returns-then-ax-i
 returns c =
-    let s = c.before.before.before.before.before.before in
-    record { numbered = λ an bn la lb. first_outside _ _ _ (first s an) (second s bn) la lb _ c.if1.true }
+    record { numbered = λ an bn la lb. first_outside _ _ _ (first c.before.before.before.before.before.before an) (second c.before.before.before.before.before.before bn) la lb _ c.if-ax-i.true }
 
-returns-2 : tie.Need-returns-2
+returns-2 : tie.Need-returns-then-bx-j
 returns-2 c =
-    let s = c.before.before.before.before.before.before.before in
     record {
       numbered =
-          λ an bn la lb. second_outside _ _ _ (first s an) (second s bn) la lb _ c.before.if1.false c.if2.true;
+          λ an bn la lb. second_outside _ _ _ (first c.before.before.before.before.before.before.before an) (second c.before.before.before.before.before.before.before bn) la lb _ c.if-ax-i.false c.if-bx-j.true;
     }
 
-returns-3 : tie.Need-returns-3
+returns-3 : tie.Need-returns-then-e-eq0
 returns-3 c =
-    let e = c.before.before in
-    let s = e.before.before.before.before.before.before.before in
     record {
       numbered = λ an bn la lb.
-          co_sited_lem _ _ _ (first s an) (second s bn) la lb s.args.e e.before.if1.false e.if2.false c.if3.true;
+          co_sited_lem _ _ _ (first c.before.before.before.before.before.before.before.before.before an) (second c.before.before.before.before.before.before.before.before.before bn) la lb c.args.e c.if-ax-i.false c.if-bx-j.false c.if-e-eq0.true;
     }
 
 -- What is known past the test of the distance 0.
-abbrev begun : tie.Else3 → tie.Start
+abbrev begun : tie.Else-e-eq0 → tie.Start
 begun c = c.before.before.before.before.before.before.before.before.before
 
-returns-4 : tie.Need-returns-4
+returns-4 : tie.Need-returns-then-e-distance_at
 returns-4 c =
-    let d = c.before.before in
-    let e = d.before.before.before in
-    let s = begun d.before in
+    let s = begun c.before.before.before in
     record {
       numbered = λ an bn la lb.
-          wrong_distance _ _ _ (first s an) (second s bn) la lb s.args.e e.before.if1.false e.if2.false
-          d.before.if3.false (d.distance-at.ensures.numbered an bn la lb) c.if4.true;
+          wrong_distance _ _ _ (first s an) (second s bn) la lb s.args.e c.if-ax-i.false c.if-bx-j.false
+          c.if-e-eq0.false (c.distance_at.ensures.numbered an bn la lb) c.if-e-distance_at.true;
     }
 
-is-settled-requires : tie.Need-is-settled-requires
+is-settled-requires : tie.Need-is_settled-requires
 is-settled-requires c κs =
     let s = begun c.before.before.before.before.before in (
-      omega (arith, c.before.holding.ensures, s.pre.1, holding_few s.args.first_ends.now s.args.e.first),
-      omega (arith, c.holding2.ensures, s.pre.1, holding_few s.args.second_ends.now s.args.e.second),
+      omega (arith, c.holding.ensures, s.requires.1, holding_few s.args.first_ends.now s.args.e.first),
+      omega (arith, c.holding-2.ensures, s.requires.1, holding_few s.args.second_ends.now s.args.e.second),
     )
 
-returns-5 : tie.Need-returns-5
+returns-5 : tie.Need-returns
 returns-5 c =
-    let f = c.before.before.before in
-    let d = f.before.before in
-    let e = d.before.before.before in
-    let s = begun d.before in
+    let s = begun c.before.before.before.before.before.before in
     record {
       numbered = λ an bn la lb.
-          its_job _ _ _ (first s an) (second s bn) la lb s.args.e e.before.if1.false e.if2.false
-          d.before.if3.false (d.distance-at.ensures.numbered an bn la lb) f.if4.false
-          c.before.before.holding.ensures c.before.holding2.ensures c.is-settled.ensures;
+          its_job _ _ _ (first s an) (second s bn) la lb s.args.e c.if-ax-i.false c.if-bx-j.false
+          c.if-e-eq0.false (c.distance_at.ensures.numbered an bn la lb) c.if-e-distance_at.false
+          c.holding.ensures c.holding-2.ensures c.is_settled.ensures;
     }
 
 pub sound_entry_spec : {M : Type 1} → statement M

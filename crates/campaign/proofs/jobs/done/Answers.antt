@@ -1,0 +1,6 @@
+-- `campaign::jobs::done` meets its contract.
+use borrow.Author.Rules.{rules}
+use Rattle.campaign.proofs.jobs.done.Goals as goal
+
+pub returns : goal.returns
+returns c = rw c.settle.ensures

@@ -1,0 +1,6 @@
+-- `campaign::jobs::skipped` meets its contract.
+use borrow.Author.Rules.{rules}
+use Rattle.campaign.proofs.jobs.skipped.Goals as goal
+
+pub returns : goal.returns
+returns c = rw (c.settle.ensures, c.campaign_as-c.ensures)
