@@ -1,5 +1,4 @@
 -- Each way by its own function, and the answer from what it leaves.
-use borrow.Author.Rules.{rules}
 use Rattle.join.proofs.JoinedStrips.{joined_by_sweep, joined_by_halves}
 use Rattle.join.proofs.run.Goals as goal
 

@@ -1,5 +1,4 @@
 -- `campaign::calls::open` meets its contract.
-use borrow.Author.Rules.{rules}
 use mathlib.Core.Path.{refl}
 use Rattle.campaign.specs.Calls.{open_answer}
 use Rattle.campaign.proofs.PrepareAnswer.{grid_refused, grid_answered}

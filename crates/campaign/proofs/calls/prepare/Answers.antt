@@ -1,5 +1,4 @@
 -- `campaign::calls::prepare` meets its contract.
-use borrow.Author.Rules.{rules}
 use mathlib.Core.Path.{sym, ◌∙◌}
 use Rattle.campaign.specs.Calls.{prepare_answer}
 use Rattle.campaign.proofs.PrepareAnswer.{prepared_few, grid_refused, grid_answered}

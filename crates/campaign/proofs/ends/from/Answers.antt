@@ -1,5 +1,4 @@
 -- `campaign::ends::from` meets its contract.
-use borrow.Author.Rules.{rules}
 use Rattle.campaign.proofs.LawfulEnds.{starts_at_first, starts_at_end}
 use Rattle.campaign.proofs.ends.from.Goals as goal
 

@@ -1,13 +1,6 @@
 -- `campaign::ends::holding` meets its contract. The loop's invariant: the ends counted and those still to count are all.
 use borrow.Author.Rules.{rules}
-use Prim.Native.Nat.{◌+◌, ◌-◌, ◌≤◌}
-use mathlib.Core.Path.{◌≡◌}
-use mathlib.Core.Logic.{⊎_elim}
 use native.Mathlib.Omega.{arith}
-use lib.Dec.{leb}
-use lib.ListN.{length, drop}
-use Rattle.order.specs.Lists.{keep}
-use Rattle.campaign.specs.Grid.{strip_holding}
 use Rattle.campaign.proofs.EndsInvariant.{held_none, held_one, held_other, held_all}
 use Rattle.campaign.proofs.ends.holding.Goals as goal
 use Rattle.campaign.proofs.ends.holding.Goals.{then-ends-i, else-ends-i}

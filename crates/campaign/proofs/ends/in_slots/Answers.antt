@@ -1,9 +1,6 @@
 -- `campaign::ends::in_slots` meets its contract. The loop's invariant: the ends passed stand in their slots, and 0 in the others.
 use borrow.Author.Rules.{rules}
-use Prim.Native.Nat.{◌-◌, ◌≤◌}
-use mathlib.Core.Path.{◌≡◌, refl}
-use mathlib.Core.List.{◌++◌}
-use lib.ListN.{length, take, replicate}
+use mathlib.Core.Path.{refl}
 use Rattle.campaign.proofs.EndsInvariant.{slots_more, slots_all}
 use Rattle.campaign.proofs.ends.in_slots.Goals as goal
 

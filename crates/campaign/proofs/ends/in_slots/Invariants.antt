@@ -1,10 +1,8 @@
 -- `campaign::ends::in_slots` meets its contract. The loop's invariant: the ends passed stand in their slots, and 0 in the others.
-use borrow.Author.Rules.{rules}
 use Prim.Native.Nat.{◌-◌, ◌≤◌}
-use mathlib.Core.Path.{◌≡◌, refl}
+use mathlib.Core.Path.{◌≡◌}
 use mathlib.Core.List.{◌++◌}
 use lib.ListN.{length, take, replicate}
-use Rattle.campaign.proofs.EndsInvariant.{slots_more, slots_all}
 use Rattle.campaign.proofs.ends.in_slots.Given as goal
 
 abbrev pub invariant-loop-i : goal.invariant-loop-i

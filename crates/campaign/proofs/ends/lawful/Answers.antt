@@ -1,9 +1,7 @@
 -- `campaign::ends::lawful` meets its contract. The loop's invariant: the rest of the ends, after the last one passed, tells what all tell.
 use borrow.Author.Rules.{rules}
-use Prim.Native.Nat.{◌-◌, ◌≤◌, ◌<◌, ◌^◌}
 use native.Mathlib.Omega.{arith}
-use lib.ListN.{length}
-use Rattle.campaign.proofs.EndsInvariant.{Tested, tested_none, tested_more, tested_falls, tested_all, too_many}
+use Rattle.campaign.proofs.EndsInvariant.{tested_none, tested_more, tested_falls, tested_all, too_many}
 use Rattle.campaign.proofs.ends.lawful.Goals as goal
 
 pub returns-then-ends-gt32 : goal.returns-then-ends-gt32

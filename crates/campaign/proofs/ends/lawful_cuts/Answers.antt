@@ -1,7 +1,5 @@
 -- `campaign::ends::lawful_cuts` meets its contract.
-use borrow.Author.Rules.{rules}
 use mathlib.Core.Path.{sym, ◌∙◌}
-use borrow.Author.Tests.{not-true, not-false}
 use Rattle.campaign.proofs.ends.lawful_cuts.Goals as goal
 
 pub returns-then-not-lawful : goal.returns-then-not-lawful

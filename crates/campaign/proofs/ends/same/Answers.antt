@@ -1,9 +1,7 @@
 -- `campaign::ends::same` meets its contract. The loop's invariant: the ends still to compare tell what all tell.
 use borrow.Author.Rules.{rules}
-use Prim.Native.Nat.{◌-◌, ◌≤◌}
 use mathlib.Core.Path.{refl}
-use lib.ListN.{length}
-use Rattle.campaign.proofs.EndsInvariant.{Alike, other_count, same_more, same_fails, same_ends_lem}
+use Rattle.campaign.proofs.EndsInvariant.{other_count, same_more, same_fails, same_ends_lem}
 use Rattle.campaign.proofs.ends.same.Goals as goal
 
 pub returns-then-used-ends : goal.returns-then-used-ends

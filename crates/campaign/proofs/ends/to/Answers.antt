@@ -1,5 +1,4 @@
 -- `campaign::ends::to` meets its contract.
-use borrow.Author.Rules.{rules}
 use mathlib.Core.Path.{refl}
 use Rattle.campaign.specs.Internal.{strip_to}
 use Rattle.campaign.proofs.ends.to.Goals as goal

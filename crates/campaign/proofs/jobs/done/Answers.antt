@@ -1,5 +1,4 @@
 -- `campaign::jobs::done` meets its contract.
-use borrow.Author.Rules.{rules}
 use Rattle.campaign.proofs.jobs.done.Goals as goal
 
 pub returns : goal.returns

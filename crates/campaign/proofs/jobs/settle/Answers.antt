@@ -1,5 +1,4 @@
 -- `campaign::jobs::settle` meets its contract.
-use borrow.Author.Rules.{rules}
 use mathlib.Core.Path.{◌∙◌}
 use Rattle.campaign.specs.Calls.{after_job}
 use Rattle.campaign.proofs.jobs.settle.Goals as goal

@@ -1,5 +1,4 @@
 -- `campaign::jobs::skipped` meets its contract.
-use borrow.Author.Rules.{rules}
 use Rattle.campaign.proofs.jobs.skipped.Goals as goal
 
 pub returns : goal.returns

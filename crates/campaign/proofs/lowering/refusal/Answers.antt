@@ -1,7 +1,5 @@
 -- `campaign::lowering::refusal` meets its contract.
-use borrow.Author.Rules.{rules}
 use mathlib.Core.Path.{sym, ◌∙◌}
-use borrow.Author.Tests.{not-true, not-false}
 use Rattle.campaign.proofs.Sound.{caller_columns, caller_numbered}
 use Rattle.campaign.proofs.LowerAnswer.{lowers_caller, lowers_k, lowers}
 use Rattle.campaign.proofs.lowering.refusal.Goals as goal

@@ -1,5 +1,4 @@
 -- `campaign::marks::is_settled` meets its contract.
-use borrow.Author.Rules.{rules}
 use Rattle.campaign.proofs.MarksInvariant.{settled_at_lem, settled_past}
 use Rattle.campaign.proofs.marks.is_settled.Goals as goal
 

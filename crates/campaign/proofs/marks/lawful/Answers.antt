@@ -1,10 +1,6 @@
 -- `campaign::marks::lawful` meets its contract. The loop's invariant: the marks still to pass tell what all tell.
 use borrow.Author.Rules.{rules}
-use mathlib.Core.Path.{◌≡◌, refl}
-use Prim.Native.Nat.{◌-◌, ◌≤◌}
-use borrow.Author.Tests.{not-true, not-false}
-use lib.ListN.{length, drop}
-use Rattle.campaign.specs.Grid.{lawful_marks}
+use mathlib.Core.Path.{refl}
 use Rattle.campaign.proofs.MarksInvariant.{marks_more, marks_fall, marks_end}
 use Rattle.campaign.proofs.marks.lawful.Goals as goal
 

@@ -1,11 +1,8 @@
 -- `campaign::marks::lawful` meets its contract. The loop's invariant: the marks still to pass tell what all tell.
-use borrow.Author.Rules.{rules}
-use mathlib.Core.Path.{◌≡◌, refl}
+use mathlib.Core.Path.{◌≡◌}
 use Prim.Native.Nat.{◌-◌, ◌≤◌}
-use borrow.Author.Tests.{not-true, not-false}
 use lib.ListN.{length, drop}
 use Rattle.campaign.specs.Grid.{lawful_marks}
-use Rattle.campaign.proofs.MarksInvariant.{marks_more, marks_fall, marks_end}
 use Rattle.campaign.proofs.marks.lawful.Given as goal
 
 abbrev pub invariant-loop-i : goal.invariant-loop-i

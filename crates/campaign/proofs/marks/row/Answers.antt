@@ -1,12 +1,10 @@
 -- `campaign::marks::row` meets its contract. The loop's invariant: the jobs counted and those of the columns left are the row's.
 use borrow.Author.Rules.{rules}
 use mathlib.Core.Path.{refl, sym, ◌∙◌}
-use mathlib.Core.Logic.{⊎_elim}
 use mathlib.Core.List.{[], ◌∷◌}
-use Prim.Native.Nat.{◌-◌, ◌≤◌}
 use native.Mathlib.Omega.{arith}
 use Rattle.campaign.specs.Grid.{job_of}
-use Rattle.campaign.proofs.SettledRows.{Counted, counted_none, counted_many, counted_few, row_from, row_settled, row_open, row_few, row_done}
+use Rattle.campaign.proofs.SettledRows.{counted_none, counted_many, counted_few, row_settled, row_open, row_few, row_done}
 use Rattle.campaign.proofs.marks.row.Goals as goal
 use Rattle.campaign.proofs.marks.row.Goals.{then-is_settled, else-is_settled}
 

@@ -1,5 +1,4 @@
 -- `campaign::marks::settle` meets its contract.
-use borrow.Author.Rules.{rules}
 use Rattle.campaign.specs.Grid.{mark_of}
 use Rattle.campaign.proofs.marks.settle.Goals as goal
 

@@ -1,7 +1,5 @@
 -- `campaign::opening::grid_cuts` meets its contract.
-use borrow.Author.Rules.{rules}
 use mathlib.Core.Path.{sym, ◌∙◌}
-use borrow.Author.Tests.{not-true, not-false}
 use Rattle.campaign.specs.Calls.{grid_cuts}
 use Rattle.campaign.proofs.opening.grid_cuts.Goals as goal
 

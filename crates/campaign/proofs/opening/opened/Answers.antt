@@ -1,5 +1,4 @@
 -- `campaign::opening::opened` meets its contract.
-use borrow.Author.Rules.{rules}
 use mathlib.Core.Path.{◌∙◌}
 use Rattle.campaign.specs.Calls.{opened}
 use Rattle.campaign.proofs.opening.opened.Goals as goal

@@ -1,5 +1,4 @@
 -- `campaign::preparing::none` meets its contract.
-use borrow.Author.Rules.{rules}
 use Rattle.campaign.specs.Calls.{no_grid}
 use Rattle.campaign.proofs.preparing.none.Goals as goal
 

@@ -1,5 +1,4 @@
 -- `campaign::preparing::prepared` meets its contract.
-use borrow.Author.Rules.{rules}
 use Rattle.campaign.specs.Calls.{prepared}
 use Rattle.campaign.proofs.preparing.prepared.Goals as goal
 

@@ -1,5 +1,4 @@
 -- `campaign::preparing::refusal` meets its contract.
-use borrow.Author.Rules.{rules}
 use mathlib.Core.Path.{sym, ◌∙◌}
 use Rattle.campaign.proofs.PrepareAnswer.{prepares_lists, cuts_decide}
 use Rattle.campaign.proofs.preparing.refusal.Goals as goal

@@ -1,7 +1,5 @@
 -- `campaign::soundness::caller_refusal` meets its contract.
-use borrow.Author.Rules.{rules}
 use mathlib.Core.Path.{sym, ◌∙◌}
-use borrow.Author.Tests.{not-true, not-false}
 use Rattle.campaign.proofs.Sound.{stranger_refused, lists_decide}
 use Rattle.campaign.proofs.soundness.caller_refusal.Goals as goal
 

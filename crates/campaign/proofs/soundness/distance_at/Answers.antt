@@ -1,5 +1,5 @@
 -- `campaign::soundness::distance_at` meets its contract.
-use borrow.Author.Rules.{rules, sfits_of}
+use borrow.Author.Rules.{sfits_of}
 use mathlib.Core.Path.{◌∙◌}
 use mir.Facts.{to_z-of_z}
 use Rattle.site.specs.Site.{squared_distance}

@@ -6,12 +6,11 @@ use Rattle.campaign.proofs.SoundEntry.{stands_at, entries_many}
 use mathlib.Core.Path.{◌≡◌, refl, ap₂, ◌∙◌}
 use Prim.Native.Nat.{◌+◌, ◌-◌, ◌≤◌}
 use native.Mathlib.Omega.{arith}
-use borrow.Author.Tests.{not-true, not-false}
 use lib.ListN.{get_or, drop}
 use Rattle.order.specs.Order.{ascending}
 use Rattle.entry.specs.Entry.{entry, rank_before}
 use Rattle.entry.specs.Results.{results, entries_of}
-use Rattle.entry.proofs.Results.{room_lengths, entry_at_lem}
+use Rattle.entry.proofs.Results.{room_lengths}
 use Rattle.campaign.proofs.AllAscending.{order_more, order_falls, order_end}
 use Rattle.campaign.proofs.soundness.in_order.Statement.{statement}
 use Rattle.campaign.proofs.soundness.in_order.Tie as tie

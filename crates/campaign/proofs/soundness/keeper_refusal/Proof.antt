@@ -2,7 +2,6 @@
 use borrow.Author.Rules.{rules}
 use mathlib.Core.Path.{◌≡◌, sym, ◌∙◌}
 use mathlib.Core.Bool.{Bool, not, cond}
-use borrow.Author.Tests.{not-true, not-false}
 use Rattle.site.specs.Terms.{Numbered}
 use Rattle.entry.specs.Results.{results}
 use Rattle.campaign.specs.Soundness.{keeper_refusal}

@@ -1,5 +1,4 @@
 -- `campaign::soundness::lawful_grid` meets its contract.
-use borrow.Author.Rules.{rules}
 use Rattle.campaign.specs.Soundness.{lawful_grid}
 use Rattle.campaign.proofs.soundness.lawful_grid.Goals as goal
 

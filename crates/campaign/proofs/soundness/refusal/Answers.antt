@@ -1,5 +1,4 @@
 -- `campaign::soundness::refusal` meets its contract.
-use borrow.Author.Rules.{rules}
 use Rattle.site.proofs.Answer.{first_refused, next_decides}
 use Rattle.campaign.specs.Soundness.{campaign_refusal}
 use Rattle.campaign.proofs.Sound.{caller_columns, caller_numbered}

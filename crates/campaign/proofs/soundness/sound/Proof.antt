@@ -5,7 +5,6 @@ use mathlib.Core.Bool.{true}
 use mathlib.Core.List.{List}
 use Prim.Native.Nat.{ℕ}
 use lib.ListN.{length}
-use borrow.Author.Tests.{not-true, not-false}
 use Rattle.site.specs.SiteList.{Columns, raised}
 use Rattle.entry.specs.Results.{results, room_for}
 use Rattle.campaign.specs.Terms.{sound_plan}

@@ -2,7 +2,6 @@
 use borrow.Author.Rules.{rules}
 use mathlib.Core.Path.{◌≡◌, sym, ◌∙◌}
 use mathlib.Core.Bool.{true}
-use borrow.Author.Tests.{not-true, not-false}
 use Rattle.entry.specs.Entry.{lawful_k}
 use Rattle.campaign.proofs.SoundPlan.{unlawful_k, unlawful_first, second_decides}
 use Rattle.campaign.proofs.soundness.sound_plan.Statement.{statement}
