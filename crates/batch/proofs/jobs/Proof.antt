@@ -11,49 +11,44 @@ use Rattle.batch.proofs.jobs.Statement.{statement}
 use Rattle.batch.proofs.jobs.Tie as tie
 
 abbrev one : tie.Start → Columns
-one s = raised s.args.ax.now s.args.ay.now s.args.an.now s.args.ah.now
+one c = raised c.args.ax.now c.args.ay.now c.args.an.now c.args.ah.now
 
 abbrev other : tie.Start → Columns
-other s = raised s.args.bx.now s.args.by.now s.args.bn.now s.args.bh.now
+other c = raised c.args.bx.now c.args.by.now c.args.bn.now c.args.bh.now
 
 abbrev held : tie.Start → Results
-held s = results s.args.distance.now s.args.first.now s.args.second.now
+held c = results c.args.distance.now c.args.first.now c.args.second.now
 
 abbrev listed : tie.Start → Batch
-listed s = batch_of s.args.job-first.now s.args.job-second.now s.args.job-way.now
+listed c = batch_of c.args.job_first.now c.args.job_second.now c.args.job_way.now
 
 -- What was lent, where the call is not refused.
-abbrev start : tie.Else1 → tie.Start
-start e = e.before.before.before.before.before.before.before.before.before.before.before.before.before
+abbrev start : tie.Else-refused-ne0 → tie.Start
+start c = c.before.before.before.before.before.before.before.before.before.before
 
-accepted : (e : tie.Else1)
-    → let s = start e in batch_refusal s.args.customer s.args.g (one s) (other s) (held s) (listed s) ≡ 0
-accepted e = sym e.before.refusal.ensures ∙ e.if1.false
+accepted : (c : tie.Else-refused-ne0)
+    → let s = start c in batch_refusal s.args.customer s.args.g (one s) (other s) (held s) (listed s) ≡ 0
+accepted c = sym c.refusal-refused.ensures ∙ c.if-refused-ne0.false
 
-returns : tie.Need-returns
+returns : tie.Need-returns-then-refused-ne0
 returns c =
-    let test = c.before in
-    let s = test.before.before.before.before.before.before.before.before.before.before.before.before.before in
     rw c.refused.ensures
-    (batch_refused _ _ (one s) (other s) (held s) (listed s) test.before.refusal.ensures test.if1.true)
+    (batch_refused _ _ (one c.before.before.before.before.before.before.before.before.before.before.before) (other c.before.before.before.before.before.before.before.before.before.before.before) (held c.before.before.before.before.before.before.before.before.before.before.before) (listed c.before.before.before.before.before.before.before.before.before.before.before) c.refusal-refused.ensures c.if-refused-ne0.true)
 
 work-requires : tie.Need-work-requires
 work-requires c κs =
-    let e = c.before.before.before in
-    let s = start e in
-    let ok = accepted e in
+    let s = start c.before.before.before in
+    let ok = accepted c.before.before.before in
     let lists = (batch_sound _ _ (one s) (other s) (held s) (listed s) ok).lists in (
       (accepted_columns _ _ _ _ lists.0, accepted_columns _ _ _ _ lists.1),
       (batch_equal _ _ (one s) (other s) (held s) (listed s) ok, batch_asked _ _ (one s) (other s) (held s) (listed s) ok),
     )
 
-returns-2 : tie.Need-returns-2
+returns-2 : tie.Need-returns
 returns-2 c =
-    let w = c.before.before.before.before.before.before in
-    let e = w.before.before.before.before in
-    let s = start e in
-    let level = batch_levels _ _ (one s) (other s) (held s) (listed s) (accepted e) in
-    batch_worked _ _ (one s) (other s) (held s) (listed s) (accepted e) (w.work.ensures.numbered _ _ level.0 level.1)
+    let s = start c.before.before.before.before.before.before.before.before.before.before in
+    let level = batch_levels _ _ (one s) (other s) (held s) (listed s) (accepted c.before.before.before.before.before.before.before.before.before.before) in
+    batch_worked _ _ (one s) (other s) (held s) (listed s) (accepted c.before.before.before.before.before.before.before.before.before.before) (c.work.ensures.numbered _ _ level.0 level.1)
 
 pub jobs_spec : {M : Type 1} → statement M
 jobs_spec =
