@@ -1,5 +1,4 @@
 -- `batch::adding::counted` meets its contract.
-use borrow.Author.Rules.{rules}
 use mathlib.Core.Path.{refl}
 use Rattle.batch.specs.Internal.{counts_by}
 use Rattle.batch.proofs.adding.counted.Goals as goal

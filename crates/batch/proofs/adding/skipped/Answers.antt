@@ -1,5 +1,4 @@
 -- `batch::adding::skipped` meets its contract.
-use borrow.Author.Rules.{rules}
 use mathlib.Core.Path.{refl}
 use Rattle.batch.specs.Internal.{skipped_by}
 use Rattle.batch.proofs.adding.skipped.Goals as goal

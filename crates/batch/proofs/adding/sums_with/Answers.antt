@@ -1,5 +1,4 @@
 -- `batch::adding::sums_with` meets its contract.
-use borrow.Author.Rules.{rules}
 use mathlib.Core.Path.{ap, ◌∙◌}
 use native.Mathlib.Omega.{arith}
 use Rattle.join.specs.Join.{Counts}

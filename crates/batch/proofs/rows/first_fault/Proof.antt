@@ -5,7 +5,6 @@ use mathlib.Core.Bool.{true}
 use mathlib.Core.List.{List, ◌∷◌}
 use Prim.Native.Nat.{ℕ, ◌+◌, ◌-◌, ◌≤◌}
 use native.Mathlib.Omega.{arith}
-use borrow.Author.Tests.{not-true, not-false}
 use lib.ListN.{length, get_or, length-set}
 use Rattle.batch.specs.Batch.{batch_of, Row, row_of, rows_of, lawful_way, rows_refusal}
 use Rattle.campaign.proofs.JobRefusal.{no_job_fault}

@@ -1,5 +1,4 @@
 -- `batch::rows::refusal` meets its contract.
-use borrow.Author.Rules.{rules}
 use Rattle.customers.specs.Customers.{campaign_as}
 use Rattle.campaign.proofs.SoundCampaign.{sound_campaign, campaign_parts}
 use Rattle.batch.proofs.Refusal.{refuses_campaign, unequal_first, unequal_second, rows_decide}

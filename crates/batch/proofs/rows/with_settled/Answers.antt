@@ -1,5 +1,4 @@
 -- `batch::rows::with_settled` meets its contract.
-use borrow.Author.Rules.{rules}
 use mathlib.Core.Path.{refl}
 use Rattle.campaign.specs.Grid.{mark_of}
 use Rattle.batch.proofs.rows.with_settled.Goals as goal
