@@ -111,8 +111,8 @@ module _ (ax ay : List ℤ) (an : List ℕ) (ah bx by : List ℤ) (bn : List ℕ
   unfolding distance_answer
   answered_is {n} {first'} {second'} ok w =
       let v : Written listed 0 first second first' second' n = rw (near_is (accepted_lists ok)) w in
-      let f = v.in-first ∙ stored_start (map (λ p. p.first) listed) first in
-      let s = v.in-second ∙ stored_start (map (λ p. p.second) listed) second in
+      let f = v.in_first ∙ stored_start (map (λ p. p.first) listed) first in
+      let s = v.in_second ∙ stored_start (map (λ p. p.second) listed) second in
       let c = v.count ∙ zero-add (length listed) in (
         ap answered (λ i. distance_values (f i) (s i) (c i)) ∙ answer_values ok,
         (f ∙ after_answered (λ v. v.first) _ first ok, s ∙ after_answered (λ v. v.second) _ second ok),

@@ -71,16 +71,16 @@ module _ (a b : Columns) (k : ℕ) (r : Results) where
   k_lists_refused p h = first_refused _ p h
 
   module _ {q : ℕ} {lawful : Bool} (p : q ≡ lists_refusal a b) (none : q ≡ 0) (l : lawful ≡ lawful_k k) where
-    pub k_unlawful : not lawful ≡ true → 4 ≡ k_list_refusal a b k r
+    pub k_unlawful : lawful ≡ false → 4 ≡ k_list_refusal a b k r
     unfolding k_list_refusal
     k_unlawful h = next_decides p none (first_refused _ (rw (← l, h)) (λ e. omega arith))
 
-    module _ {room : Bool} (h : not lawful ≡ false) (m : room ≡ room_for k r) where
-      pub k_short : not room ≡ true → 6 ≡ k_list_refusal a b k r
+    module _ {room : Bool} (h : lawful ≡ true) (m : room ≡ room_for k r) where
+      pub k_short : room ≡ false → 6 ≡ k_list_refusal a b k r
       unfolding k_list_refusal
       k_short g = next_decides p none (next_decides {q = 0} (rw (← l, h)) refl (rw (← m, g)))
 
-      pub k_accepted : not room ≡ false → 0 ≡ k_list_refusal a b k r
+      pub k_accepted : room ≡ true → 0 ≡ k_list_refusal a b k r
       unfolding k_list_refusal
       k_accepted g = next_decides p none (next_decides {q = 0} (rw (← l, h)) refl (rw (← m, g)))
 

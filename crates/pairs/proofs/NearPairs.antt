@@ -69,6 +69,10 @@ module _ (e : ℕ) (ax ay ah bx by bh : List ℤ) where
   pub pairs_none : (i : ℕ) → length ax ≤ i → left i ≡ []
   pairs_none i h = left_is i ∙ rw (rightward_nil ax ay ah i (length ax) h, product_nil pair others) (keep_nil test)
 
+  -- Where no reference is left, what is counted is all.
+  pub pairs_end : {i count all : ℕ} → length ax ≤ i → count + length (left i) ≡ all → count ≡ all
+  pairs_end {i} h e = omega (arith, e, ap length (pairs_none i h))
+
   -- The near sites of a reference between two places.
   abbrev row : ℕ → ℕ → ℕ → List Placed
   row i from to =
@@ -128,6 +132,11 @@ module _ (e : ℕ) (ax ay ah bx by bh : List ℤ) where
           let near = near_sites (e * e) x y h bx by bh run.left run.right in
           let f = pair (spot_of x y h i) in
           omega (arith, ap length row_first, length-append (map f near) (left (i + 1)), length-map near f)
+
+      -- With a row's, those counted are few too.
+      pub row_few : (count n : ℕ) → count + length (left i) ≡ length (left 0)
+          → n ≡ length (near_sites (e * e) x y h bx by bh run.left run.right) → count + n ≤ 4_294_836_225
+      row_few count n g d = omega (arith, g, row_counted d, pairs_few)
 
 -- ---- the run before a row
 

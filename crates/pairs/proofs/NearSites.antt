@@ -27,6 +27,10 @@ module _ (limit : ℕ) (x y h : ℤ) (xs ys hs : List ℤ) where
   unfolding near_sites
   near_none from to e = rw (rightward_nil xs ys hs from to e) (keep_nil test)
 
+  -- Where no place is left, what is counted is all.
+  pub near_ends : {from to count all : ℕ} → to ≤ from → count + length (between from to) ≡ all → count ≡ all
+  near_ends {from} {to} h e = omega (arith, e, ap length (near_none from to h))
+
   -- One place after another.
   module _ (from to : ℕ) (some : from < to) {b : Bool} (e : b ≡ test_at from) where
     pub near_yes : b ≡ true → between from to ≡ spot xs ys hs from ∷ between (from + 1) to

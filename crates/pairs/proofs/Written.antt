@@ -1,5 +1,5 @@
 -- Pairs written into the two columns, one run of pairs after another.
-use Rattle.std.proofs.Common.{◌≡◌, ℕ, ◌+◌, ◌≤◌, List, [], ◌∷◌, ◌++◌, map, length, set, sym, refl, ap, ◌∙◌, arith, length-append}
+use Rattle.std.proofs.Common.{◌≡◌, ℕ, ◌+◌, ◌<◌, ◌≤◌, List, [], ◌∷◌, ◌++◌, map, length, set, sym, refl, ap, ◌∙◌, arith, length-append}
 use mathlib.Core.List.{map-append}
 use lib.ListN.{length-map}
 use Rattle.column.specs.Column.{stored}
@@ -19,23 +19,30 @@ module _ {n r : ℕ} {f s f' s' : List ℕ} where
   written_one e p q d room =
       record {
         count = omega (arith, d);
-        in_first = p ∙ sets_stored (e.first ∷ []) f n room.in-first;
-        in_second = q ∙ sets_stored (e.second ∷ []) s n room.in-second;
+        in_first = p ∙ sets_stored (e.first ∷ []) f n room.in_first;
+        in_second = q ∙ sets_stored (e.second ∷ []) s n room.in_second;
       }
 
   pub written_lengths : {l : List Entry} → Room l n f s → Written l n f s f' s' r
       → (length f' ≡ length f) × (length s' ≡ length s)
   written_lengths {l} room w = (
-    ap length w.in-first ∙ stored_length n (map (λ e. e.first) l) f (rw length-map room.in-first),
-    ap length w.in-second ∙ stored_length n (map (λ e. e.second) l) s (rw length-map room.in-second),
+    ap length w.in_first ∙ stored_length n (map (λ e. e.first) l) f (rw length-map room.in_first),
+    ap length w.in_second ∙ stored_length n (map (λ e. e.second) l) s (rw length-map room.in_second),
   )
+
+-- Where there is a pair, both columns have a place for it.
+pub room_some : {A : Type 0} (f : A → Entry) {l m : List A} {o : A} {n : ℕ} {first second : List ℕ}
+    → l ≡ o ∷ m → Room (map f l) n first second → (n < length first) × (n < length second)
+room_some f {l} {m} {o} {n} {first} {second} e r =
+    let room : Room (map f (o ∷ m)) n first second = rw e at r in
+    (omega (arith, room.in_first), omega (arith, room.in_second))
 
 -- Some pairs and then others.
 module _ (l m : List Entry) {n : ℕ} {f s : List ℕ} (room : Room (l ++ m) n f s) where
   pub room_first : Room l n f s
   room_first =
       let e = length-append l m in
-      record { in_first = omega (arith, room.in-first); in_second = omega (arith, room.in-second) }
+      record { in_first = omega (arith, room.in_first); in_second = omega (arith, room.in_second) }
 
   module _ {k : ℕ} {f' s' : List ℕ} (w : Written l n f s f' s' k) where
     pub room_rest : Room m k f' s'
@@ -43,7 +50,7 @@ module _ (l m : List Entry) {n : ℕ} {f s : List ℕ} (room : Room (l ++ m) n f
         let e = length-append l m in
         let same = written_lengths room_first w in
         let c = w.count in
-        record { in_first = omega (arith, room.in-first); in_second = omega (arith, room.in-second) }
+        record { in_first = omega (arith, room.in_first); in_second = omega (arith, room.in_second) }
 
     column_then : (v : Entry → ℕ) (c c' c'' : List ℕ) → n + length (l ++ m) ≤ length c → c' ≡ stored n (map v l) c
         → c'' ≡ stored k (map v m) c' → c'' ≡ stored n (map v (l ++ m)) c
@@ -58,8 +65,8 @@ module _ (l m : List Entry) {n : ℕ} {f s : List ℕ} (room : Room (l ++ m) n f
     written_then f'' s'' r u =
         record {
           count = omega (arith, w.count, u.count, length-append l m);
-          in_first = column_then (λ e. e.first) f f' f'' room.in-first w.in-first u.in-first;
-          in_second = column_then (λ e. e.second) s s' s'' room.in-second w.in-second u.in-second;
+          in_first = column_then (λ e. e.first) f f' f'' room.in_first w.in_first u.in_first;
+          in_second = column_then (λ e. e.second) s s' s'' room.in_second w.in_second u.in_second;
         }
 
 -- On the way from the columns `f` and `s` to all pairs `l` written: with those left written, `l` is.

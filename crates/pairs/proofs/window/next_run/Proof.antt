@@ -1,4 +1,5 @@
 -- `pairs::next_run` meets its contract.
+use mir.Syntax.{w32}
 use Rattle.std.proofs.Common.{◌≡◌, to_z-of_z, rules}
 use borrow.Author.Rules.{sfits_of}
 use Rattle.site.proofs.Signed.{at₁}
@@ -7,17 +8,15 @@ use Rattle.pairs.proofs.Offset.{run_next}
 use Rattle.pairs.proofs.window.next_run.Statement.{statement}
 use Rattle.pairs.proofs.window.next_run.Tie as tie
 
-learnt : (c : tie.After-offset)
-    → let args = c.before.before.args in c.offset.result ≡ offset_at args.a.now args.i
-learnt c = at₁ offset (to_z-of_z (sfits_of c.before.offset-arg.given)) c.offset.ensures.0
+learnt : (c : tie.After-offset-x)
+    → let args = c.args in c.offset-x.result ≡ offset_at args.a.now args.i
+learnt c = at₁ offset (to_z-of_z {w = w32} (sfits_of c.offset-arg-1.given)) c.offset-x.ensures.0
 
 returns : tie.Need-returns
 returns c =
-    let o = c.before.before.before in
-    let s = o.before.before in
-    let a = s.args in
-    run_next a.a.now a.b.now a.e a.i a.last s.requires.1 s.requires.2 (learnt o)
-    c.before.before.less.ensures c.before.skip_Below.ensures c.skip-below2.ensures
+    let a = c.args in
+    run_next a.a.now a.b.now a.e a.i a.last c.requires.1 c.requires.2 (learnt c.before.before.before)
+    c.less.ensures c.skip_below-left.ensures c.skip_below-right.ensures
 
 pub next_run_spec : {M : Type 1} → statement M
 next_run_spec =

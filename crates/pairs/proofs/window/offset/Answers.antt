@@ -12,8 +12,7 @@ use Rattle.site.proofs.Signed.{
   positive,
 }
 use Rattle.pairs.specs.Internal.{offset}
-use Rattle.pairs.proofs.window.offset.Statement.{statement}
-use Rattle.pairs.proofs.window.offset.Tie as tie
+use Rattle.pairs.proofs.window.offset.Goals as goal
 
 least_fits : SFits w32 (negsuc 2_147_483_647)
 least_fits = record { sfits = omega arith }
@@ -34,26 +33,23 @@ computed x = to_z w64 (of_z w64 (to_z w64 (of_z w64 (to_z w32 (of_z w32 x))) -�
 back : {x : ℤ} (h : SFits w32 x) → computed x ≡ x -ℤ negsuc 2_147_483_647
 back {x} h = difference_back h least_fits (cast_back h) refl
 
-cast-result : tie.Need-overflow-cast-result
-cast-result c = cast_fits c.ranges.x
-
-add-result : tie.Need-overflow-add-result
-add-result c = difference_fits c.ranges.x least_fits (cast_back c.ranges.x) refl
-
-cast-result-2 : tie.Need-overflow-cast-result-2
-cast-result-2 c =
-    let x = c.args.x in
-    unsigned_fits (back c.ranges.x ∙ positive (x -ℤ negsuc 2_147_483_647) (not_below x c.ranges.x))
-    (size_small x (negsuc 2_147_483_647) c.ranges.x least_fits)
-
 learnt : (x : ℤ) (h : SFits w32 x) → nat_abs (computed x) ≡ offset x
 unfolding offset gap
 learnt x h = ap nat_abs (back h)
 
-returns : tie.Need-returns
+pub overflow_cast-result : goal.overflow_cast-result
+overflow_cast-result c = cast_fits c.ranges.x
+
+pub overflow_add-result : goal.overflow_add-result
+overflow_add-result c = difference_fits c.ranges.x least_fits (cast_back c.ranges.x) refl
+
+pub overflow_cast-result-2 : goal.overflow_cast-result-2
+overflow_cast-result-2 c =
+    let x = c.args.x in
+    unsigned_fits (back c.ranges.x ∙ positive (x -ℤ negsuc 2_147_483_647) (not_below x c.ranges.x))
+    (size_small x (negsuc 2_147_483_647) c.ranges.x least_fits)
+
+pub returns : goal.returns
 returns c =
     let e = learnt c.args.x c.ranges.x in
     (e, omega (arith, e, small c.args.x c.ranges.x))
-
-pub offset_spec : {M : Type 1} → statement M
-offset_spec = tie.close (tie.spec cast-result add-result cast-result-2 returns)
