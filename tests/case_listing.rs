@@ -24,7 +24,7 @@ fn stacked(x: i32, y: i32, n: u32) -> Vec<Site> {
 
 /// The program's path.
 fn program() -> String {
-    std::env::var("CASELIST").unwrap_or_else(|_| "target/bin/caselist".to_string())
+    std::env::var("CASELIST").unwrap_or_else(|_| "crates/caselist/out/caselist".to_string())
 }
 
 /// What it prints for an input that arrives in pieces.
