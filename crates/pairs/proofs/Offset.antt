@@ -1,5 +1,5 @@
 -- Offsets of coordinates: which sites are too far in x.
-use Rattle.std.proofs.Common.{◌≡◌, ℕ, ◌+◌, ◌-◌, ◌*◌, ◌%◌, ◌^◌, ◌<◌, ◌≤◌, true, false, ◌&&◌, ltb, ◌⊎◌, List, length, get_or, ℤ, pos, negsuc, refl, inl, inr, ⊎_elim, mul-le-mul_right, mul-le-mul_left, mul-lt-mul_of_pos_right, arith, ltb-false, ltb-true}
+use Rattle.std.proofs.Common.{◌≡◌, ℕ, ◌+◌, ◌-◌, ◌*◌, ◌%◌, ◌^◌, ◌<◌, ◌≤◌, true, false, ◌&&◌, ltb, leb, ◌⊎◌, List, length, get_or, ℤ, pos, negsuc, refl, inl, inr, ⊎_elim, mul-le-mul_right, mul-le-mul_left, mul-lt-mul_of_pos_right, arith, ltb-false, ltb-true, le-leb}
 use borrow.Author.Tests.{lt-leb}
 use lib.Signed.{le_z}
 use Rattle.site.specs.Site.{Site, between, within, gap, square, squared_distance}
@@ -67,6 +67,16 @@ square_lt m n h =
     let q : m * m ≤ m * n = mul-le-mul_left m (omega arith) in
     let r : m * n < n * n = mul-lt-mul_of_pos_right h (omega arith) in
     omega arith
+
+-- Near or not, by the squared distance.
+module _ {limit d : ℕ} (x y h : ℤ) (s : Site) (e : d ≡ squared_distance (raised_site x y 0 h) s) where
+  pub near_within : d ≤ limit → leb 1 d ≡ near limit x y h s
+  unfolding near
+  near_within t = rw (← e, le-leb d limit t)
+
+  pub near_beyond : limit < d → leb d limit ≡ near limit x y h s
+  unfolding near
+  near_beyond t = rw (← e, lt-leb d limit t)
 
 -- A site further than `e` in x is not near.
 pub far : (x y h : ℤ) (s : Site) (e : ℕ) → e < gap x s.x → near (square e) x y h s ≡ false

@@ -137,6 +137,7 @@ fn write_all(
 }
 
 // The refusal of a distance list: 1, 2, 3 of each list, then 6 for columns too short; 0 for none.
+#[tactic(auto, using(crate::proofs::DistanceList::too_short))]
 fn distance_refusal(
     ax: &[i32],
     ay: &[i32],

@@ -11,17 +11,7 @@ count_all-count-requires c =
     let l = both_lawful _ _ _ _ _ _ _ _ (sym c.lists_refusal-refusal.ensures ∙ c.if-refusal-ne0.false) in
     record { coordinates = l.0; coordinates_2 = l.1 }
 
-pub returns-then-first-count : goal.returns-then-first-count
-returns-then-first-count c =
-    too_short _ _ _ _ _ _ _ _ _ _ _ c.lists_refusal-refusal.ensures c.if-refusal-ne0.false c.count_all-count.ensures
-    (omega (arith, c.if-first-count.true))
-
-pub returns-then-second-count : goal.returns-then-second-count
-returns-then-second-count c =
-    too_short _ _ _ _ _ _ _ _ _ _ _ c.lists_refusal-refusal.ensures c.if-refusal-ne0.false c.count_all-count.ensures
-    (omega (arith, c.if-second-count.true))
-
 pub returns : goal.returns
 returns c =
     room _ _ _ _ _ _ _ _ _ _ _ c.lists_refusal-refusal.ensures c.if-refusal-ne0.false c.count_all-count.ensures
-    (omega (arith, c.if-first-count.false, c.if-second-count.false))
+    (omega arith)
