@@ -1,5 +1,5 @@
 -- `pairs::k_list` meets its contract.
-use Rattle.std.proofs.Common.{sym, ◌∙◌, rules}
+use Rattle.std.proofs.Common.{sym, ◌∙◌}
 use Rattle.pairs.specs.KList.{listed_answer}
 use Rattle.pairs.proofs.KList.{k_refused, join_asks, joined_is}
 use Rattle.pairs.proofs.closest.k_list.Goals as goal

@@ -1,5 +1,4 @@
 -- `pairs::k_list_refusal` meets its contract.
-use Rattle.std.proofs.Common.{rules}
 use Rattle.pairs.proofs.KList.{k_lists_refused, k_unlawful, k_short, k_accepted}
 use Rattle.pairs.proofs.closest.k_list_refusal.Goals as goal
 

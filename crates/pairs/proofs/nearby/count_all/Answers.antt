@@ -1,7 +1,6 @@
 -- `pairs::count_all` meets its contract.
 use mir.Syntax.{w32}
-use Rattle.std.proofs.Common.{◌≤◌, length, ap, arith, rules, to_z-of_z}
-use Rattle.pairs.specs.Internal.{near_pairs}
+use Rattle.std.proofs.Common.{arith, rules, to_z-of_z}
 use Rattle.pairs.proofs.Offset.{rising}
 use Rattle.pairs.proofs.NearPairs.{pairs_end, row_few, row_asks, row_counted, ready_more}
 use Rattle.pairs.proofs.nearby.count_all.Goals as goal

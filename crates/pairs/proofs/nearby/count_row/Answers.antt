@@ -1,7 +1,5 @@
 -- `pairs::count_row` meets its contract.
-use Rattle.std.proofs.Common.{◌≡◌, List, [], length, ap, arith, to_z-of_z, w32, to_z, of_z}
-use Rattle.sweep.specs.Strip.{Placed}
-use Rattle.pairs.specs.Internal.{near_sites}
+use Rattle.std.proofs.Common.{length, ap, arith, to_z-of_z}
 use Rattle.pairs.proofs.NearSites.{near_yes, near_no, near_ends}
 use Rattle.pairs.proofs.nearby.count_row.Goals as goal
 use Rattle.pairs.proofs.nearby.count_row.Goals.{then-is_near, else-is_near}

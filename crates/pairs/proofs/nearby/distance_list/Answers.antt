@@ -1,5 +1,5 @@
 -- `pairs::distance_list` meets its contract.
-use Rattle.std.proofs.Common.{sym, ◌∙◌, rules}
+use Rattle.std.proofs.Common.{sym, ◌∙◌}
 use Rattle.pairs.specs.Within.{within_answer}
 use Rattle.pairs.proofs.DistanceList.{accepted, refused_is, answered_is}
 use Rattle.pairs.proofs.nearby.distance_list.Goals as goal

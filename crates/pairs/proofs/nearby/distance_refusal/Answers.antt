@@ -1,6 +1,6 @@
 -- `pairs::distance_refusal` meets its contract.
-use Rattle.std.proofs.Common.{sym, ◌∙◌, arith, rules}
-use Rattle.pairs.proofs.DistanceList.{both_lawful, lists_refused, too_short, room}
+use Rattle.std.proofs.Common.{sym, ◌∙◌, arith}
+use Rattle.pairs.proofs.DistanceList.{both_lawful, lists_refused, room}
 use Rattle.pairs.proofs.nearby.distance_refusal.Goals as goal
 
 pub returns-then-refusal-ne0 : goal.returns-then-refusal-ne0

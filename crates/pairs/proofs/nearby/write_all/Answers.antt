@@ -16,8 +16,7 @@ write_row-n-requires c =
     let h = c.loop-i-test.true in
     let r = c.next_run-run.ensures in
     let p = c.requires.coordinates in
-    let q = c.requires.coordinates_2 in
-    (
+    let q = c.requires.coordinates_2 in (
       row_asks _ _ _ _ _ _ _ p q h r
           (to_z-of_z {w = w32} (search rules)) (to_z-of_z {w = w32} (search rules)) (to_z-of_z {w = w32} (search rules)),
       r.behind.right,
@@ -31,8 +30,7 @@ loop-i-preserved c =
     let h = c.loop-i-test.true in
     let r = c.next_run-run.ensures in
     let p = c.requires.coordinates in
-    let q = c.requires.coordinates_2 in
-    (
+    let q = c.requires.coordinates_2 in (
       ready_more (rising p.0) h r,
       writing_more c.loop-i.invariant.1 _ _
           (row_first _ _ _ _ _ _ _ p q h r

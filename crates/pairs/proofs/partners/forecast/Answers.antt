@@ -1,5 +1,5 @@
 -- `pairs::forecast` meets its contract.
-use Rattle.std.proofs.Common.{sym, ◌∙◌, rules}
+use Rattle.std.proofs.Common.{sym, ◌∙◌}
 use Rattle.pairs.specs.Within.{within_answer}
 use Rattle.pairs.proofs.ForecastAnswer.{accepted, refused_is, answered_is}
 use Rattle.pairs.proofs.partners.forecast.Goals as goal

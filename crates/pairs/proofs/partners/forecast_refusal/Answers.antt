@@ -1,5 +1,4 @@
 -- `pairs::forecast_refusal` meets its contract.
-use Rattle.std.proofs.Common.{rules}
 use Rattle.pairs.proofs.ForecastAnswer.{lists_refused, too_short, room}
 use Rattle.pairs.proofs.partners.forecast_refusal.Goals as goal
 
