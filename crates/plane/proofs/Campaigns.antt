@@ -24,7 +24,7 @@ use Rattle.customers.specs.Customers.{campaign_as}
 use Rattle.campaign.specs.Grid.{Job, job_of, strip_at, strip_holding, settled, settled_jobs, job_pairs, jobs_pairs}
 use Rattle.campaign.specs.Soundness.{first_ends, second_ends, sound_entry, sound, caller_refusal, keeper_refusal, campaign_refusal}
 use Rattle.campaign.specs.Calls.{lawful_cuts, prepare_refusal, prepare_answer, open_refusal, open_answer, lower_refusal, lower_answer, job_refusal, skips, job_entries, accepted_job, job_answer, status_answer}
-use Rattle.batch.specs.Batch.{Batch, Row, rows_of, way_of, batch_refusal, BatchValues, no_job, accepted_rows, batch_answer}
+use Rattle.batch.specs.Batch.{Batch, Row, rows_of, way_of, batch_refusal, BatchValues, no_job, with_job_done, accepted_rows, batch_answer}
 use Rattle.plane.proofs.PairLists.{ground_join, ground_pairs}
 
 -- ---- strips of any sites
@@ -103,7 +103,7 @@ module _ (a b : List Site) where
   unfolding accepted_rows
   rows_same customer v [] = refl
   rows_same customer v (x ∷ l) =
-      rw (job_done_same (way_of x.way) customer v.grid v.results x.job) (rows_same customer _ l)
+      rw (job_done_same (way_of x.way) customer v.grid v.results x.job) (rows_same customer (with_job_done v (accepted_job (way_of x.way) customer v.grid a b v.results x.job)) l)
 
 -- ---- lists of the plane
 
