@@ -211,12 +211,12 @@ module _ (customer : ℕ) (known : is_customer customer ≡ true) where
       → heard customer s calls ≡ heard customer t (keep (concerns customer) calls)
   unfolding heard keep
   heard_kept e [] = refl
-  heard_kept e (c ∷ l) =
+  heard_kept {s = s} {t = t} e (c ∷ l) =
       by_test (concerns customer c)
       (λ yes.
       let w = even_told e c yes in
-      simp yes (ap₂ (λ (x : Answer Told) (r : List (Answer Told)). x ∷ r) w.0 (heard_kept w.1 l)))
-      (λ no. simp no (heard_kept (even_after e c no) l))
+      simp yes (ap₂ (λ (x : Answer Told) (r : List (Answer Told)). x ∷ r) w.0 (heard_kept {s = state_after s c} {t = state_after t c} w.1 l)))
+      (λ no. simp no (heard_kept {s = state_after s c} {t = t} (even_after e c no) l))
 
 histories_agree : HistoriesAgree
 unfolding HistoriesAgree

@@ -93,7 +93,7 @@ module _ (customer : ℕ) (a b : Columns) (fixed : Fixed) where
     throughout {bench} {book} s (c ∷ l) = (
       claimed bench book s,
       at_call s c (Throughout Claim customer a b (bench_after customer a b bench c) (book_after book c) l)
-          (λ after. throughout after l),
+          (λ after. throughout {bench = bench_after customer a b bench c} {book = book_after book c} after l),
     )
 
 -- The start of the calls: an accepted opening.

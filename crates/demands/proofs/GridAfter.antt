@@ -3,6 +3,7 @@ use mathlib.Core.Path.{◌≡◌, refl, sym, ◌∙◌}
 use mathlib.Core.Bool.{true, not}
 use mathlib.Core.List.{List, [], ◌∷◌}
 use Prim.Native.Nat.{ℕ, zero, suc}
+use lib.ListN.{set}
 use Rattle.site.specs.Site.{Site}
 use Rattle.site.specs.Answer.{answer_unless, afterwards, refuse_if}
 use Rattle.site.specs.SiteList.{Columns, sites}
@@ -10,11 +11,11 @@ use Rattle.site.proofs.Answer.{or_else_first, or_else_second}
 use Rattle.entry.specs.Results.{Results}
 use Rattle.customers.specs.declared.Grid.{Grid}
 use Rattle.customers.specs.Customers.{is_customer, campaign_as, with_campaign, lowered}
-use Rattle.campaign.specs.Grid.{Job}
+use Rattle.campaign.specs.Grid.{Job, mark_of}
 use Rattle.campaign.specs.Soundness.{lawful_grid, campaign_refusal}
 use Rattle.campaign.specs.Calls.{open_refusal, opened, open_answer, lower_refusal, lower_answer, status_answer}
 use Rattle.campaign.specs.Calls.{job_refusal, after_job, accepted_job, job_answer}
-use Rattle.batch.specs.Batch.{Row, rows_of, equal_columns, rows_refusal, batch_refusal, BatchValues, no_job, with_job_done, accepted_rows, batch_answer}
+use Rattle.batch.specs.Batch.{Row, way_of, rows_of, equal_columns, rows_refusal, batch_refusal, BatchValues, no_job, with_job_done, accepted_rows, batch_answer}
 use Rattle.customers.proofs.CustomerLaws.{Other, two_customers_lem, lowered_other}
 use Rattle.campaign.proofs.Grid.{InGrid}
 use Rattle.campaign.proofs.JobRefusal.{no_job_fault}
@@ -41,7 +42,7 @@ unfolding accepted_rows with_job_done accepted_job after_job with_campaign
 rows_keep customer a b P step v marks [] ok now = now
 rows_keep customer a b P step v marks (x ∷ l) ok now =
     let inside = (no_job_fault _ _ marks x.job (row_fault _ _ marks x l ok)).0 in
-    rows_keep customer a b P step _ _ l (rows_rest _ _ marks x l ok) (step v.grid _ x.job inside now)
+    rows_keep customer a b P step (with_job_done v (accepted_job (way_of x.way) customer v.grid a b v.results x.job)) (set marks (mark_of x.job) 1) l (rows_rest _ _ marks x l ok) (step v.grid _ x.job inside now)
 
 module _ (customer : ℕ) (g : Grid) (a b : Columns) (r : Results) where
   -- The grid stays, or an opening, a lowering, a job or several are accepted.

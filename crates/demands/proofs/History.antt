@@ -198,7 +198,7 @@ after_rows {book} v s (x ∷ l) ok =
     let rest = or_else_second (refuse_if (not (lawful_way x.way)) 8) _ ok in
     let first = after_done s x.job (way_of x.way) (or_else_first (book_refusal book x.job) _ rest) in
     rw (← append_assoc book.done (x.job ∷ []) (map (λ y. y.job) l))
-    (after_rows _ first l (or_else_second (book_refusal book x.job) _ rest))
+    (after_rows {book = with_job book x.job} _ first l (or_else_second (book_refusal book x.job) _ rest))
 
 pub after_batch : {customer : ℕ} {a b : Columns} {fixed : Fixed} {bench : Bench} {book : Book}
     (s : Standing customer a b fixed bench book) (l : Batch)

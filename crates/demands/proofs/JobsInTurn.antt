@@ -68,7 +68,7 @@ module _ (customer : ℕ) (a b : Columns) where
       rw (t, own_faults s x.job)
       (and_then_lem (job_fault rows cols marks x.job) (rows_refusal rows cols (set marks (mark_of x.job) 1) l) d
       (accepted_rows customer (sites a) (sites b) (with_job_done v d) l) (λ d. in_turn customer a b (with_job_done v d) l)
-      (λ ok. rows_in_turn l (with_job_done v d) (one_more s x.job (way_of x.way) ok))))
+      (λ ok. rows_in_turn {marks = set marks (mark_of x.job) 1} l (with_job_done v d) (one_more s x.job (way_of x.way) ok))))
       (λ f. rw f)
 
 pub jobs_in_turn : JobsInTurn

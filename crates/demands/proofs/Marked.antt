@@ -82,4 +82,4 @@ rows_fault {book} m (x ∷ l) =
     (or_same (refuse_if (not (lawful_way x.way)) 8)
     (λ lawful.
     or_same (book_refusal book x.job)
-    (λ accepted. rows_fault (marked_more m x.job (unsettled_job book x.job accepted).0) l)))
+    (λ accepted. rows_fault {book = with_job book x.job} (marked_more m x.job (unsettled_job book x.job accepted).0) l)))

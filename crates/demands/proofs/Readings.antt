@@ -180,6 +180,7 @@ pub rows_left : {customer : ℕ} {Whole : Type 0} (v w : BatchValues)
     × (v'.counts ≡ w'.counts))
 unfolding accepted_rows with_job_done
 rows_left v w left skipped counts a b [] = (left, skipped, counts)
-rows_left v w left skipped counts a b (x ∷ l) =
+rows_left {customer = customer} {Whole = Whole} v w left skipped counts a b (x ∷ l) =
     let one = done_left left a b (way_of x.way) x.job in
-    rows_left _ _ one.0 (ap₂ (λ (n m : ℕ). n + (1 - m)) skipped one.1) (ap₂ add_counts counts one.2) a b l
+    rows_left {customer = customer} {Whole = Whole} (with_job_done v (accepted_job (way_of x.way) customer v.grid a b v.results x.job))
+    (with_job_done w (accepted_job (way_of x.way) customer w.grid a b w.results x.job)) one.0 (ap₂ (λ (n m : ℕ). n + (1 - m)) skipped one.1) (ap₂ add_counts counts one.2) a b l
