@@ -7,6 +7,7 @@ ghost use Rattle.entry.specs.Results.{results, lent_results, Results};
 ghost use Rattle.sweep.specs.declared.Way.TheVariants.{Classic, ReverseRun};
 ghost use Rattle.join.specs.declared.Join.TheVariants.{Sweep, Halves};
 ghost use Rattle.join.specs.Join.{counts, by_sweep, by_halves};
+ghost use Rattle.customers.specs.Customers.{grid_of};
 ghost use Rattle.campaign.specs.Grid.{job_of};
 ghost use Rattle.campaign.specs.Calls.{
   prepare_answer,
@@ -40,7 +41,7 @@ fn get(
     k2: &u32,
     entries2: &u32,
 ) -> Grid
-    ensures { let parts = lent_grid first_strips second_strips first_ends second_ends marks k1 entries1 k2 entries2 in result ≡ parts.entry }
+    ensures { result ≡ grid_of first_strips.now second_strips.now first_ends.now second_ends.now marks.now k1.now entries1.now k2.now entries2.now }
 {
     let first_cut = *first_ends;
     let second_cut = *second_ends;
@@ -748,11 +749,12 @@ pub extern "C" fn vumlintel_status(
     entries: &mut u32,
     k: &mut u32,
 ) -> u32
-    ensures { let g = lent_grid first_strips second_strips first_ends second_ends marks k1 entries1 k2 entries2 in let a = (lent_list ax ay an ah).entry in
+    ensures { let g = grid_of first_strips.now second_strips.now first_ends.now second_ends.now marks.now k1.now entries1.now k2.now entries2.now in
+        let a = (lent_list ax ay an ah).entry in
         let b = (lent_list bx by bn bh).entry in
         let l = results distance.now first.now second.now in
         let places = the status_values of_mut settled of_mut jobs of_mut entries of_mut k in
-        Crosses (status_answer customer g.entry a b l) result places }
+        Crosses (status_answer customer g a b l) result places }
 {
     let g = get(
         first_strips,

@@ -20,24 +20,21 @@ left_of_lem : (way : Join) (customer : ℕ) (a b : Columns) (l : Results) (j : J
     → Left (λ v. v.grid) (λ v. v.results) (job_done_answer done l') (job_answer way customer g a b l j) g l done.grid l'
 left_of_lem way customer a b l j done is call = rw is at call
 
-abbrev called : tie.After-cross-done → tie.After-job
+abbrev called : tie.After-cross_done-number → tie.After-job-done
 called c = c.before.before.before.before.before.before.before.before.before.before.before.before
 
-returns : tie.Need-returns
+returns : tie.Need-returns-then-number-ne0
 returns c =
-    let crossed = c.before in
-    let call = left_of_lem _ _ _ _ _ _ _ (called crossed).before.before.before.before.get.ensures (called crossed).job.ensures in
-    let number = (crossed.cross-done.ensures _).number ∙ ap number_of call.0 in
+    let call = left_of_lem _ _ _ _ _ _ _ (called c.before).before.before.before.before.get-g.ensures (called c.before).job-done.ensures in
+    let number = (c.cross_done-number.ensures _).number ∙ ap number_of call.0 in
     left_crossed (λ v. v.grid) (λ v. v.results) (job_done_answer _) job_values call
-    crossed.cross-done.ensures refl (left_refused (λ v. v.grid) (λ v. v.results) _ number c.if1.true call.1.0)
+    c.cross_done-number.ensures refl (left_refused (λ v. v.grid) (λ v. v.results) _ number c.if-number-ne0.true call.1.0)
 
-returns-2 : tie.Need-returns-2
+returns-2 : tie.Need-returns
 returns-2 c =
-    let test = c.before.before.before.before.before.before.before.before.before.before in
-    let crossed = test.before in
-    let call = left_of_lem _ _ _ _ _ _ _ (called crossed).before.before.before.before.get.ensures (called crossed).job.ensures in
+    let call = left_of_lem _ _ _ _ _ _ _ (called c.before.before.before.before.before.before.before.before.before.before.before).before.before.before.before.get-g.ensures (called c.before.before.before.before.before.before.before.before.before.before.before).job-done.ensures in
     left_crossed (λ v. v.grid) (λ v. v.results) (job_done_answer _) job_values call
-    crossed.cross-done.ensures test.if1.false c.put.ensures
+    c.cross_done-number.ensures c.if-number-ne0.false c.put.ensures
 
 pub job_spec : {M : Type 1} → statement M
 job_spec =

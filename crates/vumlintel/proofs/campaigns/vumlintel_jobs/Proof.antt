@@ -18,24 +18,21 @@ left_of_lem : (customer : ℕ) (a b : Columns) (l : Results) (jobs : Batch) (don
     → Left (λ v. v.grid) (λ v. v.results) (batch_done_answer done l') (batch_answer customer g a b l jobs) g l done.grid l'
 left_of_lem customer a b l jobs done is call = rw is at call
 
-abbrev called : tie.After-cross-batch → tie.After-jobs
+abbrev called : tie.After-cross_batch-told → tie.After-jobs-done
 called c = c.before.before.before.before.before.before.before.before.before.before.before.before
 
-returns : tie.Need-returns
+returns : tie.Need-returns-then-told-ne0
 returns c =
-    let crossed = c.before in
-    let call = left_of_lem _ _ _ _ _ _ (called crossed).before.before.before.before.get.ensures (called crossed).jobs.ensures in
-    let number = (crossed.cross-batch.ensures _).number ∙ ap number_of call.0 in
+    let call = left_of_lem _ _ _ _ _ _ (called c.before).before.before.before.before.get-g.ensures (called c.before).jobs-done.ensures in
+    let number = (c.cross_batch-told.ensures _).number ∙ ap number_of call.0 in
     left_crossed (λ v. v.grid) (λ v. v.results) (batch_done_answer _) batch_values call
-    crossed.cross-batch.ensures refl (left_refused (λ v. v.grid) (λ v. v.results) _ number c.if1.true call.1.0)
+    c.cross_batch-told.ensures refl (left_refused (λ v. v.grid) (λ v. v.results) _ number c.if-told-ne0.true call.1.0)
 
-returns-2 : tie.Need-returns-2
+returns-2 : tie.Need-returns
 returns-2 c =
-    let test = c.before.before.before.before.before.before.before.before.before.before in
-    let crossed = test.before in
-    let call = left_of_lem _ _ _ _ _ _ (called crossed).before.before.before.before.get.ensures (called crossed).jobs.ensures in
+    let call = left_of_lem _ _ _ _ _ _ (called c.before.before.before.before.before.before.before.before.before.before.before).before.before.before.before.get-g.ensures (called c.before.before.before.before.before.before.before.before.before.before.before).jobs-done.ensures in
     left_crossed (λ v. v.grid) (λ v. v.results) (batch_done_answer _) batch_values call
-    crossed.cross-batch.ensures test.if1.false c.put.ensures
+    c.cross_batch-told.ensures c.if-told-ne0.false c.put.ensures
 
 pub vumlintel_jobs_spec : {M : Type 1} → statement M
 vumlintel_jobs_spec =

@@ -10,29 +10,21 @@ use Rattle.site.proofs.Answer.{answer_values, answer_refused}
 use Rattle.customers.specs.declared.Grid.{Grid}
 use Rattle.campaign.specs.Calls.{open_answer, answered_grid}
 use Rattle.vumlintel.proofs.Crosses.{crossed_values, crossed_refusal}
-use Rattle.vumlintel.proofs.campaigns.vumlintel_open.Statement.{statement}
-use Rattle.vumlintel.proofs.campaigns.vumlintel_open.Tie as tie
+use Rattle.vumlintel.proofs.campaigns.vumlintel_open.Goals as goal
 
 -- What the call told of the grid as it was lent in its parts.
 open_of : (customer : ℕ) (a b : Columns) (k : ℕ) (ends ends' : List ℕ) (l : Results) {g h : Grid} → h ≡ g
     → {told : Answer Grid} → told ≡ open_answer customer h a b k ends ends' l → told ≡ open_answer customer g a b k ends ends' l
 open_of customer a b k ends ends' l is call = rw is at call
 
-returns : tie.Need-returns
+pub returns-then-refused-ne0 : goal.returns-then-refused-ne0
+unfolding answered_grid
+returns-then-refused-ne0 c =
+    crossed_refusal
+    (answer_refused _ refl c.if-refused-ne0.true ∙ open_of _ _ _ _ _ _ _ c.get-g.ensures c.open-answered.ensures.0) refl
+
+pub returns : goal.returns
 unfolding answered_grid
 returns c =
-    let call = c.before in
-    crossed_refusal
-    (answer_refused _ refl c.if1.true ∙ open_of _ _ _ _ _ _ _ call.before.get.ensures call.open.ensures.0) refl
-
-returns-2 : tie.Need-returns-2
-unfolding answered_grid
-returns-2 c =
-    let test = c.before.before.before.before.before.before.before.before.before.before.before in
-    let call = test.before in
     crossed_values
-    (answer_values test.if1.false ∙ open_of _ _ _ _ _ _ _ call.before.get.ensures call.open.ensures.0) c.put.ensures
-
-pub vumlintel_open_spec : {M : Type 1} → statement M
-vumlintel_open_spec =
-    tie.close (tie.spec (λ c κs. search rules) (λ c κs. search rules) returns (λ c κs. search rules) returns-2)
+    (answer_values c.if-refused-ne0.false ∙ open_of _ _ _ _ _ _ _ c.get-g.ensures c.open-answered.ensures.0) c.put.ensures

@@ -8,28 +8,21 @@ use Rattle.entry.specs.Results.{Results}
 use Rattle.customers.specs.declared.Grid.{Grid}
 use Rattle.campaign.specs.Calls.{StatusValues, status_answer, status_of}
 use Rattle.vumlintel.proofs.Crosses.{crossed_values, crossed_refusal}
-use Rattle.vumlintel.proofs.campaigns.vumlintel_status.Statement.{statement}
-use Rattle.vumlintel.proofs.campaigns.vumlintel_status.Tie as tie
+use Rattle.vumlintel.proofs.campaigns.vumlintel_status.Goals as goal
 
 -- What the call told of the grid as it was lent in its parts.
 status_of_lem : (customer : ℕ) (a b : Columns) (l : Results) {g h : Grid} → h ≡ g
     → {told : Answer StatusValues} → told ≡ status_answer customer h a b l → told ≡ status_answer customer g a b l
 status_of_lem customer a b l is call = rw is at call
 
-returns : tie.Need-returns
+pub returns-in-Counts : goal.returns-in-Counts
 unfolding status_of
-returns c =
-    let call = c.before.before.before in
+returns-in-Counts c =
     crossed_values
-    (rw c.before.answer.given.1 at (status_of_lem _ _ _ _ call.before.get.ensures call.status.ensures)) refl
+    (rw c.in-Counts.is at (status_of_lem _ _ _ _ c.get-g.ensures c.status-answer.ensures)) refl
 
-returns-2 : tie.Need-returns-2
+pub returns-in-Refused : goal.returns-in-Refused
 unfolding status_of
-returns-2 c =
-    let call = c.before.before.before in
+returns-in-Refused c =
     crossed_refusal
-    (rw c.before.answer2.given.1 at (status_of_lem _ _ _ _ call.before.get.ensures call.status.ensures)) refl
-
-pub vumlintel_status_spec : {M : Type 1} → statement M
-vumlintel_status_spec =
-    tie.close (tie.spec (λ c κs. search rules) (λ c κs. search rules) (λ c. search rules) (λ c. search rules) returns returns-2)
+    (rw c.in-Refused.is at (status_of_lem _ _ _ _ c.get-g.ensures c.status-answer.ensures)) refl

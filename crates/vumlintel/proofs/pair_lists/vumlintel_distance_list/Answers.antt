@@ -1,0 +1,13 @@
+-- `vumlintel_distance_list` meets its contract: what the call told, crossed.
+use mathlib.Core.Path.{ap₂, ◌∙◌}
+use borrow.Author.Rules.{rules}
+use Rattle.pairs.specs.DistanceList.{distance_values}
+use Rattle.vumlintel.proofs.Crosses.{crossed_number, within_over, refusal_leaves}
+use Rattle.vumlintel.proofs.pair_lists.vumlintel_distance_list.Goals as goal
+
+pub returns : goal.returns
+returns c =
+    let call = c.distance_list-answer.ensures in
+    crossed_number _ (within_over _ _ ∙ call.0)
+    (λ n told. ap₂ distance_values (refusal_leaves _ told call.1.0) (refusal_leaves _ told call.1.1))
+    c.cross_within.ensures
