@@ -1,5 +1,4 @@
 -- `cross_batch` meets its contract: each arm returns and writes what its case of the outcome tells.
-use borrow.Author.Rules.{rules}
 use mathlib.Core.Path.{refl}
 use Rattle.site.specs.Answer.{number_of, afterwards}
 use Rattle.batch.specs.Batch.{batch_done_answer}

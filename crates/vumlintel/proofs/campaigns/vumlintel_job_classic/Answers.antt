@@ -1,5 +1,4 @@
 -- `vumlintel_job_classic` meets its contract: the range pairs that it does not count stay 0.
-use borrow.Author.Rules.{rules}
 use Rattle.sweep.specs.declared.Way.TheVariants.{Classic}
 use Rattle.vumlintel.proofs.Counters.{job_by_sweep}
 use Rattle.vumlintel.proofs.campaigns.vumlintel_job_classic.Goals as goal

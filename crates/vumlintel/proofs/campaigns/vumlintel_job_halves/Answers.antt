@@ -1,5 +1,4 @@
 -- `vumlintel_job_halves` meets its contract: the looks and the distances that it does not count stay 0.
-use borrow.Author.Rules.{rules}
 use Rattle.vumlintel.proofs.Counters.{job_by_halves}
 use Rattle.vumlintel.proofs.campaigns.vumlintel_job_halves.Goals as goal
 

@@ -1,5 +1,4 @@
 -- `vumlintel_lower_k` meets its contract: the refusal alone, or the grid in its parts.
-use borrow.Author.Rules.{rules}
 use mathlib.Core.Path.{◌≡◌, refl, ◌∙◌}
 use Prim.Native.Nat.{ℕ}
 use Rattle.site.specs.Answer.{Answer}

@@ -1,5 +1,4 @@
 -- `vumlintel_open` meets its contract: the refusal alone, or the grid in its parts.
-use borrow.Author.Rules.{rules}
 use mathlib.Core.Path.{◌≡◌, refl, ◌∙◌}
 use mathlib.Core.List.{List}
 use Prim.Native.Nat.{ℕ}

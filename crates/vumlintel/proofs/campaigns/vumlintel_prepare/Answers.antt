@@ -1,5 +1,4 @@
 -- `vumlintel_prepare` meets its contract: the refusal alone, or the grid in its parts.
-use borrow.Author.Rules.{rules}
 use mathlib.Core.Path.{refl, ◌∙◌}
 use Rattle.site.proofs.Answer.{answer_values, answer_refused}
 use Rattle.campaign.specs.Calls.{answered_grid}

@@ -1,5 +1,4 @@
 -- `vumlintel_status` meets its contract: each arm returns and writes what its case of the answer tells.
-use borrow.Author.Rules.{rules}
 use mathlib.Core.Path.{◌≡◌, refl}
 use Prim.Native.Nat.{ℕ}
 use Rattle.site.specs.Answer.{Answer}

@@ -1,5 +1,5 @@
 -- `file_site` meets its contract: each arm returns and writes what its case of the answer tells.
-use borrow.Author.Rules.{rules, sfits_of}
+use borrow.Author.Rules.{sfits_of}
 use mathlib.Core.Path.{refl}
 use Rattle.site_file.specs.Calls.{site_read_answer}
 use Rattle.vumlintel.proofs.Crosses.{crossed_values, crossed_refusal, site_of_lem}

@@ -1,5 +1,4 @@
 -- `vumlintel_read_file` meets its contract: each arm returns and writes what its case of the answer tells.
-use borrow.Author.Rules.{rules}
 use mathlib.Core.Path.{refl}
 use Rattle.site_file.specs.Calls.{file_read_answer}
 use Rattle.vumlintel.proofs.Crosses.{crossed_values, crossed_refusal}

@@ -1,5 +1,4 @@
 -- `vumlintel_add` meets its contract: what the call told, crossed.
-use borrow.Author.Rules.{rules}
 use Rattle.vumlintel.proofs.Crosses.{crossed_change, site_up_of}
 use Rattle.vumlintel.proofs.lists.vumlintel_add.Goals as goal
 

@@ -1,5 +1,4 @@
 -- `vumlintel_remove` meets its contract: what the call told, crossed.
-use borrow.Author.Rules.{rules}
 use Rattle.vumlintel.proofs.Crosses.{crossed_change, site_of_lem}
 use Rattle.vumlintel.proofs.lists.vumlintel_remove.Goals as goal
 

@@ -1,5 +1,4 @@
 -- `cross_within` meets its contract: each arm returns and writes what its case of the answer tells.
-use borrow.Author.Rules.{rules}
 use mathlib.Core.Path.{refl}
 use Rattle.site.specs.Answer.{number_of, afterwards}
 use Rattle.pairs.specs.Within.{within_answer}

@@ -1,5 +1,4 @@
 -- `k_list` meets its contract: each arm returns and writes what its case of the answer tells.
-use borrow.Author.Rules.{rules}
 use mathlib.Core.Path.{refl}
 use Rattle.pairs.specs.KList.{listed_answer}
 use Rattle.vumlintel.proofs.Crosses.{crossed_values, crossed_refusal, refusal_leaves}

@@ -1,6 +1,5 @@
 -- `vumlintel_distance_list` meets its contract: what the call told, crossed.
 use mathlib.Core.Path.{ap₂, ◌∙◌}
-use borrow.Author.Rules.{rules}
 use Rattle.pairs.specs.DistanceList.{distance_values}
 use Rattle.vumlintel.proofs.Crosses.{crossed_number, within_over, refusal_leaves}
 use Rattle.vumlintel.proofs.pair_lists.vumlintel_distance_list.Goals as goal

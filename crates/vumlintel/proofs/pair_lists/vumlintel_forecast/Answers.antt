@@ -1,6 +1,5 @@
 -- `vumlintel_forecast` meets its contract: what the call told, crossed.
 use mathlib.Core.Path.{ap, ◌∙◌}
-use borrow.Author.Rules.{rules}
 use Rattle.pairs.specs.Forecast.{forecast_values}
 use Rattle.vumlintel.proofs.Crosses.{crossed_number, within_over, refusal_leaves}
 use Rattle.vumlintel.proofs.pair_lists.vumlintel_forecast.Goals as goal

@@ -1,5 +1,4 @@
 -- `vumlintel_k_list_classic` meets its contract: the range pairs that it does not count stay 0.
-use borrow.Author.Rules.{rules}
 use Rattle.sweep.specs.declared.Way.TheVariants.{Classic}
 use Rattle.vumlintel.proofs.Counters.{list_by_sweep}
 use Rattle.vumlintel.proofs.pair_lists.vumlintel_k_list_classic.Goals as goal

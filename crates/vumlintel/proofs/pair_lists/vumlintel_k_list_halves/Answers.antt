@@ -1,5 +1,4 @@
 -- `vumlintel_k_list_halves` meets its contract: the looks and the distances that it does not count stay 0.
-use borrow.Author.Rules.{rules}
 use Rattle.vumlintel.proofs.Counters.{list_by_halves}
 use Rattle.vumlintel.proofs.pair_lists.vumlintel_k_list_halves.Goals as goal
 

@@ -1,5 +1,4 @@
 -- `vumlintel_k_list_reverse_run` meets its contract: the range pairs that it does not count stay 0.
-use borrow.Author.Rules.{rules}
 use Rattle.sweep.specs.declared.Way.TheVariants.{ReverseRun}
 use Rattle.vumlintel.proofs.Counters.{list_by_sweep}
 use Rattle.vumlintel.proofs.pair_lists.vumlintel_k_list_reverse_run.Goals as goal
