@@ -1,6 +1,6 @@
 // An input: its refusal, and the sites of its file.
 ghost use Rattle.std.specs.Prelude.{◌≡◌, ◌<◌, set};
-ghost use Rattle.site.specs.SiteList.{columns, lent_plane, site_at, columns_of};
+ghost use Rattle.site.specs.SiteList.{columns, site_at, columns_of};
 ghost use Rattle.site_file.specs.File.{count_in, sites_in};
 ghost use Rattle.site_file.specs.Calls.{contents_refusal, read_refusal};
 ghost use Rattle.listing.specs.Listing.{listing_refusal};
@@ -39,7 +39,7 @@ pub(super) fn read_sites(
 )
     requires file_value { contents_refusal file.now ≡ 0 }
     requires sized { Sized (count_in file.now which) (columns x.old y.old number.old) }
-    ensures { (lent_plane_mut x y number).exit ≡ columns_of (sites_in file.now which) }
+    ensures { columns x.new y.new number.new ≡ columns_of (sites_in file.now which) }
 {
     let count = x.len();
     let mut i = 0;

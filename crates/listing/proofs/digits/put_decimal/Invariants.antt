@@ -1,0 +1,10 @@
+-- Writing a number: its lowest digits are left, the next one is written.
+use borrow.Author.Rules.{rules}
+use Rattle.listing.proofs.Decimal.{DigitsLeft, digits_starts, digits_more, digits_ends}
+use Rattle.listing.proofs.digits.put_decimal.Given as goal
+
+abbrev pub invariant-loop-left : goal.invariant-loop-left
+invariant-loop-left l = DigitsLeft l.n l.at l.initial.out l.left l.out l.next
+
+abbrev pub decreases-loop-left : goal.decreases-loop-left
+decreases-loop-left l = l.left
