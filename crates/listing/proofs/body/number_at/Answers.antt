@@ -1,7 +1,6 @@
 -- The number at a place.
 use mathlib.Core.Path.{sym}
 use lib.ListN.{get_or-eq_default}
-use borrow.Author.Rules.{rules}
 use Rattle.listing.proofs.body.number_at.Goals as goal
 
 pub returns : goal.returns

@@ -1,9 +1,6 @@
 -- The lines of the entries: those from place `i` on are left.
-use Prim.Native.Nat.{◌-◌}
 use native.Mathlib.Omega.{arith}
-use Rattle.entry.specs.Results.{results}
-use Rattle.listing.specs.Internal.{number_at}
-use Rattle.listing.proofs.EntryLines.{LinesLeft, lines_starts, lines_here, lines_more, lines_ends}
+use Rattle.listing.proofs.EntryLines.{lines_starts, lines_here, lines_more, lines_ends}
 use borrow.Author.Rules.{rules}
 use Rattle.listing.proofs.body.put_entries.Goals as goal
 

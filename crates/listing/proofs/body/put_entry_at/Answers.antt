@@ -1,6 +1,5 @@
 -- The line of an entry, by what the columns hold.
 use Rattle.listing.proofs.EntryLines.{line_put}
-use borrow.Author.Rules.{rules}
 use Rattle.listing.proofs.body.put_entry_at.Goals as goal
 
 pub returns : goal.returns

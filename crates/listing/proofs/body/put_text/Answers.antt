@@ -1,7 +1,6 @@
 -- The first line, then the lines of the entries.
 use native.Mathlib.Omega.{arith}
 use Rattle.listing.proofs.EntryLines.{heading_next, text_put}
-use borrow.Author.Rules.{rules}
 use Rattle.listing.proofs.body.put_text.Goals as goal
 
 pub put_heading-next-requires : goal.put_heading-next-requires

@@ -1,7 +1,6 @@
 -- The listing: a refusal, or the text of an accepted file.
 use native.Mathlib.Omega.{arith}
 use Rattle.listing.proofs.Listing.{taken, put_start, listing_refused, part_ready, part_listed}
-use borrow.Author.Rules.{rules}
 use Rattle.listing.proofs.cases.list_cases.Goals as goal
 
 pub put_refused-requires : goal.put_refused-requires

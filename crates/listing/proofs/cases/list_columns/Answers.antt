@@ -1,5 +1,4 @@
 -- The text with result columns of 4,096 entries, and with heights of 0.
-use borrow.Author.Rules.{rules}
 use lib.IntN.{pos}
 use Rattle.listing.proofs.FileLists.{zeros_part, zeros_grounded}
 use Rattle.listing.proofs.ListingText.{zeros_room}

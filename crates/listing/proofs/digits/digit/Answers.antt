@@ -1,6 +1,5 @@
 -- A decimal digit: a power of ten is not 0.
 use native.Mathlib.Omega.{arith}
-use borrow.Author.Rules.{rules}
 use Rattle.listing.specs.Internal.{digit_at}
 use Rattle.listing.proofs.Decimal.{power_positive}
 use Rattle.listing.proofs.digits.digit.Goals as goal

@@ -1,5 +1,4 @@
 -- The count of a number's digits: the number has more than all counts that were passed.
-use Prim.Native.Nat.{◌-◌, ◌≤◌, ◌<◌, ◌^◌}
 use native.Mathlib.Omega.{arith}
 use borrow.Author.Rules.{rules}
 use Rattle.listing.proofs.Decimal.{digits_found, digits_all, power_passed}

@@ -1,8 +1,5 @@
 -- The count of a number's digits: the number has more than all counts that were passed.
 use Prim.Native.Nat.{◌-◌, ◌≤◌, ◌<◌, ◌^◌}
-use native.Mathlib.Omega.{arith}
-use borrow.Author.Rules.{rules}
-use Rattle.listing.proofs.Decimal.{digits_found, digits_all, power_passed}
 use Rattle.listing.proofs.digits.digits.Given as goal
 
 abbrev pub invariant-loop-count : goal.invariant-loop-count

@@ -1,6 +1,6 @@
 -- Writing a number: its lowest digits are left, the next one is written.
 use borrow.Author.Rules.{rules}
-use Rattle.listing.proofs.Decimal.{DigitsLeft, digits_starts, digits_more, digits_ends}
+use Rattle.listing.proofs.Decimal.{digits_starts, digits_more, digits_ends}
 use Rattle.listing.proofs.digits.put_decimal.Goals as goal
 
 pub loop-left-init : goal.loop-left-init

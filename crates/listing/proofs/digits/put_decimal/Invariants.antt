@@ -1,6 +1,5 @@
 -- Writing a number: its lowest digits are left, the next one is written.
-use borrow.Author.Rules.{rules}
-use Rattle.listing.proofs.Decimal.{DigitsLeft, digits_starts, digits_more, digits_ends}
+use Rattle.listing.proofs.Decimal.{DigitsLeft}
 use Rattle.listing.proofs.digits.put_decimal.Given as goal
 
 abbrev pub invariant-loop-left : goal.invariant-loop-left

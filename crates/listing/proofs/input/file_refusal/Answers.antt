@@ -1,6 +1,5 @@
 -- The refusal that reading a file answers.
 use Rattle.listing.proofs.Listing.{read_none, read_number}
-use borrow.Author.Rules.{rules}
 use Rattle.listing.proofs.input.file_refusal.Goals as goal
 
 pub returns-in-Counts : goal.returns-in-Counts

@@ -1,9 +1,7 @@
 -- The sites of a list: the first `i` are read.
 use Prim.Native.Nat.{◌-◌}
 use Rattle.site_file.specs.File.{sites_in}
-use Rattle.site_file.proofs.File.{list_length}
-use Rattle.listing.proofs.FileLists.{SitesRead, sites_starts, sites_here, sites_more, sites_ends}
-use borrow.Author.Rules.{rules}
+use Rattle.listing.proofs.FileLists.{SitesRead}
 use Rattle.listing.proofs.input.read_sites.Given as goal
 
 abbrev pub invariant-loop-i : goal.invariant-loop-i

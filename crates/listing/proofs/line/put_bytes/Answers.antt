@@ -1,7 +1,5 @@
 -- Writing some bytes: those from `i` on are left.
-use Prim.Native.Nat.{◌-◌}
-use lib.ListN.{length}
-use Rattle.listing.proofs.Lines.{BytesLeft, bytes_starts, bytes_more, bytes_ends}
+use Rattle.listing.proofs.Lines.{bytes_starts, bytes_more, bytes_ends}
 use borrow.Author.Rules.{rules}
 use Rattle.listing.proofs.line.put_bytes.Goals as goal
 

@@ -1,8 +1,7 @@
 -- Writing some bytes: those from `i` on are left.
 use Prim.Native.Nat.{◌-◌}
 use lib.ListN.{length}
-use Rattle.listing.proofs.Lines.{BytesLeft, bytes_starts, bytes_more, bytes_ends}
-use borrow.Author.Rules.{rules}
+use Rattle.listing.proofs.Lines.{BytesLeft}
 use Rattle.listing.proofs.line.put_bytes.Given as goal
 
 abbrev pub invariant-loop-i : goal.invariant-loop-i

@@ -1,7 +1,6 @@
 -- The line of an entry is four fields.
 use native.Mathlib.Omega.{arith}
 use Rattle.listing.proofs.Lines.{field_next, entry_put}
-use borrow.Author.Rules.{rules}
 use Rattle.listing.proofs.line.put_entry.Goals as goal
 
 pub put_field-past_distance-requires : goal.put_field-past_distance-requires

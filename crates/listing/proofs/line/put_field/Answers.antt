@@ -1,7 +1,6 @@
 -- Writing a number and the byte after it.
 use native.Mathlib.Omega.{arith}
 use Rattle.listing.proofs.Lines.{decimal_room, field_put}
-use borrow.Author.Rules.{rules}
 use Rattle.listing.proofs.line.put_field.Goals as goal
 
 pub bounds-out-next : goal.bounds-out-next

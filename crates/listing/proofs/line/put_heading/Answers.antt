@@ -1,7 +1,6 @@
 -- The first line is two words and two numbers.
 use native.Mathlib.Omega.{arith}
 use Rattle.listing.proofs.Lines.{field_next, heading_put}
-use borrow.Author.Rules.{rules}
 use Rattle.listing.specs.Listing.{bytes}
 use Rattle.listing.proofs.line.put_heading.Goals as goal
 

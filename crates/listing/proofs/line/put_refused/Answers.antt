@@ -1,6 +1,5 @@
 -- A refusal is a word and a number.
 use Rattle.listing.proofs.Lines.{refused_put}
-use borrow.Author.Rules.{rules}
 use Rattle.listing.specs.Listing.{bytes}
 use Rattle.listing.proofs.line.put_refused.Goals as goal
 
