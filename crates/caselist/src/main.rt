@@ -19,7 +19,7 @@ fn read_full<R: Read>(input: &mut R, buffer: &mut [u8]) -> usize
     done
 }
 
-// A listing that cannot be written in full is let go: the program then ends as it would have.
+// A listing that cannot be written in full is let go: the program ends as if it had been.
 fn main(rt: HostRuntime) {
     let mut input = [0u8; 48021];
     let n = read_full(&mut rt.stdin(), &mut input);

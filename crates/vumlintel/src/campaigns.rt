@@ -41,7 +41,8 @@ fn get(
     k2: &u32,
     entries2: &u32,
 ) -> Grid
-    ensures { result ≡ grid_of first_strips.now second_strips.now first_ends.now second_ends.now marks.now k1.now entries1.now k2.now entries2.now }
+    ensures { result ≡ grid_of first_strips.now second_strips.now first_ends.now second_ends.now marks.now
+        k1.now entries1.now k2.now entries2.now }
 {
     let first_cut = *first_ends;
     let second_cut = *second_ends;
@@ -72,7 +73,8 @@ fn put(
     k2: &mut u32,
     entries2: &mut u32,
 )
-    ensures { let parts = lent_grid first_strips second_strips first_ends second_ends marks k1 entries1 k2 entries2 in parts.exit ≡ g }
+    ensures { let parts = lent_grid first_strips second_strips first_ends second_ends marks k1 entries1 k2 entries2 in
+        parts.exit ≡ g }
 {
     let first_cut = g.first_ends;
     let second_cut = g.second_ends;
@@ -169,7 +171,8 @@ pub extern "C" fn vumlintel_prepare(
     k2: &mut u32,
     entries2: &mut u32,
 ) -> u32
-    ensures { let g = lent_grid first_strips second_strips first_ends second_ends marks k1 entries1 k2 entries2 in let a = (lent_list ax ay an ah).entry in
+    ensures { let g = lent_grid first_strips second_strips first_ends second_ends marks k1 entries1 k2 entries2 in
+        let a = (lent_list ax ay an ah).entry in
         let b = (lent_list bx by bn bh).entry in
         Crosses (prepare_answer a b first_cuts.now second_cuts.now) result g }
 {
@@ -233,7 +236,8 @@ pub extern "C" fn vumlintel_open(
     first: &[u32],
     second: &[u32],
 ) -> u32
-    ensures { let g = lent_grid first_strips second_strips first_ends second_ends marks k1 entries1 k2 entries2 in let a = (lent_list ax ay an ah).entry in
+    ensures { let g = lent_grid first_strips second_strips first_ends second_ends marks k1 entries1 k2 entries2 in
+        let a = (lent_list ax ay an ah).entry in
         let b = (lent_list bx by bn bh).entry in
         let l = results distance.now first.now second.now in
         let answer = open_answer customer g.entry a b k first_cuts.now second_cuts.now l in
@@ -314,7 +318,8 @@ pub extern "C" fn vumlintel_lower_k(
     first: &[u32],
     second: &[u32],
 ) -> u32
-    ensures { let g = lent_grid first_strips second_strips first_ends second_ends marks k1 entries1 k2 entries2 in let a = (lent_list ax ay an ah).entry in
+    ensures { let g = lent_grid first_strips second_strips first_ends second_ends marks k1 entries1 k2 entries2 in
+        let a = (lent_list ax ay an ah).entry in
         let b = (lent_list bx by bn bh).entry in
         let l = results distance.now first.now second.now in
         Crosses (lower_answer customer g.entry a b k l) result g }
@@ -384,9 +389,11 @@ fn job(
     distances: &mut u64,
     range_pairs: &mut u64,
 ) -> u32
-    ensures { let g = lent_grid first_strips second_strips first_ends second_ends marks k1 entries1 k2 entries2 in let a = (lent_list ax ay an ah).entry in
+    ensures { let g = lent_grid first_strips second_strips first_ends second_ends marks k1 entries1 k2 entries2 in
+        let a = (lent_list ax ay an ah).entry in
         let b = (lent_list bx by bn bh).entry in
-        let l = lent_results distance first second in let answer = job_answer way customer g.entry a b l.entry (job_of first_strip second_strip) in
+        let l = lent_results distance first second in
+        let answer = job_answer way customer g.entry a b l.entry (job_of first_strip second_strip) in
         let counters = the counts of_mut looks of_mut distances of_mut range_pairs in
         Crosses answer result (the job_values with g with l of_mut swept with counters) }
 {
@@ -469,9 +476,11 @@ pub extern "C" fn vumlintel_job_classic(
     looks: &mut u64,
     distances: &mut u64,
 ) -> u32
-    ensures { let g = lent_grid first_strips second_strips first_ends second_ends marks k1 entries1 k2 entries2 in let a = (lent_list ax ay an ah).entry in
+    ensures { let g = lent_grid first_strips second_strips first_ends second_ends marks k1 entries1 k2 entries2 in
+        let a = (lent_list ax ay an ah).entry in
         let b = (lent_list bx by bn bh).entry in
-        let l = lent_results distance first second in let answer = job_answer (Sweep Classic) customer g.entry a b l.entry (job_of first_strip second_strip) in
+        let l = lent_results distance first second in
+        let answer = job_answer (Sweep Classic) customer g.entry a b l.entry (job_of first_strip second_strip) in
         let counters = the by_sweep of_mut looks of_mut distances in
         Crosses answer result (the job_values with g with l of_mut swept with counters) }
 {
@@ -538,9 +547,11 @@ pub extern "C" fn vumlintel_job_reverse_run(
     looks: &mut u64,
     distances: &mut u64,
 ) -> u32
-    ensures { let g = lent_grid first_strips second_strips first_ends second_ends marks k1 entries1 k2 entries2 in let a = (lent_list ax ay an ah).entry in
+    ensures { let g = lent_grid first_strips second_strips first_ends second_ends marks k1 entries1 k2 entries2 in
+        let a = (lent_list ax ay an ah).entry in
         let b = (lent_list bx by bn bh).entry in
-        let l = lent_results distance first second in let answer = job_answer (Sweep ReverseRun) customer g.entry a b l.entry (job_of first_strip second_strip) in
+        let l = lent_results distance first second in
+        let answer = job_answer (Sweep ReverseRun) customer g.entry a b l.entry (job_of first_strip second_strip) in
         let counters = the by_sweep of_mut looks of_mut distances in
         Crosses answer result (the job_values with g with l of_mut swept with counters) }
 {
@@ -606,9 +617,11 @@ pub extern "C" fn vumlintel_job_halves(
     swept: &mut u32,
     range_pairs: &mut u64,
 ) -> u32
-    ensures { let g = lent_grid first_strips second_strips first_ends second_ends marks k1 entries1 k2 entries2 in let a = (lent_list ax ay an ah).entry in
+    ensures { let g = lent_grid first_strips second_strips first_ends second_ends marks k1 entries1 k2 entries2 in
+        let a = (lent_list ax ay an ah).entry in
         let b = (lent_list bx by bn bh).entry in
-        let l = lent_results distance first second in let answer = job_answer Halves customer g.entry a b l.entry (job_of first_strip second_strip) in
+        let l = lent_results distance first second in
+        let answer = job_answer Halves customer g.entry a b l.entry (job_of first_strip second_strip) in
         let counters = the by_halves of_mut range_pairs in
         Crosses answer result (the job_values with g with l of_mut swept with counters) }
 {
@@ -678,9 +691,11 @@ pub extern "C" fn vumlintel_jobs(
     distances: &mut u64,
     range_pairs: &mut u64,
 ) -> u32
-    ensures { let g = lent_grid first_strips second_strips first_ends second_ends marks k1 entries1 k2 entries2 in let a = (lent_list ax ay an ah).entry in
+    ensures { let g = lent_grid first_strips second_strips first_ends second_ends marks k1 entries1 k2 entries2 in
+        let a = (lent_list ax ay an ah).entry in
         let b = (lent_list bx by bn bh).entry in
-        let l = lent_results distance first second in let jobs = (lent_batch job_first job_second job_way).entry in
+        let l = lent_results distance first second in
+        let jobs = (lent_batch job_first job_second job_way).entry in
         let counters = the counts of_mut looks of_mut distances of_mut range_pairs in
         Crosses (batch_answer customer g.entry a b l.entry jobs) result
         (the batch_values with g with l of_mut skipped with counters) }
@@ -749,7 +764,8 @@ pub extern "C" fn vumlintel_status(
     entries: &mut u32,
     k: &mut u32,
 ) -> u32
-    ensures { let g = grid_of first_strips.now second_strips.now first_ends.now second_ends.now marks.now k1.now entries1.now k2.now entries2.now in
+    ensures { let g = grid_of first_strips.now second_strips.now first_ends.now second_ends.now marks.now
+        k1.now entries1.now k2.now entries2.now in
         let a = (lent_list ax ay an ah).entry in
         let b = (lent_list bx by bn bh).entry in
         let l = results distance.now first.now second.now in

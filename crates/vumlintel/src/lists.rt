@@ -59,7 +59,8 @@ pub extern "C" fn vumlintel_add(
     place: &mut u32,
     count: &mut u32,
 ) -> u32
-    ensures { let c = lent_list_mut x y number height in let answer = add_answer c.entry in_use (raised_site site_x site_y site_number site_height) in
+    ensures { let c = lent_list_mut x y number height in
+        let answer = add_answer c.entry in_use (raised_site site_x site_y site_number site_height) in
         Crosses answer result (the change_values with c of_mut place of_mut count) }
 {
     let s = Site {
@@ -86,7 +87,8 @@ pub extern "C" fn vumlintel_remove(
     place: &mut u32,
     count: &mut u32,
 ) -> u32
-    ensures { let c = lent_list_mut x y number height in let answer = remove_answer c.entry in_use (site site_x site_y site_number) in
+    ensures { let c = lent_list_mut x y number height in
+        let answer = remove_answer c.entry in_use (site site_x site_y site_number) in
         Crosses answer result (the change_values with c of_mut place of_mut count) }
 {
     let answer = site::remove(x, y, number, height, in_use, site_x, site_y, site_number);

@@ -37,7 +37,8 @@ fn k_list(
 ) -> u32
     ensures { let a = (lent_list ax ay an ah).entry in
         let b = (lent_list bx by bn bh).entry in
-        let l = lent_results distance first second in let counters = the counts of_mut looks of_mut distances of_mut range_pairs in
+        let l = lent_results distance first second in
+        let counters = the counts of_mut looks of_mut distances of_mut range_pairs in
         let places = the k_list_values with l of_mut entries with counters in
         Crosses (k_list_answer way a b k l.entry) result places }
 {
@@ -80,7 +81,8 @@ pub extern "C" fn vumlintel_k_list_classic(
 ) -> u32
     ensures { let a = (lent_list ax ay an ah).entry in
         let b = (lent_list bx by bn bh).entry in
-        let l = lent_results distance first second in let counters = the by_sweep of_mut looks of_mut distances in
+        let l = lent_results distance first second in
+        let counters = the by_sweep of_mut looks of_mut distances in
         let places = the k_list_values with l of_mut entries with counters in
         Crosses (k_list_answer (Sweep Classic) a b k l.entry) result places }
 {
@@ -127,7 +129,8 @@ pub extern "C" fn vumlintel_k_list_reverse_run(
 ) -> u32
     ensures { let a = (lent_list ax ay an ah).entry in
         let b = (lent_list bx by bn bh).entry in
-        let l = lent_results distance first second in let counters = the by_sweep of_mut looks of_mut distances in
+        let l = lent_results distance first second in
+        let counters = the by_sweep of_mut looks of_mut distances in
         let places = the k_list_values with l of_mut entries with counters in
         Crosses (k_list_answer (Sweep ReverseRun) a b k l.entry) result places }
 {
@@ -173,7 +176,8 @@ pub extern "C" fn vumlintel_k_list_halves(
 ) -> u32
     ensures { let a = (lent_list ax ay an ah).entry in
         let b = (lent_list bx by bn bh).entry in
-        let l = lent_results distance first second in let counters = the by_halves of_mut range_pairs in
+        let l = lent_results distance first second in
+        let counters = the by_halves of_mut range_pairs in
         let places = the k_list_values with l of_mut entries with counters in
         Crosses (k_list_answer Halves a b k l.entry) result places }
 {
