@@ -1,23 +1,21 @@
 -- The entries of a distance column: what is known of entries that are not refused, both ways.
 use mathlib.Core.Path.{◌≡◌, sym}
-use mathlib.Core.Bool.{Bool, true, false, not}
+use mathlib.Core.Bool.{Bool, true, not}
 use mathlib.Core.List.{List}
 use Prim.Native.Nat.{ℕ, ◌≤◌, ◌<◌}
 use borrow.Author.Tests.{ltb-true, ltb-false, lt-ltb, le-ltb}
 use lib.Dec.{ltb}
-use lib.ListN.{length, take, get_or}
+use lib.ListN.{length, take}
 use lib.Seq.{length-take-le}
 use Rattle.order.specs.Lists.{all, All}
-use Rattle.order.proofs.Order.{by_test, never_both}
-use Rattle.order.proofs.Lists.{all_at, all_holds, holds_all, all_weaken}
+use Rattle.order.proofs.Lists.{all_holds, holds_all, all_weaken}
 use Rattle.site.specs.Answer.{refuse_if, or_else}
 use Rattle.site.specs.Site.{square}
 use Rattle.site.proofs.Answer.{or_else_first, or_else_second, no_fault, fault_none}
 use Rattle.site.proofs.Tests.{or_first, or_second}
-use Rattle.bands.specs.declared.Tariff.{Tariff}
 use Rattle.bands.specs.Bands.{last_to}
 use Rattle.bands.specs.Calls.{entries_refusal}
-use Rattle.bands.specs.Internal.{Covered, Priceable, Chargeable}
+use Rattle.bands.specs.Internal.{Tariff, Covered, Priceable, Chargeable}
 
 -- Whether a squared distance is below the square of the last band's end.
 abbrev pub below : ℕ → Bool
@@ -76,10 +74,3 @@ module _ (distance : List ℕ) (count : ℕ) (prices : List ℕ) where
           few = rw long e.room.few;
           room = rw long e.room.column;
         }
-
--- A distance that is not below tells of its whole column.
-pub some_past : (distance : List ℕ) (i : ℕ) → i < length distance → square last_to ≤ get_or distance i 0 → false ≡ all below distance
-some_past distance i h g =
-    by_test (all below distance)
-    (λ t. never_both (all_at (λ d. below d ≡ true) distance i 0 h (all_holds below distance t)) (le-ltb _ _ g))
-    sym

@@ -11,9 +11,8 @@ use lib.ListN.{length, take, get_or}
 use Rattle.order.proofs.Order.{by_test}
 use Rattle.site.proofs.Tests.{and_second}
 use Rattle.bands.specs.declared.Band.{Band}
-use Rattle.bands.specs.declared.Tariff.{Tariff}
 use Rattle.bands.specs.Bands.{lawful_number}
-use Rattle.bands.specs.Internal.{begun, taken, taken_from, gathered}
+use Rattle.bands.specs.Internal.{Tariff, begun, taken, taken_from, gathered}
 
 -- With the first `i` bands of a table taken.
 unfoldable pub gathered_to : List Band → ℕ → Tariff

@@ -8,4 +8,3 @@ pub mod Cover
 pub mod Ends
 pub mod PriceRead
 pub mod PriceAnswer
-pub mod EditAnswer

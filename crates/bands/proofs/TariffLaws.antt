@@ -19,7 +19,6 @@ use Rattle.site.specs.Answer.{or_else}
 use Rattle.site.specs.Site.{square}
 use Rattle.site.proofs.Answer.{answer_same, or_nothing, or_groups, or_else_first, or_else_second}
 use Rattle.bands.specs.declared.Band.{Band}
-use Rattle.bands.specs.declared.Tariff.{Tariff}
 use Rattle.bands.specs.Bands.{
   last_to,
   lawful_number,
@@ -30,7 +29,7 @@ use Rattle.bands.specs.Bands.{
   price_of,
 }
 use Rattle.bands.specs.Calls.{entries_refusal, priced_by, price_answer}
-use Rattle.bands.specs.Internal.{begun, taken, taken_from, gathered, band_at, price_at, Covered, Tiers, Priceable}
+use Rattle.bands.specs.Internal.{Tariff, begun, taken, taken_from, gathered, band_at, price_at, Covered, Tiers, Priceable}
 use Rattle.bands.proofs.Bands.{ends_in, prices_in, Accepted, accepted, accepted_found, chain_rises}
 use Rattle.bands.proofs.Entries.{entries_accepted}
 use Rattle.bands.proofs.Gathered.{begun_few}

@@ -2,13 +2,9 @@
 use Rattle.std.specs.Prelude.{not, ◌||◌, List, map, ℕ, leb, ltb, length, take, set}
 use Rattle.order.specs.Lists.{all, sum}
 use Rattle.column.specs.Column.{overwritten}
-use Rattle.site.specs.Answer.{Answer, refused, answered, answer_unless, refuse_if, or_else}
+use Rattle.site.specs.Answer.{Answer, answer_unless, refuse_if, or_else}
 use Rattle.site.specs.Site.{square}
 use Rattle.bands.specs.declared.Band.{Band}
-use Rattle.bands.specs.declared.Edited.{Edited}
-use Rattle.bands.specs.declared.Edited.TheVariants as edited
-use Rattle.bands.specs.declared.Priced.{Priced}
-use Rattle.bands.specs.declared.Priced.TheVariants as priced
 use Rattle.bands.specs.Bands.{last_to, bands_refusal, price_of}
 
 -- The table after an edit, and the edit's place.
@@ -48,12 +44,3 @@ priced_by bandsFault price distance count prices =
 
 unfoldable pub price_answer : List Band → List ℕ → ℕ → List ℕ → Answer PriceValues
 price_answer bands distance count prices = priced_by (bands_refusal bands) (price_of bands) distance count prices
-
--- The paper's number and values for each case of each answer: `values` tells what is lent holds at exit, beside the number.
-unfoldable pub edited_answer : {A : Type 0} → Edited → (ℕ → A) → Answer A
-edited_answer (edited.At place) values = answered (values place)
-edited_answer (edited.Refused number) values = refused number
-
-unfoldable pub priced_answer : {A : Type 0} → Priced → (ℕ → A) → Answer A
-priced_answer (priced.Total total) values = answered (values total)
-priced_answer (priced.Refused number) values = refused number

@@ -2,17 +2,24 @@
 use Rattle.std.specs.Prelude.{◌≡◌, not, cond, List, [], ◌∷◌, ℕ, suc, ◌+◌, ◌≤◌, ◌<◌, leb, ltb, eqb, length, get_or, take, set, replicate}
 use Rattle.order.specs.Lists.{keep, All}
 use Rattle.order.specs.Terms.{Sorted}
-use Rattle.site.specs.Answer.{refuse_if, or_else}
+use Rattle.site.specs.Answer.{refuse_if, or_else, refusal_of}
 use Rattle.site.specs.Site.{square}
 use Rattle.bands.specs.declared.Band.{Band}
-use Rattle.bands.specs.declared.Edited.{Edited}
-use Rattle.bands.specs.declared.Edited.TheVariants.{At, Refused}
-use Rattle.bands.specs.declared.Tariff.{Tariff}
+use Rattle.bands.specs.declared.Tariff as told
 use Rattle.bands.specs.Bands.{last_to, lawful_number, lawful_price, band_refusal}
 
--- What an edit answers at a place of a table of so many bands.
-unfoldable pub edited_at : ℕ → ℕ → Edited
-edited_at place count = cond (ltb place count) (At place) (Refused 8)
+-- A tariff, with its refusal's number, 0 for none.
+pub record Tariff : Type 0 where
+  pub bands : ℕ
+  pub refusal : ℕ
+  pub to : ℕ
+  pub ends : List ℕ
+  pub prices : List ℕ
+
+-- The one that the struct of the code stands for.
+abbrev pub tariff_of : told.Tariff → Tariff
+tariff_of t =
+    record { bands = t.bands; refusal = refusal_of t.refusal; to = t.to; ends = t.ends; prices = t.prices }
 
 -- A tariff of so many bands with none taken, and with one more taken.
 unfoldable pub begun : ℕ → Tariff

@@ -1,19 +1,28 @@
 // The table of bands judged band by band, and taken into a tariff by value.
 ghost use Rattle.std.specs.Prelude.{◌≡◌, ◌<◌};
-ghost use Rattle.site.specs.Answer.{refuse_if, or_else};
+ghost use Rattle.site.specs.Answer.{refuse_if, number, refusal_of};
 ghost use Rattle.bands.specs.Bands.{overlaps, leaves_gap, band_refusal};
-ghost use Rattle.bands.specs.Internal.{begun, taken, gathered};
+ghost use Rattle.bands.specs.Internal.{tariff_of, begun, taken, gathered};
 
 use super::{Band, Tariff};
+use site::Refusal;
+
+// Refused for that reason where the fault is there.
+#[tactic(auto, unfolding(site::specs::Answer::refusal_of))]
+fn refuse_if(fault: bool, refusal: Refusal) -> Result<(), Refusal>
+    ensures { refusal_of result ≡ refuse_if fault (number refusal) }
+{
+    if fault { Err(refusal) } else { Ok(()) }
+}
 
 // A tariff of so many bands, none taken yet. Where their number is wrong it has none, and is refused.
 fn begin(count: usize) -> Tariff
-    ensures { result ≡ begun count }
+    ensures { tariff_of result ≡ begun count }
 {
-    let lawful = 1 <= count && count <= 64;
+    let lawful = (1..=64).contains(&count);
     Tariff {
         bands: if lawful { count } else { 0 },
-        refusal: if lawful { 0 } else { 14 },
+        refusal: refuse_if(!lawful, Refusal::Price),
         to: 0,
         ends: [Band::LAST_TO_SQUARED; 64],
         prices: [0; 64],
@@ -34,58 +43,41 @@ fn leaves_gap(before: u32, last: bool, band: Band) -> bool
     before < band.from || (last && band.to < Band::LAST_TO)
 }
 
-// The number where the fault is there, else 0.
-fn refuse_if(fault: bool, number: u32) -> u32
-    ensures { result ≡ refuse_if fault number }
+// Whether one band is refused, by the end of the band before it, 0 for the first, and whether it is the last: for 13, then 12.
+#[tactic(auto, unfolding(site::specs::Answer::refusal_of, site::specs::Answer::number, site::specs::Answer::or_else, crate::specs::Bands::band_refusal))]
+fn judge(before: u32, last: bool, band: Band) -> Result<(), Refusal>
+    ensures { refusal_of result ≡ band_refusal before last band }
 {
-    if fault { number } else { 0 }
-}
-
-// The first refusal of two in their order, 0 for none.
-fn first_of(refusal: u32, next: u32) -> u32
-    ensures { result ≡ or_else refusal next }
-{
-    if refusal != 0 {
-        return refusal;
+    if overlaps(before, band) {
+        return Err(Refusal::Overlap);
     }
-    next
-}
-
-// The refusal of one band by the end of the band before it, 0 for the first, and whether it is the last; 0 for none.
-fn judge(before: u32, last: bool, band: Band) -> u32
-    ensures { result ≡ band_refusal before last band }
-{
-    let overlap = refuse_if(overlaps(before, band), 13);
-    let gap = refuse_if(leaves_gap(before, last, band), 12);
-    first_of(overlap, gap)
+    if leaves_gap(before, last, band) {
+        return Err(Refusal::Gap);
+    }
+    Ok(())
 }
 
 // A tariff with one band more, the one at place `i`: 14 before all, then what was told before, then the band's own.
-fn take(tariff: Tariff, i: usize, band: Band) -> Tariff
+fn take(mut tariff: Tariff, i: usize, band: Band) -> Tariff
     requires { i < 64 }
-    ensures { result ≡ taken tariff i band }
+    ensures { tariff_of result ≡ taken (tariff_of tariff) i band }
 {
-    let mut t = tariff;
-    let dear = refuse_if(Band::MAX_PRICE < band.price, 14);
-    let own = judge(t.to, i + 1 == t.bands, band);
-    let told = first_of(t.refusal, own);
-    t.refusal = first_of(dear, told);
-    t.to = band.to;
-    t.ends[i] = band.to as u64 * band.to as u64;
-    t.prices[i] = band.price;
-    t
+    let dear = refuse_if(Band::MAX_PRICE < band.price, Refusal::Price);
+    let own = judge(tariff.to, i + 1 == tariff.bands, band);
+    tariff.refusal = dear.and(tariff.refusal).and(own);
+    tariff.to = band.to;
+    tariff.ends[i] = band.to as u64 * band.to as u64;
+    tariff.prices[i] = band.price;
+    tariff
 }
 
 // The tariff of a table of bands.
 pub(super) fn gather(bands: &[Band]) -> Tariff
-    ensures { result ≡ gathered bands.now }
+    ensures { tariff_of result ≡ gathered bands.now }
 {
     let mut t = begin(bands.len());
-    let n = t.bands;
-    let mut i = 0;
-    while i < n {
-        t = take(t, i, bands[i]);
-        i += 1;
+    for (i, &band) in bands[..t.bands].iter().enumerate() {
+        t = take(t, i, band);
     }
     t
 }

@@ -5,16 +5,10 @@ mod judging;
 mod pricing;
 
 ghost use Rattle.std.specs.Prelude.{◌≡◌};
-ghost use Rattle.site.specs.Answer.{afterwards};
-ghost use Rattle.bands.specs.Calls.{
-  edit_answer,
-  edit_values,
-  edited_answer,
-  price_answer,
-  price_values,
-  priced_answer,
-};
-ghost use Rattle.bands.specs.Internal.{edited_at};
+ghost use Rattle.site.specs.Answer.{afterwards, answer_of};
+ghost use Rattle.bands.specs.Calls.{edit_answer, edit_values, price_answer, price_values};
+
+use site::Refusal;
 
 // A band of squared distances and its price: a pair is in it where `from` squared is at most its squared distance and
 // `to` squared is greater.
@@ -36,59 +30,39 @@ impl Band {
     const MAX_PRICE: u32 = 1_000_000;
 }
 
-// A table of bands by value: how many it has, its refusal (0 for none), where the last band taken ends, and for each
+// A table of bands by value: how many it has, whether it is refused, where the last band taken ends, and for each
 // band taken the square of its end and its price. Places past the bands end where the last band does.
 #[derive(Clone, Copy)]
 struct Tariff {
     bands: usize,
-    refusal: u32,
+    refusal: Result<(), Refusal>,
     to: u32,
     ends: [u64; 64],
     prices: [u32; 64],
 }
 
-// What an edit answers: the place, or the refusal's number.
-#[derive(Clone, Copy)]
-pub enum Edited {
-    At(u32),
-    Refused(u32),
-}
-
-// What pricing answers: the total, or the refusal's number.
-#[derive(Clone, Copy)]
-pub enum Priced {
-    Total(u64),
-    Refused(u32),
-}
-
-// What an edit at a place of a table of so many bands answers.
-fn edit_answer(place: u32, count: usize) -> Edited
-    ensures { result ≡ edited_at place count }
-{
-    if (place as usize) < count {
-        return Edited::At(place);
-    }
-    Edited::Refused(8)
-}
-
 // Replaces the band at a place, unjudged: the place, or the refusal.
-pub fn edit(bands: &mut [Band], place: u32, band: Band) -> Edited
+pub fn edit(bands: &mut [Band], place: u32, band: Band) -> Result<u32, Refusal>
     ensures { let answer = edit_answer bands.old place band in
-        (edited_answer result (edit_values bands.new) ≡ answer)
+        (answer_of (edit_values bands.new) result ≡ answer)
         × (bands.new ≡ afterwards (λ v. v.bands) answer bands.old) }
 {
-    let at = place as usize;
-    let count = bands.len();
-    if at < count {
-        bands[at] = band;
+    if bands.len() <= place as usize {
+        return Err(Refusal::Place);
     }
-    edit_answer(place, count)
+    bands[place as usize] = band;
+    Ok(place)
 }
 
 // Prices the first `count` entries of a distance column by the bands: each entry's price, and the total; or the refusal.
-pub fn price(bands: &[Band], distance: &[u64], count: u32, prices: &mut [u32]) -> Priced
+pub fn price(
+    bands: &[Band],
+    distance: &[u64],
+    count: u32,
+    prices: &mut [u32],
+) -> Result<u64, Refusal>
     ensures { let answer = price_answer bands.now distance.now count prices.old in
-        (priced_answer result (price_values prices.new) ≡ answer)
+        (answer_of (price_values prices.new) result ≡ answer)
         × (prices.new ≡ afterwards (λ v. v.prices) answer prices.old) }
 {
     pricing::price_by(judging::gather(bands), distance, count, prices)

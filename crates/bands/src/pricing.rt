@@ -2,10 +2,10 @@
 ghost use Rattle.std.specs.Prelude.{◌≡◌, map, ◌<◌, ltb};
 ghost use Rattle.order.specs.Lists.{all, sum};
 ghost use Rattle.column.specs.Column.{overwritten};
-ghost use Rattle.site.specs.Answer.{afterwards};
+ghost use Rattle.site.specs.Answer.{afterwards, answer_of, refusal_of};
 ghost use Rattle.site.specs.Site.{square};
 ghost use Rattle.bands.specs.Bands.{last_to};
-ghost use Rattle.bands.specs.Calls.{entries_refusal, priced_by, priced_answer, price_values};
+ghost use Rattle.bands.specs.Calls.{entries_refusal, priced_by, price_values};
 ghost use Rattle.bands.specs.Internal.{
   band_at,
   price_at,
@@ -13,9 +13,11 @@ ghost use Rattle.bands.specs.Internal.{
   Covered,
   Priceable,
   Chargeable,
+  tariff_of,
 };
 
-use super::{Band, Priced, Tariff};
+use super::{Band, Tariff};
+use site::Refusal;
 
 // Which of 64 ascending ends is the first above a squared distance: six halvings, whatever the number of bands. No step
 // jumps: which half goes on is as good as random, and a wrong guess costs more than a step.
@@ -39,13 +41,11 @@ fn band_at(ends: &[u64], at: usize, d: u64) -> usize
     requires { (Rising ends.now) × (Covered ends.now d) × (at < 64) }
     ensures { result ≡ band_at ends.now d }
 {
-    if ends[at] <= d {
-        return search(ends, d);
+    if ends[at] <= d || (0 < at && d < ends[at - 1]) {
+        search(ends, d)
+    } else {
+        at
     }
-    if 0 < at && d < ends[at - 1] {
-        return search(ends, d);
-    }
-    at
 }
 
 // Writes the price of each distance into the column: the total.
@@ -54,67 +54,54 @@ fn write_prices(ends: &[u64], rates: &[u32], distance: &[u64], prices: &mut [u32
     ensures { let each = map (price_at ends.now rates.now) distance.now in
         (prices.new ≡ overwritten each prices.old) × (result ≡ sum each) }
 {
-    let mut total: u64 = 0;
+    let mut total = 0;
     let mut at = 0;
-    let mut i = 0;
-    while i < distance.len() {
-        at = band_at(ends, at, distance[i]);
+    for (i, &d) in distance.iter().enumerate() {
+        at = band_at(ends, at, d);
         let price = rates[at];
         prices[i] = price;
         total += price as u64;
-        i += 1;
     }
     total
 }
 
 // Whether each squared distance is below the square of the last band's end.
-#[tactic(auto, using(crate::proofs::Entries::some_past), unfolding(site::specs::Site::square))]
 fn all_below(column: &[u64]) -> bool
     ensures { result ≡ all (λ d. ltb d (square last_to)) column.now }
 {
-    let mut i = 0;
-    while i < column.len() {
-        if Band::LAST_TO_SQUARED <= column[i] {
-            return false;
-        }
-        i += 1;
-    }
-    true
+    column.iter().all(|&d| d < Band::LAST_TO_SQUARED)
 }
 
-// The refusal of the entries of a distance column: 6, then 7; 0 for none.
-fn entries_refusal(distance: &[u64], count: u32, prices: &[u32]) -> u32
-    ensures { result ≡ entries_refusal distance.now count prices.now }
+// Whether the entries of a distance column are refused: for 6, then 7.
+fn entries_refusal(distance: &[u64], count: u32, prices: &[u32]) -> Result<(), Refusal>
+    ensures { refusal_of result ≡ entries_refusal distance.now count prices.now }
 {
     let n = count as usize;
     if prices.len() < n || distance.len() < n || 4_096 < n {
-        return 6;
+        return Err(Refusal::Room);
     }
     if all_below(&distance[..n]) {
-        return 0;
+        Ok(())
+    } else {
+        Err(Refusal::Unsound)
     }
-    7
 }
 
 // Prices the first `count` entries of a distance column by a tariff: each entry's price, and the total; or the refusal.
-pub(super) fn price_by(tariff: Tariff, distance: &[u64], count: u32, prices: &mut [u32]) -> Priced
-    requires { Priceable tariff }
+pub(super) fn price_by(
+    tariff: Tariff,
+    distance: &[u64],
+    count: u32,
+    prices: &mut [u32],
+) -> Result<u64, Refusal>
+    requires { Priceable (tariff_of tariff) }
     ensures { let price = price_at tariff.ends tariff.prices in
-        let answer = priced_by tariff.refusal price distance.now count prices.old in
-        (priced_answer result (price_values prices.new) ≡ answer)
+        let answer = priced_by (refusal_of tariff.refusal) price distance.now count prices.old in
+        (answer_of (price_values prices.new) result ≡ answer)
         × (prices.new ≡ afterwards (λ v. v.prices) answer prices.old) }
 {
-    let refusal = tariff.refusal;
-    if refusal != 0 {
-        return Priced::Refused(refusal);
-    }
-    let fault = entries_refusal(distance, count, prices);
-    if fault != 0 {
-        return Priced::Refused(fault);
-    }
-    let ends = tariff.ends;
-    let rates = tariff.prices;
-    let entries = count as usize;
-    let total = write_prices(&ends[..], &rates[..], &distance[..entries], prices);
-    Priced::Total(total)
+    tariff.refusal?;
+    entries_refusal(distance, count, prices)?;
+    let distance = &distance[..count as usize];
+    Ok(write_prices(&tariff.ends, &tariff.prices, distance, prices))
 }

@@ -8,7 +8,7 @@ use native.Mathlib.Omega.{arith}
 use lib.Dec.{eqb}
 use lib.ListN.{length, get_or, set, drop, length-set, drop_of_length-le}
 use lib.Seq.{drop-cons}
-use borrow.Author.Tests.{eq-eqb, ne_eqb, eqb-true}
+use borrow.Author.Tests.{eqb-true}
 use Rattle.order.specs.Lists.{keep}
 use Rattle.order.proofs.Lists.{length_keep, length_keep_set, length_zip}
 use Rattle.site.specs.Answer.{refuse_if, or_else}
@@ -75,12 +75,13 @@ module _ (rows cols : ℕ) (marks : List ℕ) (x : Row) (l : List Row) where
   unfolding rows_refusal
   by_way h = sym (or_none (refuse_if (not (lawful_way x.way)) 8) _ (rw h refl))
 
-  module _ (lawful : lawful_way x.way ≡ true) {q : ℕ} (is : q ≡ job_fault rows cols marks x.job) where
-    pub row_refused : (q ≡ 0 → ⊥) → q ≡ rows_refusal rows cols marks (x ∷ l)
-    row_refused h = first_refused (rows_refusal rows cols (set marks (mark_of x.job) 1) l) is h ∙ by_way lawful
+  module _ (lawful : lawful_way x.way ≡ true) where
+    pub row_refused : {q : ℕ} → q ≡ job_fault rows cols marks x.job → (q ≡ 0 → ⊥) → q ≡ rows_refusal rows cols marks (x ∷ l)
+    row_refused is h = first_refused (rows_refusal rows cols (set marks (mark_of x.job) 1) l) is h ∙ by_way lawful
 
-    pub row_accepted : q ≡ 0 → rows_refusal rows cols (set marks (mark_of x.job) 1) l ≡ rows_refusal rows cols marks (x ∷ l)
-    row_accepted z = next_decides is z refl ∙ by_way lawful
+    pub row_accepted : job_fault rows cols marks x.job ≡ 0
+        → rows_refusal rows cols (set marks (mark_of x.job) 1) l ≡ rows_refusal rows cols marks (x ∷ l)
+    row_accepted fine = next_decides (sym fine) refl refl ∙ by_way lawful
 
   -- The parts of a row that is not refused.
   module _ (ok : rows_refusal rows cols marks (x ∷ l) ≡ 0) where
@@ -131,27 +132,6 @@ columns_short first second way equal {c} {n} {m} asked size =
 -- ---- the call
 
 module _ (customer : ℕ) (g : Grid) (a b : Columns) (r : Results) (l : Batch) where
-  module _ {q : ℕ} (is : q ≡ campaign_refusal customer g a b r) where
-    pub refuses_campaign : (q ≡ 0 → ⊥) → q ≡ batch_refusal customer g a b r l
-    unfolding batch_refusal
-    refuses_campaign h = first_refused _ is h
-
-    module _ (z : q ≡ 0) where
-      pub unequal_first : (length l.first ≡ length l.way → ⊥) → 8 ≡ batch_refusal customer g a b r l
-      unfolding batch_refusal equal_columns or_else
-      unequal_first h = next_decides is z (simp (ne_eqb _ _ h))
-
-      module _ (first : length l.first ≡ length l.way) where
-        pub unequal_second : (length l.second ≡ length l.way → ⊥) → 8 ≡ batch_refusal customer g a b r l
-        unfolding batch_refusal equal_columns or_else
-        unequal_second h = next_decides is z (simp (eq-eqb _ _ first, ne_eqb _ _ h))
-
-        pub rows_decide : length l.second ≡ length l.way → {c : Campaign} → c ≡ campaign_as customer g → {n : ℕ}
-            → n ≡ rows_refusal g.first_strips g.second_strips c.marks (rows_of l)
-            → n ≡ batch_refusal customer g a b r l
-        unfolding batch_refusal equal_columns or_else
-        rows_decide second e h = next_decides is z (simp (eq-eqb _ _ first, eq-eqb _ _ second) (rw e at h))
-
   -- What a call that is not refused is.
   module _ (ok : batch_refusal customer g a b r l ≡ 0) where
     pub batch_sound : SoundCampaign (campaign_as customer g) a b r

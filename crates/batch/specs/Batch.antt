@@ -3,7 +3,7 @@ use Rattle.std.specs.Prelude.{Bool, not, cond, ◌&&◌, ℕ, ◌+◌, ◌-◌, 
 use mathlib.Core.List.{List, [], ◌∷◌, zip_with}
 use Rattle.site.specs.Site.{Site}
 use Rattle.column.specs.Lent.{Lent, Held, the, ◌of◌}
-use Rattle.site.specs.Answer.{Answer, refused, answered, answer_unless, refuse_if, or_else}
+use Rattle.site.specs.Answer.{Answer, answer_unless, refuse_if, or_else}
 use Rattle.site.specs.SiteList.{Columns, sites}
 use Rattle.entry.specs.Results.{Results}
 use Rattle.sweep.specs.declared.Way.TheVariants.{Classic, ReverseRun}
@@ -13,8 +13,6 @@ use Rattle.join.specs.Join.{Counts, counts, no_counts, counts_of}
 use Rattle.customers.specs.declared.Grid.{Grid}
 use Rattle.customers.specs.Customers.{campaign_as}
 use Rattle.batch.specs.declared.BatchDone.{BatchDone}
-use Rattle.batch.specs.declared.BatchOutcome.{BatchOutcome}
-use Rattle.batch.specs.declared.BatchOutcome.TheVariants as outcome
 use Rattle.campaign.specs.Grid.{Job, job_of, mark_of}
 use Rattle.campaign.specs.Soundness.{campaign_refusal}
 use Rattle.campaign.specs.Calls.{job_fault, JobValues, accepted_job}
@@ -107,10 +105,6 @@ unfoldable pub batch_answer : ℕ → Grid → Columns → Columns → Results �
 batch_answer customer g a b r l =
     answer_unless (batch_refusal customer g a b r l) (accepted_rows customer (sites a) (sites b) (no_job g r) (rows_of l))
 
--- The paper's number and values for each case of the answer.
-unfoldable pub batch_done_answer : BatchDone → Results → Answer BatchValues
-batch_done_answer d r = case d.outcome
-  where
-    case : BatchOutcome → Answer BatchValues
-    case (outcome.Done sums) = answered (batch_values d.grid r sums.skipped (counts_of sums.counters))
-    case (outcome.Refused number) = refused number
+-- The values that the struct of the code stands for, with the result columns at exit.
+abbrev pub batch_done_values : Results → BatchDone → BatchValues
+batch_done_values r d = batch_values d.grid r d.sums.skipped (counts_of d.sums.counters)

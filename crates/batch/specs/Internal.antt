@@ -1,17 +1,14 @@
--- Terms that only this crate's functions cite: what the work on several jobs asks, and what it tells.
+-- Terms that only this crate's functions cite: what the work on several jobs asks, and what one adds to the sums.
 use Rattle.std.specs.Prelude.{◌≡◌, true, List, ℕ, ◌+◌, ◌^◌, ◌<◌, length}
-use Rattle.site.specs.Answer.{answered}
 use Rattle.entry.specs.Results.{Results}
-use Rattle.join.specs.Join.{Counts, no_counts, counts_of}
+use Rattle.join.specs.Join.{counts_of}
 use Rattle.customers.specs.declared.Campaign.{Campaign}
-use Rattle.customers.specs.declared.Grid.{Grid}
 use Rattle.campaign.specs.declared.Outcome.{Outcome}
 use Rattle.campaign.specs.declared.Outcome.TheVariants as outcome
+use Rattle.campaign.specs.Calls.{counts_by}
 use Rattle.campaign.specs.Terms.{sound_plan, ReadyFor}
 use Rattle.batch.specs.declared.Sums.{Sums}
-use Rattle.batch.specs.declared.BatchDone.{BatchDone}
-use Rattle.batch.specs.declared.BatchOutcome.{BatchOutcome}
-use Rattle.batch.specs.Batch.{Row, rows_refusal, BatchValues, add_counts, batch_done_answer}
+use Rattle.batch.specs.Batch.{Row, rows_refusal, add_counts}
 
 -- The columns of several jobs are of one length.
 abbrev pub EqualColumns : List ℕ → List ℕ → List ℕ → Type 0
@@ -23,26 +20,10 @@ pub record RowsAsked (c : Campaign) (n m : ℕ) (r : Results) (l : List Row) : T
   pub ready : ReadyFor c r
   pub accepted : rows_refusal c.first_strips c.second_strips c.marks l ≡ 0
 
--- The grid and how several jobs ended.
-abbrev pub batch_done : Grid → BatchOutcome → BatchDone
-batch_done g outcome = record { grid = g; outcome = outcome }
-
--- Several jobs were done.
-pub record RowsWorked (v : BatchValues) (after : Results) (d : BatchDone) : Type 0 where
-  pub answer : batch_done_answer d after ≡ answered v
-  pub grid : d.grid ≡ v.grid
-  pub columns : after ≡ v.results
-
--- What a job adds to the number skipped, and to the counts.
+-- What a job adds to the number skipped.
 unfoldable pub skipped_by : Outcome → ℕ
 skipped_by (outcome.Swept counters) = 0
 skipped_by outcome.Skipped = 1
-skipped_by (outcome.Refused number) = 0
-
-unfoldable pub counts_by : Outcome → Counts
-counts_by (outcome.Swept counters) = counts_of counters
-counts_by outcome.Skipped = no_counts
-counts_by (outcome.Refused number) = no_counts
 
 -- Sums with one job more.
 pub record SumsWith (s : Sums) (o : Outcome) (r : Sums) : Type 0 where

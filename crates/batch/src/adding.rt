@@ -1,7 +1,8 @@
 // The sums of what jobs counted, each counter alone.
 ghost use Rattle.std.specs.Prelude.{◌≡◌};
 ghost use Rattle.join.specs.Join.{counts, no_counts, counts_of};
-ghost use Rattle.batch.specs.Internal.{skipped_by, counts_by, SumsWith, SumsFit};
+ghost use Rattle.campaign.specs.Calls.{counts_by};
+ghost use Rattle.batch.specs.Internal.{skipped_by, SumsWith, SumsFit};
 
 use super::Sums;
 use campaign::Outcome;
@@ -31,24 +32,24 @@ pub(super) fn no_sums() -> Sums
 }
 
 // What a job counted; nothing where it was skipped.
+#[tactic(auto, unfolding(campaign::specs::Calls::counts_by))]
 fn counted(outcome: Outcome) -> Counters
     ensures { counts_of result ≡ counts_by outcome }
 {
     match outcome {
         Outcome::Swept(c) => c,
         Outcome::Skipped => counters(0, 0, 0),
-        Outcome::Refused(_) => counters(0, 0, 0),
     }
 }
 
 // 1 for a job that was skipped.
+#[tactic(auto, unfolding(crate::specs::Internal::skipped_by))]
 fn skipped(outcome: Outcome) -> u32
     ensures { result ≡ skipped_by outcome }
 {
     match outcome {
-        Outcome::Swept(_) => 0,
         Outcome::Skipped => 1,
-        Outcome::Refused(_) => 0,
+        Outcome::Swept(_) => 0,
     }
 }
 

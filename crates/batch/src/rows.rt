@@ -1,28 +1,21 @@
-// The jobs of a call, one under another: their refusal, and the work on them.
+// The jobs of a call, one under another: whether they are refused, and the work on them.
 ghost use Rattle.std.specs.Prelude.{◌≡◌, ◌≤◌, ◌<◌, length, set};
-ghost use Rattle.site.specs.SiteList.{lent_list};
-ghost use Rattle.site.specs.Terms.{NumberedLent};
+ghost use Rattle.site.specs.SiteList.{list_of};
+ghost use Rattle.site.specs.Answer.{refusal_of};
+ghost use Rattle.sweep.specs.Terms.{NumberedLists};
 ghost use Rattle.entry.specs.Results.{results, lent_results};
 ghost use Rattle.customers.specs.Customers.{campaign_as};
 ghost use Rattle.campaign.specs.Grid.{job_of, mark_of};
-ghost use Rattle.campaign.specs.Terms.{BothCoordinates};
-ghost use Rattle.batch.specs.Batch.{batch_of, lent_batch, rows_of, rows_refusal, batch_refusal, no_job, accepted_rows};
-ghost use Rattle.batch.specs.Internal.{EqualColumns, RowsAsked, batch_done, RowsWorked};
+ghost use Rattle.campaign.specs.Terms.{BothLists};
+ghost use Rattle.batch.specs.Batch.{batch_of, lent_batch, rows_of, rows_refusal, batch_refusal, no_job, accepted_rows, batch_done_values};
+ghost use Rattle.batch.specs.Internal.{EqualColumns, RowsAsked};
 
-use super::{BatchDone, BatchOutcome, adding, ways};
+use super::{BatchDone, adding, ways};
 use customers::Grid;
+use site::{Refusal, SiteColumns};
 
-// A customer's own marks with a job settled.
-fn with_settled(marks: [u8; 1024], s: u32, t: u32) -> [u8; 1024]
-    requires { (s < 32) × (t < 32) }
-    ensures { result ≡ set marks (mark_of (job_of s t)) 1 }
-{
-    let mut settled = marks;
-    settled[32 * s as usize + t as usize] = 1;
-    settled
-}
-
-// The refusal of the first job at fault; 0 for none. A job further up counts as settled.
+// Whether the first job at fault is refused: for 8, then 9. A job further up counts as settled.
+#[tactic(auto, unfolding(site::specs::Answer::refusal_of, site::specs::Answer::number, site::specs::Answer::or_else, crate::specs::Batch::rows_refusal))]
 fn first_fault(
     rows: u32,
     cols: u32,
@@ -30,97 +23,63 @@ fn first_fault(
     job_first: &[u32],
     job_second: &[u32],
     job_way: &[u32],
-) -> u32
+) -> Result<(), Refusal>
     requires rows_bound { (rows ≤ 32) × (cols ≤ 32) }
     requires equal_columns { EqualColumns job_first.now job_second.now job_way.now }
-    ensures { result ≡ rows_refusal rows cols marks (rows_of (lent_batch job_first job_second job_way).entry) }
+    ensures { refusal_of result ≡ rows_refusal rows cols marks (rows_of (lent_batch job_first job_second job_way).entry) }
 {
     let mut settled = marks;
-    let mut i = 0;
-    while i < job_way.len() {
+    for i in 0..job_way.len() {
         let s = job_first[i];
         let t = job_second[i];
         if !ways::is_way(job_way[i]) {
-            return 8;
+            return Err(Refusal::Place);
         }
-        let fault = campaign::jobs::fault(rows, cols, &settled, s, t);
-        if fault != 0 {
-            return fault;
-        }
-        settled = with_settled(settled, s, t);
-        i += 1;
+        campaign::jobs::fault(rows, cols, &settled, s, t)?;
+        settled[32 * s as usize + t as usize] = 1;
     }
-    0
+    Ok(())
 }
 
-// The refusal of several jobs; 0 for none.
+// Whether several jobs are refused: for 15, 1, 2, 3, 7, 8 or 9.
+#[tactic(auto, unfolding(site::specs::Answer::refusal_of, site::specs::Answer::number, site::specs::Answer::or_else, crate::specs::Batch::batch_refusal, crate::specs::Batch::equal_columns))]
 pub(super) fn refusal(
     customer: u32,
     g: Grid,
-    ax: &[i32],
-    ay: &[i32],
-    an: &[u32],
-    ah: &[i32],
-    bx: &[i32],
-    by: &[i32],
-    bn: &[u32],
-    bh: &[i32],
+    a: SiteColumns<'_>,
+    b: SiteColumns<'_>,
     distance: &[u64],
     first: &[u32],
     second: &[u32],
     job_first: &[u32],
     job_second: &[u32],
     job_way: &[u32],
-) -> u32
-    ensures { let a = (lent_list ax ay an ah).entry in
-        let b = (lent_list bx by bn bh).entry in
-        let l = results distance.now first.now second.now in
-        result ≡ batch_refusal customer g a b l (lent_batch job_first job_second job_way).entry }
+) -> Result<(), Refusal>
+    ensures { let l = results distance.now first.now second.now in
+        let jobs = (lent_batch job_first job_second job_way).entry in
+        refusal_of result ≡ batch_refusal customer g (list_of a.entry) (list_of b.entry) l jobs }
 {
-    let refused = campaign::soundness::refusal(
-        customer, g, ax, ay, an, ah, bx, by, bn, bh, distance, first, second,
-    );
-    if refused != 0 {
-        return refused;
-    }
-    if job_first.len() != job_way.len() {
-        return 8;
-    }
-    if job_second.len() != job_way.len() {
-        return 8;
+    campaign::soundness::refusal(customer, g, a, b, distance, first, second)?;
+    if job_first.len() != job_way.len() || job_second.len() != job_way.len() {
+        return Err(Refusal::Place);
     }
     let c = customers::campaign_as(customer, g);
-    let marks = c.marks;
     first_fault(
         g.first_strips,
         g.second_strips,
-        marks,
+        c.marks,
         job_first,
         job_second,
         job_way,
     )
 }
 
-// Several jobs that are refused: the grid as it was.
-pub(super) fn refused(g: Grid, number: u32) -> BatchDone
-    ensures { result ≡ batch_done g (BatchOutcome.Refused number) }
-{
-    BatchDone {
-        grid: g,
-        outcome: BatchOutcome::Refused(number),
-    }
-}
-
 // Does several jobs that are not refused, one after another.
 pub(super) fn work(
     customer: u32,
     g: Grid,
-    ax: &[i32],
-    ay: &[i32],
-    ah: &[i32],
-    bx: &[i32],
-    by: &[i32],
-    bh: &[i32],
+    a: SiteColumns<'_>,
+    b: SiteColumns<'_>,
     distance: &mut [u64],
     first: &mut [u32],
     second: &mut [u32],
@@ -128,32 +87,25 @@ pub(super) fn work(
     job_second: &[u32],
     job_way: &[u32],
 ) -> BatchDone
-    requires both_coordinates { BothCoordinates ax ay ah bx by bh }
+    requires both_lists { BothLists a b }
     requires equal_columns { EqualColumns job_first.now job_second.now job_way.now }
-    requires rows_asked { RowsAsked (campaign_as customer g) (length ax.now) (length bx.now)
+    requires rows_asked { RowsAsked (campaign_as customer g) (length a.x.now) (length b.x.now)
         (results distance.old first.old second.old)
         (rows_of (batch_of job_first.now job_second.now job_way.now)) }
-    ensures { let l = lent_results distance first second in let rows = rows_of (lent_batch job_first job_second job_way).entry in
-        NumberedLent ax ay ah bx by bh (λ a b.
-        RowsWorked (accepted_rows customer a b (no_job g l.entry) rows) l.exit result) }
+    ensures { let l = lent_results distance first second in
+        let rows = rows_of (lent_batch job_first job_second job_way).entry in
+        NumberedLists a.entry b.entry (λ p q.
+        batch_done_values l.exit result ≡ accepted_rows customer p q (no_job g l.entry) rows) }
 {
     let mut grid = g;
-    let mut total = adding::no_sums();
-    let mut i = 0;
-    while i < job_way.len() {
+    let mut sums = adding::no_sums();
+    for i in 0..job_way.len() {
         let s = job_first[i];
         let t = job_second[i];
         let way = ways::way_of(job_way[i]);
-        let job = campaign::jobs::work(
-            customer, grid, ax, ay, ah, bx, by, bh, distance, first, second, s, t, way,
-        );
-        let outcome = job.outcome;
+        let job = campaign::jobs::work(customer, grid, a, b, distance, first, second, s, t, way);
         grid = job.grid;
-        total = adding::sums_with(total, outcome);
-        i += 1;
+        sums = adding::sums_with(sums, job.outcome);
     }
-    BatchDone {
-        grid,
-        outcome: BatchOutcome::Done(total),
-    }
+    BatchDone { grid, sums }
 }

@@ -6,6 +6,7 @@ use join::Join;
 use sweep::Way;
 
 // Whether a number is a way's.
+#[tactic(auto, unfolding(crate::specs::Batch::lawful_way))]
 pub(super) fn is_way(way: u32) -> bool
     ensures { result ≡ lawful_way way }
 {
@@ -13,14 +14,13 @@ pub(super) fn is_way(way: u32) -> bool
 }
 
 // The way of a number.
+#[tactic(auto, unfolding(crate::specs::Batch::way_of))]
 pub(super) fn way_of(way: u32) -> Join
     ensures { result ≡ way_of way }
 {
-    if way == 1 {
-        return Join::Sweep(Way::ReverseRun);
+    match way {
+        1 => Join::Sweep(Way::ReverseRun),
+        2 => Join::Halves,
+        _ => Join::Sweep(Way::Classic),
     }
-    if way == 2 {
-        return Join::Halves;
-    }
-    Join::Sweep(Way::Classic)
 }

@@ -3,43 +3,26 @@
 
 ghost use Rattle.std.specs.Prelude.{◌≡◌, true, [], ◌∷◌, ◌+◌, ◌<◌};
 ghost use Rattle.std.specs.Int.Signed.{lt_z};
-ghost use Rattle.order.specs.Order.{after, first_of};
 ghost use Rattle.order.specs.Lists.{all};
 ghost use Rattle.order.specs.Terms.{Sorted};
 ghost use Rattle.site.specs.Site.{within};
 ghost use Rattle.boxes.specs.Box.{edges, box_around, range_gap, squared_box_gap};
 ghost use Rattle.boxes.specs.Internal.{gap_along};
 
-// The lesser of two coordinates.
-fn lesser(a: i32, b: i32) -> i32
-    ensures { result ≡ first_of lt_z a b }
-{
-    if b < a { b } else { a }
-}
-
-// The greater of two coordinates.
-fn greater(a: i32, b: i32) -> i32
-    ensures { result ≡ first_of (after lt_z) a b }
-{
-    if a < b { b } else { a }
-}
-
 // The least and the greatest of a column.
 fn edges(column: &[i32]) -> [i32; 2]
     ensures { result ≡ edges column.now }
 {
-    if column.len() == 0 {
+    let [first, rest @ ..] = column else {
         return [0, 0];
+    };
+    let mut least = *first;
+    let mut greatest = *first;
+    for &c in rest {
+        least = least.min(c);
+        greatest = greatest.max(c);
     }
-    let first = column[0];
-    let mut found = [first, first];
-    let mut i = 1;
-    while i < column.len() {
-        let c = column[i];
-        found = [lesser(found[0], c), greater(found[1], c)];
-        i += 1;
-    }
-    found
+    [least, greatest]
 }
 
 // The same of a column that ascends: its ends.
@@ -47,11 +30,10 @@ fn sorted_edges(column: &[i32]) -> [i32; 2]
     requires { Sorted lt_z column.now }
     ensures { result ≡ edges column.now }
 {
-    if column.len() == 0 {
-        return [0, 0];
+    match (column.first(), column.last()) {
+        (Some(&least), Some(&greatest)) => [least, greatest],
+        _ => [0, 0],
     }
-    let last = column.len() - 1;
-    [column[0], column[last]]
 }
 
 // The box around the sites of three coordinate columns that ascend by x. (02 a: box; 02 l.)
@@ -59,12 +41,10 @@ pub fn box_around(x: &[i32], y: &[i32], height: &[i32]) -> [i32; 6]
     requires { Sorted lt_z x.now }
     ensures { result ≡ box_around (x.now ∷ y.now ∷ height.now ∷ []) }
 {
-    let along_x = sorted_edges(x);
-    let along_y = edges(y);
-    let upward = edges(height);
-    [
-        along_x[0], along_x[1], along_y[0], along_y[1], upward[0], upward[1],
-    ]
+    let [x_from, x_to] = sorted_edges(x);
+    let [y_from, y_to] = edges(y);
+    let [height_from, height_to] = edges(height);
+    [x_from, x_to, y_from, y_to, height_from, height_to]
 }
 
 // The difference of two ranges, 0 where they touch or overlap. Neither side is jumped to: which one has a gap is hard to foretell.

@@ -2,7 +2,7 @@
 use mathlib.Core.Path.{◌≡◌, refl, sym, ap, ◌∙◌}
 use mathlib.Core.Bool.{Bool, true, false, ◌&&◌}
 use mathlib.Core.List.{List, [], ◌∷◌}
-use Prim.Native.Nat.{ℕ, suc, ◌+◌, ◌≤◌, ◌<◌}
+use Prim.Native.Nat.{ℕ, suc, ◌+◌, ◌-◌, ◌≤◌, ◌<◌}
 use native.Mathlib.Numerals.{add-one}
 use native.Mathlib.Omega.{arith}
 use lib.ListN.{length, get_or, drop, drop_of_length-le, length-drop}
@@ -30,22 +30,26 @@ module _ {A : Type 0} (test : A → Bool) (l : List A) (i : ℕ) (left : all tes
   unfolding all
   all_end h = sym (sym left ∙ ap (all test) (drop_of_length-le l h))
 
-module _ {A : Type 0} (before : A → A → Bool) (l : List A) (i : ℕ) (left : ascending before (drop i l) ≡ ascending before l) where
+module _ {A : Type 0} (before : A → A → Bool) (l : List A) (i : ℕ) (some : 0 < i)
+    (left : ascending before (drop (i - 1) l) ≡ ascending before l) where
   pair_cons : (a b : A) (m : List A) → ascending before (a ∷ (b ∷ m)) ≡ (before a b && ascending before (b ∷ m))
   unfolding ascending
   pair_cons a b m = refl
 
-  module _ (d : A) (inside : i + 1 < length l) {r : Bool} (is : r ≡ before (get_or l i d) (get_or l (i + 1) d)) where
-    order_here : ascending before l ≡ (r && ascending before (drop (i + 1) l))
+  module _ (d : A) (inside : i < length l) {r : Bool} (is : r ≡ before (get_or l (i - 1) d) (get_or l i d)) where
+    order_here : ascending before l ≡ (r && ascending before (drop i l))
     order_here =
-        let rest : drop (suc i) l ≡ get_or l (suc i) d ∷ drop (suc (suc i)) l = drop-cons l (suc i) d (omega arith) in
+        let on : suc (i - 1) ≡ i = omega arith in
+        let rest : drop i l ≡ get_or l i d ∷ drop (suc i) l = drop-cons l i d inside in
         sym left
-        ∙ ap (ascending before) (drop-cons l i d (omega arith) ∙ ap (λ (m : List A). get_or l i d ∷ m) rest)
-        ∙ pair_cons (get_or l i d) (get_or l (suc i) d) (drop (suc (suc i)) l)
-        ∙ rw (is, add-one i, rest)
+        ∙ ap (ascending before)
+        (drop-cons l (i - 1) d (omega arith)
+        ∙ ap (λ (m : List A). get_or l (i - 1) d ∷ m) (ap (λ (n : ℕ). drop n l) on ∙ rest))
+        ∙ pair_cons (get_or l (i - 1) d) (get_or l i d) (drop (suc i) l)
+        ∙ rw (is, rest)
 
-    pub order_more : r ≡ true → ascending before (drop (i + 1) l) ≡ ascending before l
-    order_more t = sym (order_here ∙ rw t)
+    pub order_more : r ≡ true → ascending before (drop (i + 1 - 1) l) ≡ ascending before l
+    order_more t = let back : i + 1 - 1 ≡ i = omega arith in rw back (sym (order_here ∙ rw t))
 
     pub order_falls : r ≡ false → false ≡ ascending before l
     order_falls t = sym (order_here ∙ rw t)
@@ -56,5 +60,5 @@ module _ {A : Type 0} (before : A → A → Bool) (l : List A) (i : ℕ) (left :
   short (a ∷ []) h = refl
   short (a ∷ (b ∷ m)) h = absurd (omega arith)
 
-  pub order_end : length l ≤ i + 1 → true ≡ ascending before l
-  order_end h = sym (sym left ∙ short (drop i l) (omega (arith, length-drop i l)))
+  pub order_end : length l ≤ i → true ≡ ascending before l
+  order_end h = sym (sym left ∙ short (drop (i - 1) l) (omega (arith, length-drop (i - 1) l)))

@@ -1,20 +1,21 @@
 -- Cut ends taken one at a time: the test of them, the strip that holds a place, and the slots.
-use mathlib.Core.Path.{◌≡◌, refl, sym, ap₂, ◌∙◌}
+use mathlib.Core.Path.{◌≡◌, refl, sym, ap, ◌∙◌}
 use mathlib.Core.Bool.{Bool, true, false, ◌&&◌}
-use mathlib.Core.List.{List, [], ◌∷◌, ◌++◌, append_assoc}
-use Prim.Native.Nat.{ℕ, suc, ◌+◌, ◌-◌, ◌≤◌, ◌<◌}
+use mathlib.Core.List.{List, [], ◌∷◌}
+use Prim.Native.Nat.{ℕ, suc, ◌+◌, ◌≤◌, ◌<◌}
 use native.Mathlib.Numerals.{add-one}
-use native.Mathlib.Omega.{arith}
 use lib.Dec.{leb, ltb, eqb}
-use lib.ListN.{length, get_or, take, drop, set, replicate, drop_of_length-le}
-use lib.Seq.{drop-cons, take-suc, set_at, length-take-le, append_snoc, take-length, get_or-take}
-use borrow.Author.Tests.{lt-ltb, le-ltb, le-leb, lt-leb, eq-eqb, ne_eqb}
+use lib.Pointwise.{pointwise}
+use lib.ListN.{length, get_or, take, drop, drop_of_length-le}
+use lib.Seq.{drop-cons}
+use borrow.Author.Tests.{lt-ltb, le-ltb, le-leb, lt-leb, eq-eqb}
+use Rattle.std.specs.List.{count_by, filter}
+use Rattle.std.proofs.lemmas.List.Sums.{length-filter}
 use Rattle.order.specs.Order.{ascending}
 use Rattle.order.specs.Lists.{keep, last as ending}
-use Rattle.order.proofs.Lists.{keep_yes, keep_no, keep_nil}
+use Rattle.order.proofs.Order.{by_test}
 use Rattle.campaign.specs.Grid.{lawful_ends, same_numbers, same_ends, strip_holding}
 use Rattle.campaign.specs.Calls.{slots}
-use Rattle.campaign.specs.Terms.{lawful_slots}
 
 -- ---- lawful ends
 
@@ -67,99 +68,28 @@ pub too_many : (n : ℕ) (ends : List ℕ) → 32 < length ends → false ≡ la
 unfolding lawful_ends
 too_many n ends h = simp (lt-leb (length ends) 32 h)
 
--- The ends in the slots in use.
-module _ (n : ℕ) (slots : List ℕ) (used : ℕ) where
-  pub slots_fail : 32 < used → false ≡ lawful_slots n used slots
-  unfolding lawful_slots
-  slots_fail h = simp (lt-leb used 32 h)
-
-  pub slots_decide : {r : Bool} → used ≤ 32 → r ≡ lawful_ends n (take used slots) → r ≡ lawful_slots n used slots
-  unfolding lawful_slots
-  slots_decide h e = e ∙ simp (le-leb used 32 h)
-
 -- ---- the ends of a grid
 
--- From place `i` on the slots tell what all in use tell.
-module _ (used : ℕ) (slots ends : List ℕ) where
-  -- What is left to compare tells what all tells.
-  abbrev pub Alike : ℕ → Type 0
-  Alike i = same_numbers (drop i (take used slots)) (drop i ends) ≡ same_numbers (take used slots) ends
+same_pointwise : (l m : List ℕ) → pointwise eqb l m ≡ same_numbers l m
+unfolding same_numbers
+same_pointwise [] [] = refl
+same_pointwise [] (y ∷ m) = refl
+same_pointwise (x ∷ l) [] = refl
+same_pointwise (x ∷ l) (y ∷ m) = ap (◌&&◌ (eqb x y)) (same_pointwise l m)
 
-  pub other_count : (used ≡ length ends → ⊥) → false ≡ same_ends used slots ends
-  unfolding same_ends
-  other_count h = simp (ne_eqb used (length ends) h)
-
-  module _ (count : used ≡ length ends) (few : length ends ≤ length slots) where
-    same_all : same_ends used slots ends ≡ same_numbers (take used slots) ends
-    unfolding same_ends
-    same_all = simp (eq-eqb used (length ends) count)
-
-    module _ (i : ℕ) (w : Alike i) where
-      module _ (inside : i < length ends) where
-        here : same_numbers (take used slots) ends
-            ≡ (eqb (get_or slots i 0) (get_or ends i 0) && same_numbers (drop (i + 1) (take used slots)) (drop (i + 1) ends))
-        unfolding same_numbers
-        here =
-            let long : length (take used slots) ≡ used = length-take-le used slots (omega arith) in
-            sym w
-            ∙ ap₂ same_numbers (drop-cons (take used slots) i 0 (omega arith)) (drop-cons ends i 0 inside)
-            ∙ rw (get_or-take used slots i 0 (omega arith), add-one i)
-
-        pub same_more : get_or slots i 0 ≡ get_or ends i 0 → Alike (i + 1)
-        same_more e = sym (here ∙ simp (eq-eqb (get_or slots i 0) (get_or ends i 0) e))
-
-        pub same_fails : (get_or slots i 0 ≡ get_or ends i 0 → ⊥) → false ≡ same_ends used slots ends
-        same_fails e = sym (same_all ∙ here ∙ simp (ne_eqb (get_or slots i 0) (get_or ends i 0) e))
-
-      pub same_ends_lem : length ends ≤ i → true ≡ same_ends used slots ends
-      unfolding same_numbers
-      same_ends_lem h =
-          let long : length (take used slots) ≤ i = omega (arith, length-take-le used slots (omega arith)) in
-          sym (same_all ∙ sym w ∙ ap₂ same_numbers (drop_of_length-le (take used slots) long) (drop_of_length-le ends h))
+-- As many slots are in use as there are ends: these slots decide.
+pub slots_same : (used : ℕ) (slots ends : List ℕ) → used ≡ length ends → {r : Bool}
+    → r ≡ pointwise eqb (take (length ends) slots) ends → r ≡ same_ends used slots ends
+unfolding same_ends
+slots_same used slots ends count is = is ∙ rw (count, eq-eqb (length ends) (length ends) refl) (same_pointwise (take (length ends) slots) ends)
 
 -- ---- the strip that holds a place
 
-abbrev at_most : ℕ → ℕ → Bool
-at_most place e = leb e place
+kept_count : (test : ℕ → Bool) (l : List ℕ) → length (filter test l) ≡ length (keep test l)
+unfolding keep
+kept_count test [] = refl
+kept_count test (a ∷ l) = by_test (test a) (λ t. rw t (ap suc (kept_count test l))) (λ f. rw f (kept_count test l))
 
-pub held_none : (ends : List ℕ) (place : ℕ) → 0 + length (keep (λ e. leb e place) (drop 0 ends)) ≡ strip_holding ends place
+pub held : (ends : List ℕ) (place : ℕ) → count_by (λ e. leb e place) ends ≡ strip_holding ends place
 unfolding strip_holding
-held_none ends place = omega arith
-
-module _ (ends : List ℕ) (place before i : ℕ) (inside : i < length ends) where
-  rest_of : drop i ends ≡ get_or ends i 0 ∷ drop (suc i) ends
-  rest_of = drop-cons ends i 0 inside
-
-  module _ (h : before + length (keep (λ e. leb e place) (drop i ends)) ≡ strip_holding ends place) where
-    pub held_one : get_or ends i 0 ≤ place → before + 1 + length (keep (λ e. leb e place) (drop (i + 1) ends)) ≡ strip_holding ends place
-    held_one t =
-        let k : length (keep (at_most place) (drop i ends)) ≡ suc (length (keep (at_most place) (drop (suc i) ends))) =
-        rw (rest_of, keep_yes (at_most place) (get_or ends i 0) (drop (suc i) ends) (le-leb (get_or ends i 0) place t)) refl in
-        rw (add-one i) (omega arith)
-
-    pub held_other : place < get_or ends i 0 → before + length (keep (λ e. leb e place) (drop (i + 1) ends)) ≡ strip_holding ends place
-    held_other t =
-        let k : length (keep (at_most place) (drop i ends)) ≡ length (keep (at_most place) (drop (suc i) ends)) =
-        rw (rest_of, keep_no (at_most place) (get_or ends i 0) (drop (suc i) ends) (lt-leb (get_or ends i 0) place t)) refl in
-        rw (add-one i) (omega arith)
-
-pub held_all : (ends : List ℕ) (place before i : ℕ) → length ends ≤ i
-    → before + length (keep (λ e. leb e place) (drop i ends)) ≡ strip_holding ends place → before ≡ strip_holding ends place
-held_all ends place before i h e =
-    let none : drop i ends ≡ [] = drop_of_length-le ends h in
-    let k : length (keep (at_most place) (drop i ends)) ≡ 0 = rw (none, keep_nil (at_most place)) refl in
-    omega arith
-
--- ---- slots
-
-pub slots_more : (ends kept : List ℕ) (i : ℕ) → i < length ends → length ends ≤ 32 → kept ≡ take i ends ++ replicate (32 - i) 0
-    → set kept i (get_or ends i 0) ≡ take (i + 1) ends ++ replicate (32 - (i + 1)) 0
-slots_more ends kept i h s e =
-    let one_less : 32 - i ≡ suc (32 - suc i) = omega arith in
-    let front : length (take i ends) ≡ i = length-take-le i ends (omega arith) in
-    rw (e, one_less, add-one i, set_at (take i ends) 0 (replicate (32 - suc i) 0) (get_or ends i 0) i front, take-suc ends i 0 h)
-    (sym (append_snoc (take i ends) (get_or ends i 0) (replicate (32 - suc i) 0)) ∙ simp append_assoc)
-
-pub slots_all : (ends kept : List ℕ) (i : ℕ) → i ≡ length ends → kept ≡ take i ends ++ replicate (32 - i) 0 → kept ≡ slots ends
-unfolding slots
-slots_all ends kept i h e = e ∙ rw (h, take-length ends)
+held ends place = sym (length-filter (λ e. leb e place) ends) ∙ kept_count (λ e. leb e place) ends

@@ -13,13 +13,15 @@ use borrow.Author.Tests.{eq-eqb, ne_eqb}
 use Rattle.order.specs.Terms.{Sorted}
 use Rattle.order.proofs.Best.{length_best}
 use Rattle.order.proofs.Sorted.{best_sorted, sorted_best}
+use Rattle.std.specs.Prelude.{Result, Ok}
+use Rattle.site.specs.declared.refusals.Refusal.{Refusal}
 use Rattle.site.specs.Site.{Site}
-use Rattle.site.specs.Answer.{answered, afterwards}
+use Rattle.site.specs.Answer.{afterwards, answer_of}
 use Rattle.site.specs.SiteList.{Columns, raised, sites}
 use Rattle.site.specs.Terms.{Level}
 use Rattle.site.proofs.SiteList.{sites_x}
 use Rattle.site.proofs.PositionOrder.{coordinates_sorted}
-use Rattle.site.proofs.Answer.{answer_values, answer_refused, after_refused, after_answered}
+use Rattle.site.proofs.Answer.{result_ok, after_answered}
 use Rattle.entry.specs.declared.Entry.{Entry}
 use Rattle.entry.specs.Entry.{rank_before, best_k}
 use Rattle.entry.specs.Results.{Results, entries_of, holding, room_for}
@@ -47,8 +49,8 @@ use Rattle.campaign.specs.declared.JobDone.{JobDone}
 use Rattle.campaign.specs.declared.Strip.{Strip}
 use Rattle.campaign.specs.Grid.{strip_at, Job, job_of, job_pairs}
 use Rattle.campaign.specs.Soundness.{first_ends, second_ends}
-use Rattle.campaign.specs.Calls.{job_refusal, skips, job_entries, after_job, JobValues, job_values, accepted_job, job_answer, job_done_answer}
-use Rattle.campaign.specs.Terms.{LawfulColumns, JobAsked, ReadyFor, Worked}
+use Rattle.campaign.specs.Calls.{job_refusal, skips, job_entries, after_job, JobValues, job_values, accepted_job, job_answer, swept_by, counts_by, job_done_values}
+use Rattle.campaign.specs.Terms.{LawfulColumns, JobAsked, ReadyFor}
 use Rattle.campaign.specs.Internal.{strip_from, strip_to, StripOf, job_done}
 use Rattle.campaign.proofs.SoundPlan.{strips_are, first_strip_lem, second_strip_lem}
 use Rattle.campaign.proofs.CustomerLaws.{job_own}
@@ -135,8 +137,8 @@ module _ (way : Join) (customer : ℕ) (g : Grid) (a b : List Site) (r : Results
   -- `d` is the campaign as it was made.
   pub job_skipped : {d : Campaign} → d ≡ c → skips d a b (entries_of d.entries r) j ≡ true
       → {g' : Grid} → g' ≡ after_job customer g c.entries j
-      → Worked (accepted_job way customer g a b r j) r (job_done g' outcome.Skipped)
-  unfolding job_done_answer accepted_job
+      → job_done_values r (job_done g' outcome.Skipped) ≡ accepted_job way customer g a b r j
+  unfolding job_done_values swept_by counts_by accepted_job
   job_skipped is w {g'} e =
       let h : skips c a b entries j ≡ true = rw is at w in
       let same : left ≡ entries = skipped_entries h in
@@ -144,7 +146,7 @@ module _ (way : Join) (customer : ℕ) (g : Grid) (a b : List Site) (r : Results
       let after : g' ≡ after_job customer g (length left) j = e ∙ ap (λ (n : ℕ). after_job customer g n j) (sym count) in
       let columns : r ≡ holding left r =
       sym (holding_self c.k c.entries r ready.room ready.most) ∙ ap (λ (l : List Entry). holding l r) (sym same) in
-      record { answer = rw h (ap₂ (λ (d : Grid) (l : Results). answered (job_values d l 0 no_counts)) after columns); grid = after; columns = columns }
+      rw h (ap₂ (λ (d : Grid) (l : Results). job_values d l 0 no_counts) after columns)
 
   -- A join of strips in the order of x leaves the best of the entries and all pairs.
   module _ (sorted : Sorted lt_z (map (λ s. s.x) a)) (sorted' : Sorted lt_z (map (λ s. s.x) b)) where
@@ -158,15 +160,15 @@ module _ (way : Join) (customer : ℕ) (g : Grid) (a b : List Site) (r : Results
         → JoinedTo (join way d.k (strip_at (first_ends d) a j.first) (strip_at (second_ends d) b j.second)
         (entries_of d.entries r)) r r' joined
         → {g' : Grid} → g' ≡ after_job customer g joined.entries j
-        → Worked (accepted_job way customer g a b r j) r' (job_done g' (outcome.Swept joined.counters))
-    unfolding job_done_answer accepted_job
+        → job_done_values r' (job_done g' (outcome.Swept joined.counters)) ≡ accepted_job way customer g a b r j
+    unfolding job_done_values swept_by counts_by accepted_job
     job_swept is k {r'} {joined} v {g'} e =
         let h : skips c a b entries j ≡ false = rw is at k in
         let w : JoinedTo (join way c.k first_strip second_strip entries) r r' joined = rw is at v in
         let count : joined.entries ≡ length left = w.entries ∙ ap (λ (l : List Entry). length l) swept_entries in
         let after : g' ≡ after_job customer g (length left) j = e ∙ ap (λ (n : ℕ). after_job customer g n j) count in
         let columns : r' ≡ holding left r = w.columns ∙ ap (λ (l : List Entry). holding l r) swept_entries in
-        record { answer = rw (h, after, columns, w.counts) refl; grid = after; columns = columns }
+        rw (h, after, columns, w.counts) refl
 
   most_left : length left ≤ c.k
   unfolding job_entries best_k
@@ -187,23 +189,29 @@ module _ (way : Join) (customer : ℕ) (g : Grid) (a b : List Site) (r : Results
         sorted = rw (entries_holding left r) (sorted_best rank_order c.k _);
       })
 
--- A job as its answer, its grid and the result columns tell it.
+-- The grid and the result columns of a job that was done.
+pub done_grid : {v : JobValues} (r : Results) (d : JobDone) → job_done_values r d ≡ v → d.grid ≡ v.grid
+unfolding job_done_values
+done_grid r d w = ap (λ (v : JobValues). v.grid) w
+
+pub done_results : {v : JobValues} (r : Results) (d : JobDone) → job_done_values r d ≡ v → r ≡ v.results
+unfolding job_done_values
+done_results r d w = ap (λ (v : JobValues). v.results) w
+
+-- A job as its answer and the result columns tell it.
 module _ (way : Join) (customer : ℕ) (g : Grid) (a b : Columns) (r : Results) (j : Job) where
-  abbrev pub Done-as : JobDone → Results → Type 0
+  abbrev pub Done-as : Result JobDone Refusal → Results → Type 0
   Done-as d r' =
       let answer = job_answer way customer g a b r j in
-      (job_done_answer d r' ≡ answer)
-      × ((d.grid ≡ afterwards (λ (v : JobValues). v.grid) answer g)
-      × (r' ≡ afterwards (λ (v : JobValues). v.results) answer r))
+      (answer_of (job_done_values r') d ≡ answer) × (r' ≡ afterwards (λ (v : JobValues). v.results) answer r)
 
-  pub job_refused : {q : ℕ} → q ≡ job_refusal customer g a b r j → (q ≡ 0 → ⊥) → Done-as (job_done g (outcome.Refused q)) r
-  unfolding job_done_answer job_answer
-  job_refused is h = (answer_refused _ is h, (after_refused _ _ g is h, after_refused _ _ r is h))
-
-  pub job_worked : job_refusal customer g a b r j ≡ 0 → {r' : Results} {d : JobDone}
-      → Worked (accepted_job way customer g (sites a) (sites b) r j) r' d → Done-as d r'
+  pub job_worked : job_refusal customer g a b r j ≡ 0 → (r' : Results) (d : JobDone)
+      → job_done_values r' d ≡ accepted_job way customer g (sites a) (sites b) r j → Done-as (Ok d) r'
   unfolding job_answer
-  job_worked ok w = (w.answer ∙ answer_values ok, (w.grid ∙ after_answered _ _ g ok, w.columns ∙ after_answered _ _ r ok))
+  job_worked ok r' d w = (
+    result_ok (job_done_values r') d ok w,
+    done_results r' d w ∙ after_answered (λ (v : JobValues). v.results) _ r ok,
+  )
 
 -- ---- how much a job counts
 
@@ -236,7 +244,7 @@ job_few_counts way customer g a b r j asked few few' long =
     skipped_few (skips c a b old j) (join way c.k first second old).counts
     (join_few way c.k first second old p.0 q.0 p.1 q.1)
 
-pub job_long : (way : Join) (customer : ℕ) (g : Grid) (a b : List Site) (r : Results) (j : Job) {r' : Results} {d : JobDone}
-    → Worked (accepted_job way customer g a b r j) r' d → LongSlots g → LongSlots d.grid
+pub job_long : (way : Join) (customer : ℕ) (g : Grid) (a b : List Site) (r : Results) (j : Job) (r' : Results) (d : JobDone)
+    → job_done_values r' d ≡ accepted_job way customer g a b r j → LongSlots g → LongSlots d.grid
 unfolding accepted_job after_job with_campaign
-job_long way customer g a b r j w h = rw w.grid h
+job_long way customer g a b r j r' d w h = rw (done_grid r' d w) h

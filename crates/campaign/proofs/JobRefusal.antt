@@ -1,18 +1,16 @@
--- The tests of a job, one after another, and what a job that is not refused is.
+-- What a job that is not refused is.
 use mathlib.Core.Path.{◌≡◌, refl}
-use mathlib.Core.Bool.{Bool, false, not, cond, ◌&&◌}
+use mathlib.Core.Bool.{false, not, ◌&&◌}
 use mathlib.Core.List.{List}
-use Prim.Native.Nat.{ℕ, ◌≤◌, ◌<◌}
+use Prim.Native.Nat.{ℕ}
 use lib.Dec.{ltb}
 use lib.IntN.{ℤ}
 use lib.ListN.{length}
-use borrow.Author.Tests.{lt-ltb, le-ltb}
-use Rattle.site.specs.Answer.{refuse_if, or_else}
+use Rattle.site.specs.Answer.{refuse_if}
 use Rattle.site.specs.SiteList.{Columns, raised}
 use Rattle.site.specs.Terms.{Level}
-use Rattle.site.proofs.Answer.{first_refused, next_decides, or_else_first, or_else_second, no_fault, fault_none}
+use Rattle.site.proofs.Answer.{or_else_first, or_else_second, no_fault, fault_none}
 use Rattle.entry.specs.Results.{Results}
-use Rattle.customers.specs.declared.Campaign.{Campaign}
 use Rattle.customers.specs.declared.Grid.{Grid}
 use Rattle.customers.specs.Customers.{campaign_as}
 use Rattle.campaign.specs.Grid.{Job, job_of, settled}
@@ -36,33 +34,7 @@ no_job_fault rows cols marks j h =
       no_fault (settled marks j) 8 (or_else_second outside again h),
     )
 
--- The tests in their order.
-module _ (rows cols : ℕ) (marks : List ℕ) (s t : ℕ) where
-  pub past_rows : rows ≤ s → 8 ≡ job_fault rows cols marks (job_of s t)
-  unfolding job_fault or_else
-  past_rows h = simp (le-ltb s rows h)
-
-  module _ (row : s < rows) where
-    pub past_cols : cols ≤ t → 8 ≡ job_fault rows cols marks (job_of s t)
-    unfolding job_fault or_else
-    past_cols h = simp (lt-ltb s rows row, le-ltb t cols h)
-
-    pub mark_decides : t < cols → {m : Bool} → settled marks (job_of s t) ≡ m → cond m 9 0 ≡ job_fault rows cols marks (job_of s t)
-    unfolding job_fault or_else
-    mark_decides col h = simp (lt-ltb s rows row, lt-ltb t cols col, h)
-
 module _ (customer : ℕ) (g : Grid) (a b : Columns) (r : Results) (s t : ℕ) where
-  module _ {q : ℕ} (is : q ≡ campaign_refusal customer g a b r) where
-    pub refuses_campaign : (q ≡ 0 → ⊥) → q ≡ job_refusal customer g a b r (job_of s t)
-    unfolding job_refusal
-    refuses_campaign h = first_refused _ is h
-
-    pub fault_decides : q ≡ 0 → {c : Campaign} → c ≡ campaign_as customer g → {n : ℕ}
-        → n ≡ job_fault g.first_strips g.second_strips c.marks (job_of s t)
-        → n ≡ job_refusal customer g a b r (job_of s t)
-    unfolding job_refusal
-    fault_decides z e h = next_decides is z (rw e at h)
-
   -- What an accepted job is.
   module _ (ok : job_refusal customer g a b r (job_of s t) ≡ 0) where
     pub job_campaign : campaign_refusal customer g a b r ≡ 0

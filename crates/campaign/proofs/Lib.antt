@@ -15,9 +15,6 @@ pub mod EntryCount
 pub mod Sound
 pub mod SoundCampaign
 pub mod PrepareAnswer
-pub mod OpenAnswer
-pub mod LowerAnswer
-pub mod StatusAnswer
 pub mod JobRefusal
 pub mod JobSound
 pub mod JobAnswer

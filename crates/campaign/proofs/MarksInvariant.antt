@@ -2,12 +2,11 @@
 use mathlib.Core.Path.{◌≡◌, refl, sym, ap, ◌∙◌}
 use mathlib.Core.Bool.{Bool, true, false, ◌&&◌}
 use mathlib.Core.List.{List, [], ◌∷◌}
-use Prim.Native.Nat.{ℕ, suc, ◌+◌, ◌*◌, ◌≤◌, ◌<◌}
+use Prim.Native.Nat.{ℕ, suc, ◌+◌, ◌≤◌, ◌<◌}
 use native.Mathlib.Numerals.{add-one}
-use lib.Dec.{eqb}
-use lib.ListN.{length, get_or, drop, drop_of_length-le, get_or-eq_default}
+use lib.ListN.{length, get_or, drop, drop_of_length-le}
 use lib.Seq.{drop-cons}
-use Rattle.campaign.specs.Grid.{job_of, mark_of, settled, lawful_mark, lawful_marks}
+use Rattle.campaign.specs.Grid.{lawful_mark, lawful_marks}
 
 marks_cons : (rows cols i m : ℕ) (l : List ℕ) → lawful_marks rows cols i (m ∷ l) ≡ (lawful_mark rows cols i m && lawful_marks rows cols (suc i) l)
 unfolding lawful_marks
@@ -34,12 +33,3 @@ module _ (rows cols : ℕ) (marks : List ℕ) (i : ℕ) (left : lawful_marks row
 
   pub marks_end : length marks ≤ i → true ≡ lawful_marks rows cols 0 marks
   marks_end h = sym (sym left ∙ ap (λ (l : List ℕ). lawful_marks rows cols i l) (drop_of_length-le marks h) ∙ marks_nil rows cols i)
-
--- Past the marks no job is settled.
-pub settled_past : (marks : List ℕ) (a b : ℕ) → length marks ≤ 32 * a + b → false ≡ settled marks (job_of a b)
-unfolding settled mark_of
-settled_past marks a b h = rw (get_or-eq_default marks 0 h)
-
-pub settled_at_lem : (marks : List ℕ) (a b : ℕ) → eqb (get_or marks (32 * a + b) 0) 1 ≡ settled marks (job_of a b)
-unfolding settled mark_of
-settled_at_lem marks a b = refl

@@ -16,7 +16,7 @@ use Rattle.site.specs.Refusal.{list_refusal, lists_refusal}
 use Rattle.site.proofs.Accepted.{both_accepted, accepted_level, accepted_coordinates, accepted_heights}
 use Rattle.site.proofs.SiteList.{sites_length}
 use Rattle.site.proofs.Tests.{and_first, and_second}
-use Rattle.site.specs.Answer.{refuse_if, or_else}
+use Rattle.site.specs.Answer.{refuse_if}
 use Rattle.site.proofs.Answer.{or_else_first, or_else_second, fault_none}
 use Rattle.entry.specs.declared.Entry.{Entry}
 use Rattle.entry.specs.Entry.{rank_before, lawful_k}
@@ -124,14 +124,6 @@ accepted_columns xs ys ns hs ok =
 
 -- Who calls, and with which lists.
 module _ (customer : ℕ) (a b : Columns) where
-  pub stranger_refused : is_customer customer ≡ false → 15 ≡ caller_refusal customer a b
-  unfolding caller_refusal customer_refusal or_else
-  stranger_refused h = simp h
-
-  pub lists_decide : is_customer customer ≡ true → {q : ℕ} → q ≡ lists_refusal a b → q ≡ caller_refusal customer a b
-  unfolding caller_refusal customer_refusal or_else
-  lists_decide h e = e ∙ simp h
-
   -- A caller who is not refused: a customer, with lists that have no fault.
   pub accepted_caller : caller_refusal customer a b ≡ 0 → (is_customer customer ≡ true) × (lists_refusal a b ≡ 0)
   unfolding caller_refusal customer_refusal
@@ -143,10 +135,10 @@ module _ (customer : ℕ) (a b : Columns) where
   caller_lists ok = both_accepted a b (accepted_caller ok).1
 
 -- Lists of a caller who was not refused: their columns, and what holds of them whatever their sites' numbers.
-module _ (customer : ℕ) (ax ay : List ℤ) (an : List ℕ) (ah bx by : List ℤ) (bn : List ℕ) (bh : List ℤ) {q : ℕ}
-    (is : q ≡ caller_refusal customer (raised ax ay an ah) (raised bx by bn bh)) (z : q ≡ 0) where
+module _ (customer : ℕ) (ax ay : List ℤ) (an : List ℕ) (ah bx by : List ℤ) (bn : List ℕ) (bh : List ℤ)
+    (ok : caller_refusal customer (raised ax ay an ah) (raised bx by bn bh) ≡ 0) where
   lists : (list_refusal (raised ax ay an ah) ≡ 0) × (list_refusal (raised bx by bn bh) ≡ 0)
-  lists = caller_lists customer (raised ax ay an ah) (raised bx by bn bh) (sym is ∙ z)
+  lists = caller_lists customer (raised ax ay an ah) (raised bx by bn bh) ok
 
   pub caller_columns : LawfulColumns ax ay ah × LawfulColumns bx by bh
   caller_columns = (accepted_columns ax ay an ah lists.0, accepted_columns bx by bn bh lists.1)
@@ -157,10 +149,6 @@ module _ (customer : ℕ) (ax ay : List ℤ) (an : List ℕ) (ah bx by : List �
 
 -- The keeper's faults.
 module _ (customer : ℕ) (g : Grid) (a b : List Site) (r : Results) where
-  pub marks_refused : lawful_grid g ≡ false → 7 ≡ keeper_refusal customer g a b r
-  unfolding keeper_refusal
-  marks_refused h = simp h
-
   pub sound_decides : lawful_grid g ≡ true → {c : Campaign} → c ≡ campaign_as customer g → {t : Bool} → sound c a b r ≡ t
       → cond (not t) 7 0 ≡ keeper_refusal customer g a b r
   unfolding keeper_refusal

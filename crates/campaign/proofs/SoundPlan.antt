@@ -1,6 +1,6 @@
--- The tests of a campaign's plan, one after another: K and the ends; and a job's strips.
-use mathlib.Core.Path.{◌≡◌, refl, sym, ap₂, ◌∙◌}
-use mathlib.Core.Bool.{Bool, true, false, ◌&&◌}
+-- What a campaign's plan with no fault is, K and the ends; and a job's strips.
+use mathlib.Core.Path.{◌≡◌, refl, sym, ap₂}
+use mathlib.Core.Bool.{true, ◌&&◌}
 use mathlib.Core.List.{List}
 use Prim.Native.Nat.{ℕ, ◌≤◌, ◌<◌}
 use native.Mathlib.Omega.{arith}
@@ -23,23 +23,6 @@ use Rattle.campaign.specs.Soundness.{first_ends, second_ends}
 use Rattle.campaign.specs.Terms.{LawfulColumns, lawful_slots, JobAsked, sound_plan}
 use Rattle.campaign.specs.Internal.{strip_from, strip_to, StripOf}
 use Rattle.campaign.proofs.LawfulEnds.{lawful_cut, strip_inside}
-
--- ---- the tests in their order
-
-module _ (c : Campaign) (n m : ℕ) where
-  pub unlawful_k : lawful_k c.k ≡ false → false ≡ sound_plan c n m
-  unfolding sound_plan
-  unlawful_k h = simp h
-
-  module _ (k : lawful_k c.k ≡ true) where
-    pub unlawful_first : lawful_slots n c.first_strips c.first_ends ≡ false → false ≡ sound_plan c n m
-    unfolding sound_plan
-    unlawful_first h = simp (k, h)
-
-    module _ (first : lawful_slots n c.first_strips c.first_ends ≡ true) where
-      pub second_decides : {r : Bool} → r ≡ lawful_slots m c.second_strips c.second_ends → r ≡ sound_plan c n m
-      unfolding sound_plan
-      second_decides h = h ∙ simp (k, first)
 
 -- ---- what a plan with no fault is
 

@@ -1,7 +1,7 @@
 -- What preparing, opening, a smaller K, a job and status answer, and what the grid and the result columns then hold.
-use Rattle.std.specs.Prelude.{Bool, not, cond, ◌&&◌, List, [], ◌++◌, ℕ, ◌*◌, ◌-◌, ltb, length, replicate}
+use Rattle.std.specs.Prelude.{Bool, not, cond, ◌&&◌, List, ◌++◌, ℕ, ◌*◌, ◌-◌, ltb, length, replicate}
 use Rattle.site.specs.Site.{Site}
-use Rattle.site.specs.Answer.{Answer, refused, answered, answer_unless, refuse_if, or_else}
+use Rattle.site.specs.Answer.{Answer, answer_unless, refuse_if, or_else}
 use Rattle.site.specs.SiteList.{Columns, sites}
 use Rattle.site.specs.Refusal.{lists_refusal}
 use Rattle.entry.specs.declared.Entry.{Entry}
@@ -14,12 +14,10 @@ use Rattle.join.specs.Join.{Counts, no_counts, counts_of, join}
 use Rattle.customers.specs.declared.Campaign.{Campaign}
 use Rattle.customers.specs.declared.Grid.{Grid}
 use Rattle.customers.specs.Customers.{campaign_as, grid_of, with_campaign, cleared, lowered}
-use Rattle.campaign.specs.declared.Answered.{Answered}
 use Rattle.campaign.specs.declared.Outcome.{Outcome}
 use Rattle.campaign.specs.declared.Outcome.TheVariants as outcome
 use Rattle.campaign.specs.declared.JobDone.{JobDone}
 use Rattle.campaign.specs.declared.Status.{Status}
-use Rattle.campaign.specs.declared.Status.TheVariants as status
 use Rattle.campaign.specs.Grid.{lawful_ends, same_ends, strip_at, Job, settled, settled_jobs, job_pairs, settle}
 use Rattle.campaign.specs.Soundness.{first_ends, second_ends, lawful_grid, caller_refusal, keeper_refusal, campaign_refusal}
 
@@ -38,10 +36,6 @@ slots ends = ends ++ replicate (32 - length ends) 0
 -- It "fixes the ends, sets all marks, both K and both entry counts to 0"; "1,024 marks, one for each job, all 0".
 unfoldable pub prepared : List ℕ → List ℕ → Grid
 prepared ends ends' = grid_of (length ends) (length ends') (slots ends) (slots ends') (replicate 1024 0) 0 0 0 0
-
--- The grid field of a refused preparing: all 0.
-unfoldable pub no_grid : Grid
-no_grid = prepared [] []
 
 -- "and answers the grid", or the refusal.
 unfoldable pub prepare_answer : Columns → Columns → List ℕ → List ℕ → Answer Grid
@@ -147,18 +141,18 @@ status_answer customer g a b r =
     answer_unless (campaign_refusal customer g a b r)
     (status_values (length (settled_jobs c)) (c.first_strips * c.second_strips) c.entries c.k)
 
--- The paper's number and values for each case of each answer.
-unfoldable pub answered_grid : Answered → Answer Grid
-answered_grid a = answer_unless a.refusal a.grid
+-- Whether a job was swept, and what it counted, by how it ended.
+unfoldable pub swept_by : Outcome → ℕ
+swept_by (outcome.Swept counters) = 1
+swept_by outcome.Skipped = 0
 
-unfoldable pub job_done_answer : JobDone → Results → Answer JobValues
-job_done_answer d r = case d.outcome
-  where
-    case : Outcome → Answer JobValues
-    case (outcome.Swept counters) = answered (job_values d.grid r 1 (counts_of counters))
-    case outcome.Skipped = answered (job_values d.grid r 0 no_counts)
-    case (outcome.Refused number) = refused number
+unfoldable pub counts_by : Outcome → Counts
+counts_by (outcome.Swept counters) = counts_of counters
+counts_by outcome.Skipped = no_counts
 
-unfoldable pub status_of : Status → Answer StatusValues
-status_of (status.Counts settled jobs entries k) = answered (status_values settled jobs entries k)
-status_of (status.Refused number) = refused number
+-- The values that the structs of the code stand for; a job's with the result columns at exit.
+unfoldable pub job_done_values : Results → JobDone → JobValues
+job_done_values r d = job_values d.grid r (swept_by d.outcome) (counts_by d.outcome)
+
+abbrev pub status_of : Status → StatusValues
+status_of s = status_values s.settled s.jobs s.entries s.k

@@ -14,14 +14,12 @@ pub(super) fn lawful(n: usize, ends: &[u32]) -> bool
     if 32 < ends.len() {
         return false;
     }
-    let mut last: u32 = 0;
-    let mut i = 0;
-    while i < ends.len() {
-        if ends[i] <= last {
+    let mut last = 0;
+    for &end in ends {
+        if end <= last {
             return false;
         }
-        last = ends[i];
-        i += 1;
+        last = end;
     }
     last as usize == n
 }
@@ -30,54 +28,31 @@ pub(super) fn lawful(n: usize, ends: &[u32]) -> bool
 pub(super) fn lawful_cuts(n: usize, m: usize, first_ends: &[u32], second_ends: &[u32]) -> bool
     ensures { result ≡ (lawful_ends n first_ends.now && lawful_ends m second_ends.now) }
 {
-    if !lawful(n, first_ends) {
-        return false;
-    }
-    lawful(m, second_ends)
+    lawful(n, first_ends) && lawful(m, second_ends)
 }
 
 // Whether cut ends are those in the slots in use.
+#[tactic(auto, unfolding(crate::specs::Grid::same_ends))]
 pub(super) fn same(used: u32, slots: [u32; 32], ends: &[u32]) -> bool
     requires { length ends.now ≤ 32 }
     ensures { result ≡ same_ends used slots ends.now }
 {
-    if used as usize != ends.len() {
-        return false;
-    }
-    let mut i = 0;
-    while i < ends.len() {
-        if slots[i] != ends[i] {
-            return false;
-        }
-        i += 1;
-    }
-    true
+    used as usize == ends.len() && &slots[..ends.len()] == ends
 }
 
 // Whether at most 32 slots are in use, and the ends in them are lawful.
+#[tactic(auto, unfolding(crate::specs::Terms::lawful_slots))]
 pub(super) fn lawful_slots(n: usize, slots: [u32; 32], used: u32) -> bool
     ensures { result ≡ lawful_slots n used slots }
 {
-    let count = used as usize;
-    if 32 < count {
-        return false;
-    }
-    lawful(n, &slots[..count])
+    used <= 32 && lawful(n, &slots[..used as usize])
 }
 
 // The strip that holds a place: how many ends are at most the place.
 pub(super) fn holding(ends: &[u32], place: u32) -> usize
     ensures { result ≡ strip_holding ends.now place }
 {
-    let mut before = 0;
-    let mut i = 0;
-    while i < ends.len() {
-        if ends[i] <= place {
-            before += 1;
-        }
-        i += 1;
-    }
-    before
+    ends.iter().filter(|end| **end <= place).count()
 }
 
 // The ends in the 32 slots of a campaign.
@@ -86,11 +61,7 @@ pub(super) fn in_slots(ends: &[u32]) -> [u32; 32]
     ensures { result ≡ slots ends.now }
 {
     let mut kept = [0; 32];
-    let mut i = 0;
-    while i < ends.len() {
-        kept[i] = ends[i];
-        i += 1;
-    }
+    kept[..ends.len()].copy_from_slice(ends);
     kept
 }
 
@@ -103,6 +74,7 @@ fn from(ends: &[u32], s: usize) -> u32
 }
 
 // Where a strip ends.
+#[tactic(auto, unfolding(crate::specs::Internal::strip_to))]
 fn to(ends: &[u32], s: usize) -> u32
     requires { s < length ends.now }
     ensures { result ≡ strip_to ends.now s }
@@ -115,11 +87,9 @@ pub(super) fn strip(slots: [u32; 32], used: u32, s: u32) -> Strip
     requires { (used ≤ 32) × (s < used) }
     ensures { StripOf (take used slots) s result }
 {
-    let n = used as usize;
-    let from = from(&slots[..n], s as usize);
-    let to = to(&slots[..n], s as usize);
+    let ends = &slots[..used as usize];
     Strip {
-        from: from as usize,
-        to: to as usize,
+        from: from(ends, s as usize) as usize,
+        to: to(ends, s as usize) as usize,
     }
 }

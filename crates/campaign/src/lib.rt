@@ -21,19 +21,11 @@ struct Strip {
     to: usize,
 }
 
-// What preparing, opening and a smaller K answer: the refusal's number, 0 for none, and the grid.
-#[derive(Clone, Copy)]
-pub struct Answered {
-    pub refusal: u32,
-    pub grid: Grid,
-}
-
 // How a job ended.
 #[derive(Clone, Copy)]
 pub enum Outcome {
     Swept(Counters),
     Skipped,
-    Refused(u32),
 }
 
 // What a job answers: the grid, and how the job ended.
@@ -43,14 +35,11 @@ pub struct JobDone {
     pub outcome: Outcome,
 }
 
-// What status answers, or the refusal's number.
+// How far a campaign is: jobs settled, jobs in all, entries and K.
 #[derive(Clone, Copy)]
-pub enum Status {
-    Counts {
-        settled: u32,
-        jobs: u32,
-        entries: u32,
-        k: u32,
-    },
-    Refused(u32),
+pub struct Status {
+    pub settled: u32,
+    pub jobs: u32,
+    pub entries: u32,
+    pub k: u32,
 }

@@ -1,41 +1,33 @@
 // Lowering the K of a customer's campaign. (02 j)
 ghost use Rattle.std.specs.Prelude.{◌≡◌};
-ghost use Rattle.site.specs.SiteList.{lent_list};
+ghost use Rattle.site.specs.SiteList.{list_of};
+ghost use Rattle.site.specs.Answer.{refusal_of};
 ghost use Rattle.entry.specs.Results.{results};
 ghost use Rattle.campaign.specs.Calls.{lower_refusal};
 
 use super::soundness;
 use customers::Grid;
+use site::{Refusal, SiteColumns};
 
-// The refusal of a smaller K; 0 for none.
+// Whether a smaller K is refused: for 15, 1, 2, 3, 4 or 7.
+#[tactic(auto, unfolding(site::specs::Answer::refusal_of, site::specs::Answer::number, site::specs::Answer::or_else, crate::specs::Calls::lower_refusal))]
 pub(super) fn refusal(
     customer: u32,
     g: Grid,
-    ax: &[i32],
-    ay: &[i32],
-    an: &[u32],
-    ah: &[i32],
-    bx: &[i32],
-    by: &[i32],
-    bn: &[u32],
-    bh: &[i32],
+    a: SiteColumns<'_>,
+    b: SiteColumns<'_>,
     k: u32,
     distance: &[u64],
     first: &[u32],
     second: &[u32],
-) -> u32
-    ensures { let a = (lent_list ax ay an ah).entry in
-        let b = (lent_list bx by bn bh).entry in
-        let l = results distance.now first.now second.now in
-        result ≡ lower_refusal customer g a b k l }
+) -> Result<(), Refusal>
+    ensures { let l = results distance.now first.now second.now in
+        refusal_of result ≡ lower_refusal customer g (list_of a.entry) (list_of b.entry) k l }
 {
-    let refused = soundness::caller_refusal(customer, ax, ay, an, ah, bx, by, bn, bh);
-    if refused != 0 {
-        return refused;
-    }
+    soundness::caller_refusal(customer, a, b)?;
     let c = customers::campaign_as(customer, g);
     if !entry::k_up_to(c.k, k) {
-        return 4;
+        return Err(Refusal::K);
     }
-    soundness::keeper_refusal(customer, g, ax, ay, ah, bx, by, bh, distance, first, second)
+    soundness::keeper_refusal(customer, g, a, b, distance, first, second)
 }

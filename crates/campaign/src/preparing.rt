@@ -1,36 +1,28 @@
 // Preparing a grid.
 ghost use Rattle.std.specs.Prelude.{◌≡◌, ◌≤◌, length};
-ghost use Rattle.site.specs.SiteList.{lent_list};
-ghost use Rattle.campaign.specs.Calls.{prepare_refusal, prepared, no_grid};
+ghost use Rattle.site.specs.SiteList.{list_of};
+ghost use Rattle.site.specs.Answer.{refusal_of};
+ghost use Rattle.campaign.specs.Calls.{prepare_refusal, prepared};
 
 use super::ends;
 use customers::Grid;
+use site::{Refusal, SiteColumns};
 
-// The refusal of a preparing; 0 for none.
+// Whether a preparing is refused: for 1, 2, 3 or 5.
+#[tactic(auto, unfolding(site::specs::Answer::refusal_of, site::specs::Answer::number, site::specs::Answer::or_else, crate::specs::Calls::prepare_refusal, crate::specs::Calls::lawful_cuts))]
 pub(super) fn refusal(
-    ax: &[i32],
-    ay: &[i32],
-    an: &[u32],
-    ah: &[i32],
-    bx: &[i32],
-    by: &[i32],
-    bn: &[u32],
-    bh: &[i32],
+    a: SiteColumns<'_>,
+    b: SiteColumns<'_>,
     first_ends: &[u32],
     second_ends: &[u32],
-) -> u32
-    ensures { let a = (lent_list ax ay an ah).entry in
-        let b = (lent_list bx by bn bh).entry in
-        result ≡ prepare_refusal a b first_ends.now second_ends.now }
+) -> Result<(), Refusal>
+    ensures { refusal_of result ≡ prepare_refusal (list_of a.entry) (list_of b.entry) first_ends.now second_ends.now }
 {
-    let refused = site::lists_refusal(ax, ay, an, ah, bx, by, bn, bh);
-    if refused != 0 {
-        return refused;
-    }
-    if ends::lawful_cuts(ax.len(), bx.len(), first_ends, second_ends) {
-        0
+    site::lists_refusal(a, b)?;
+    if ends::lawful_cuts(a.x.len(), b.x.len(), first_ends, second_ends) {
+        Ok(())
     } else {
-        5
+        Err(Refusal::Ends)
     }
 }
 
@@ -50,13 +42,4 @@ pub(super) fn prepared(first_ends: &[u32], second_ends: &[u32]) -> Grid
         k2: 0,
         entries2: 0,
     }
-}
-
-// What a refused preparing leaves in the place of a grid.
-pub(super) fn none() -> Grid
-    ensures { result ≡ no_grid }
-{
-    let first = [0; 1];
-    let second = [0; 1];
-    prepared(&first[..0], &second[..0])
 }

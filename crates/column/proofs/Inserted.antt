@@ -2,6 +2,7 @@
 use mathlib.Core.Path.{◌≡◌}
 use mathlib.Core.List.{List, ◌∷◌, ◌++◌}
 use Prim.Native.Nat.{ℕ, zero, suc, ◌+◌, ◌-◌, ◌≤◌, ◌<◌}
+use native.Mathlib.Numerals.{add-one}
 use native.Mathlib.Omega.{arith}
 use lib.ListN.{length, take, drop, get_or, set, length-take, length-drop}
 use lib.Seq.{take_all, take-take}
@@ -25,12 +26,12 @@ module _ {A : Type 0} (c : List A) (n : ℕ) where
       record { to = omega arith; moved = rw none (moved_none c (suc n) n room) }
 
   pub shifted_up_more : (d : A) (i : ℕ) (column : List A) {v : A} → 0 < i → v ≡ get_or column (i - 1) d → ShiftedUp c n i column
-      → ShiftedUp c n (i - 1) (set column i v)
+      → ShiftedUp c n (i - 1) (set column (i - 1 + 1) v)
   shifted_up_more d zero column h read r = absurd (omega arith)
   shifted_up_more d (suc i) column {v} h read r =
       let one : suc i - 1 ≡ i = omega arith in
       let more : n - i ≡ suc (n - suc i) = omega (arith, r.to) in
-      rw one (record {
+      rw (one, add-one) (record {
         to = omega (arith, r.to);
         moved = rw more (moved_up_lem c (suc i) i (n - suc i) column d (omega arith) r.moved (rw one at read));
       })

@@ -1,7 +1,7 @@
 -- Laws of a column out of which one element is taken, for any element.
 use mathlib.Core.Path.{◌≡◌}
 use mathlib.Core.List.{List, ◌++◌}
-use Prim.Native.Nat.{ℕ, ◌+◌, ◌-◌, ◌≤◌, ◌<◌}
+use Prim.Native.Nat.{ℕ, zero, suc, ◌+◌, ◌-◌, ◌≤◌, ◌<◌}
 use native.Mathlib.Nat.{zero-add}
 use native.Mathlib.Numerals.{add-one}
 use native.Mathlib.Omega.{arith}
@@ -24,20 +24,24 @@ module _ {A : Type 0} (c : List A) (n : ℕ) where
   pub shifted_down_none : ShiftedDown c n 0 c
   shifted_down_none = record { to = omega arith; moved = moved_none c 0 1 (omega arith) }
 
-  -- `v` is the element behind, as it was read.
-  pub shifted_down_more : (d : A) (i : ℕ) (column : List A) {v : A} → i + 1 < n → n ≤ length c → v ≡ get_or column (i + 1) d
-      → ShiftedDown c n i column → ShiftedDown c n (i + 1) (set column i v)
-  shifted_down_more d i column h inside read r =
-      let behind : i + 1 ≡ 1 + i = omega arith in
-      record {
+  -- `v` is the element at place `i`, as it was read.
+  pub shifted_down_more : (d : A) (i : ℕ) (column : List A) {v : A} → 1 ≤ i → i < n → n ≤ length c → v ≡ get_or column i d
+      → ShiftedDown c n (i - 1) column → ShiftedDown c n (i + 1 - 1) (set column (i - 1) v)
+  shifted_down_more d zero column first inside long read r = absurd (omega arith)
+  shifted_down_more d (suc i) column first inside long read r =
+      let one : suc i - 1 ≡ i = omega arith in
+      let next : suc i + 1 - 1 ≡ suc i = omega arith in
+      let behind : suc i ≡ 1 + i = omega arith in
+      let before = rw one at r.moved in
+      rw (next, one) (record {
         to = omega arith;
-        moved = rw add-one (rw zero-add at (moved_down c 0 1 i column d (omega arith) (omega arith) r.moved (rw behind at read)));
-      }
+        moved = rw zero-add at (moved_down c 0 1 i column d (omega arith) (omega arith) before (rw behind at read));
+      })
 
-  pub shifted_down_all : (i : ℕ) (column : List A) → n ≤ i + 1 → ShiftedDown c n i column → column ≡ removed 0 n c
+  pub shifted_down_all : (i : ℕ) (column : List A) → n ≤ i → ShiftedDown c n (i - 1) column → column ≡ removed 0 n c
   unfolding removed
   shifted_down_all i column h r =
-      let last : i ≡ n - 1 = omega (arith, r.to) in
+      let last : i - 1 ≡ n - 1 = omega (arith, r.to) in
       rw last at r.moved.holds
 
 -- ---- at any place

@@ -42,13 +42,11 @@ pub struct Campaign {
 }
 
 // Whether a number is a customer's.
+#[tactic(auto, unfolding(crate::specs::Customers::is_customer))]
 pub fn is_customer(customer: u32) -> bool
     ensures { result ≡ is_customer customer }
 {
-    if customer == 1 {
-        return true;
-    }
-    customer == 2
+    customer == 1 || customer == 2
 }
 
 // Of the first customer's number and the second's, a customer's own.
@@ -59,6 +57,7 @@ fn own(customer: u32, first: u32, second: u32) -> u32
 }
 
 // A customer's own of a mark.
+#[tactic(auto, unfolding(crate::specs::Customers::own_mark))]
 fn own_mark(customer: u32, mark: u8) -> u8
     ensures { result ≡ own_mark customer mark }
 {
@@ -66,6 +65,7 @@ fn own_mark(customer: u32, mark: u8) -> u8
 }
 
 // A mark with another of the customer's own; the other customer's stays.
+#[tactic(auto, unfolding(crate::specs::Customers::with_own))]
 fn with_own(customer: u32, mine: u8, mark: u8) -> u8
     requires { mine ≤ 1 }
     ensures { result ≡ with_own customer mine mark }
@@ -82,28 +82,26 @@ fn own_marks(customer: u32, marks: [u8; 1024]) -> [u8; 1024]
     ensures { result ≡ map (own_mark customer) marks }
 {
     let mut mine = marks;
-    let mut i = 0;
-    while i < 1024 {
-        mine[i] = own_mark(customer, marks[i]);
-        i += 1;
+    for mark in &mut mine {
+        *mark = own_mark(customer, *mark);
     }
     mine
 }
 
 // The marks with each of the customer's own at 0.
+#[tactic(auto, unfolding(crate::specs::Customers::cleared))]
 pub fn cleared(customer: u32, marks: [u8; 1024]) -> [u8; 1024]
     ensures { result ≡ cleared customer marks }
 {
     let mut left = marks;
-    let mut i = 0;
-    while i < 1024 {
-        left[i] = with_own(customer, 0, marks[i]);
-        i += 1;
+    for mark in &mut left {
+        *mark = with_own(customer, 0, *mark);
     }
     left
 }
 
 // The marks with the customer's own of mark `place` at 1.
+#[tactic(auto, unfolding(crate::specs::Customers::settled_at))]
 pub fn settled_at(customer: u32, marks: [u8; 1024], place: usize) -> [u8; 1024]
     ensures { result ≡ settled_at customer marks place }
 {
@@ -115,12 +113,16 @@ pub fn settled_at(customer: u32, marks: [u8; 1024], place: usize) -> [u8; 1024]
 }
 
 // A customer's campaign: the ends, and their own K, marks and entry count.
+#[tactic(auto, unfolding(crate::specs::Customers::campaign_as))]
 pub fn campaign_as(customer: u32, g: Grid) -> Campaign
     ensures { result ≡ campaign_as customer g }
 {
-    let marks = g.marks;
-    let first_ends = g.first_ends;
-    let second_ends = g.second_ends;
+    // Taken out by name: the check does not cover an array field put straight into another struct's literal.
+    let Grid {
+        first_ends,
+        second_ends,
+        ..
+    } = g;
     Campaign {
         k: own(customer, g.k1, g.k2),
         entries: own(customer, g.entries1, g.entries2),
@@ -128,41 +130,30 @@ pub fn campaign_as(customer: u32, g: Grid) -> Campaign
         second_strips: g.second_strips,
         first_ends,
         second_ends,
-        marks: own_marks(customer, marks),
+        marks: own_marks(customer, g.marks),
     }
 }
 
 // The grid with these marks and a customer's own K and entry count.
+#[tactic(auto, unfolding(crate::specs::Customers::with_campaign))]
 pub fn with_campaign(customer: u32, k: u32, entries: u32, marks: [u8; 1024], g: Grid) -> Grid
     ensures { result ≡ with_campaign customer k entries marks g }
 {
-    let first_ends = g.first_ends;
-    let second_ends = g.second_ends;
     Grid {
-        first_strips: g.first_strips,
-        second_strips: g.second_strips,
-        first_ends,
-        second_ends,
         marks,
         k1: own(customer, k, g.k1),
         entries1: own(customer, entries, g.entries1),
         k2: own(customer, g.k2, k),
         entries2: own(customer, g.entries2, entries),
+        ..g
     }
 }
 
-// As many entries as a smaller K leaves.
-fn cut(k: u32, entries: u32) -> u32
-    ensures { result ≡ min k entries }
-{
-    if k < entries { k } else { entries }
-}
-
 // The grid with a customer's K lowered, and as many of their entries as it leaves.
+#[tactic(auto, unfolding(crate::specs::Customers::lowered))]
 pub fn lowered(customer: u32, g: Grid, k: u32) -> Grid
     ensures { result ≡ lowered customer g k }
 {
     let c = campaign_as(customer, g);
-    let kept = g.marks;
-    with_campaign(customer, k, cut(k, c.entries), kept, g)
+    with_campaign(customer, k, k.min(c.entries), g.marks, g)
 }

@@ -17,7 +17,7 @@ use Rattle.site.specs.Refusal.{list_refusal}
 use Rattle.site.proofs.Answer.{answered_values, or_else_first, fault_none}
 use Rattle.site.proofs.Accepted.{accepted_lawful}
 use Rattle.site.proofs.Distance.{squared_over, squared_distance_is, squared_gap_within, squared_height_within}
-use Rattle.site.proofs.Refusal.{lawful_is}
+use Rattle.site.proofs.ListRefusal.{lawful_is}
 use Rattle.site.proofs.SiteList.{nowhere, sites_length, sites_at}
 use Rattle.site.proofs.Tests.{and_first, and_second}
 use Rattle.entry.specs.declared.Entry.{Entry}

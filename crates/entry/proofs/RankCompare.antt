@@ -96,10 +96,6 @@ module _ (a b : Entry) where
       (λ t. rw (t, rank_order.asym a b t) refl)
       (λ f. rw f (by_test (rank_before b a) (λ t. rw t refl) (λ g. rw g refl)))
 
-  -- What is told is the rank.
-  pub rank_told : {o told : Ordering} → o ≡ rank_compare a b → o ≡ told → told_before told ≡ rank_before a b
-  rank_told is told = ap told_before (sym told ∙ is) ∙ told_before_lem
-
   -- Each answer is given exactly where the rank has it, same of equal entries alone.
   pub before_iff : (rank_compare a b ≡ Before) ↔ (rank_before a b ≡ true)
   unfolding rank_compare

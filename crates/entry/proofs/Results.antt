@@ -1,13 +1,13 @@
 -- Laws of the three result columns and the entries that they hold.
 use mathlib.Core.Path.{◌≡◌, refl, sym, ap, ◌∙◌}
-use mathlib.Core.Bool.{true, false, ◌&&◌, and-eq-true_iff}
+use mathlib.Core.Bool.{true, ◌&&◌, and-eq-true_iff}
 use mathlib.Core.List.{List, [], ◌∷◌, ◌++◌, map, zip_with}
 use Prim.Native.Nat.{ℕ, zero, suc, ◌-◌, ◌≤◌, ◌<◌}
 use native.Mathlib.Omega.{arith}
 use lib.Dec.{leb}
 use lib.ListN.{length, take, drop, get_or, length-take, length-map}
 use lib.Seq.{take-append_seam, drop-append_seam, take-take, length-take-le, get_or-take}
-use borrow.Author.Tests.{leb-true, le-leb, lt-leb}
+use borrow.Author.Tests.{leb-true, le-leb}
 use Rattle.order.proofs.Lists.{drop_take, length_zip, zip_at, zip_take, zip_drop}
 use Rattle.column.specs.Column.{overwritten}
 use Rattle.column.proofs.Overwritten.{length_overwritten, overwritten_again, overwritten_self}
@@ -36,19 +36,6 @@ module _ (k : ℕ) (r : Results) where
   pub room_inside : room_for k r ≡ true → {i : ℕ} → i < k
       → (i < length r.distance) × (i < length r.first) × (i < length r.second)
   room_inside h i = let n = room_lengths h in omega arith
-
-  -- One column after the other.
-  pub no_room_distance : length r.distance < k → false ≡ room_for k r
-  unfolding room_for
-  no_room_distance h = simp (lt-leb k (length r.distance) h)
-
-  pub no_room_first : k ≤ length r.distance → length r.first < k → false ≡ room_for k r
-  unfolding room_for
-  no_room_first g h = simp (le-leb k (length r.distance) g, lt-leb k (length r.first) h)
-
-  pub room_second : k ≤ length r.distance → k ≤ length r.first → leb k (length r.second) ≡ room_for k r
-  unfolding room_for
-  room_second g h = simp (le-leb k (length r.distance) g, le-leb k (length r.first) h)
 
   pub lengths_room : k ≤ length r.distance → k ≤ length r.first → k ≤ length r.second → room_for k r ≡ true
   unfolding room_for

@@ -29,7 +29,8 @@ pub struct Queue {
     pub reach: u64,
 }
 
-// Where one entry stands to another by rank.
+// Where one entry stands to another by rank. It stands in place of std's `Ordering` since the laws of `rank_compare` speak of
+// it, and a C export.
 #[derive(Clone, Copy)]
 pub enum Ordering {
     Before,
@@ -39,6 +40,7 @@ pub enum Ordering {
 
 // Compares two entries without a jump. Each number is tested for less and for greater, 0 or 1; the distance weighs 4,
 // more than both places together, the first place 2 and the second 1, so that the first number that differs decides.
+// Tuples are compared number by number, with jumps.
 pub fn compare(a: Entry, b: Entry) -> Ordering
     ensures { result ≡ rank_compare a b }
 {
@@ -61,18 +63,14 @@ pub fn compare(a: Entry, b: Entry) -> Ordering
 pub fn before(a: Entry, b: Entry) -> bool
     ensures { result ≡ rank_before a b }
 {
-    match compare(a, b) {
-        Ordering::Before => true,
-        Ordering::Same => false,
-        Ordering::After => false,
-    }
+    matches!(compare(a, b), Ordering::Before)
 }
 
 // Whether K is a number from 1 to a greatest one.
 pub fn k_up_to(most: u32, k: u32) -> bool
     ensures { result ≡ k_up_to most k }
 {
-    1 <= k && k <= most
+    (1..=most).contains(&k)
 }
 
 // Whether K is 1 to 4,096.
@@ -86,13 +84,7 @@ pub fn lawful_k(k: u32) -> bool
 pub fn room(k: usize, distance: &[u64], first: &[u32], second: &[u32]) -> bool
     ensures { result ≡ room_for k (results distance.now first.now second.now) }
 {
-    if distance.len() < k {
-        return false;
-    }
-    if first.len() < k {
-        return false;
-    }
-    k <= second.len()
+    k <= distance.len() && k <= first.len() && k <= second.len()
 }
 
 // The entry at a place of the columns; numbers past a column's end are 0.
@@ -100,9 +92,9 @@ pub fn entry_at(distance: &[u64], first: &[u32], second: &[u32], i: usize) -> En
     ensures { result ≡ entry_at (results distance.now first.now second.now) i }
 {
     Entry {
-        distance: column::get_u64(distance, i),
-        first: column::get_u32(first, i),
-        second: column::get_u32(second, i),
+        distance: column::get(distance, i, 0),
+        first: column::get(first, i, 0),
+        second: column::get(second, i, 0),
     }
 }
 

@@ -10,10 +10,7 @@ use super::{Entry, Queue, before, entry_inside, heap};
 fn end(count: usize) -> usize
     ensures { result ≡ count - 1 }
 {
-    if count == 0 {
-        return 0;
-    }
-    count - 1
+    count.saturating_sub(1)
 }
 
 // The greatest squared distance at which a pair can still enter a list of at most `k`.
@@ -21,9 +18,9 @@ fn reach(distance: &[u64], count: usize, k: usize) -> u64
     ensures { result ≡ cond (eqb count k) (get_or distance.now (count - 1) 0) (2 ^ 64 - 1) }
 {
     if count != k {
-        return 0xffff_ffff_ffff_ffff;
+        return u64::MAX;
     }
-    column::get_u64(distance, end(count))
+    column::get(distance, end(count), 0)
 }
 
 // The queue of entries that stand in rank order.
@@ -47,7 +44,7 @@ fn replace(distance: &mut [u64], first: &mut [u32], second: &mut [u32], k: usize
     Queue {
         count: k,
         last: 0,
-        reach: column::get_u64(distance, 0),
+        reach: column::get(distance, 0, 0),
     }
 }
 
@@ -70,14 +67,14 @@ fn push(
         return Queue {
             count: count + 1,
             last: 0,
-            reach: 0xffff_ffff_ffff_ffff,
+            reach: u64::MAX,
         };
     }
     heap::build(distance, first, second, k);
     Queue {
         count: k,
         last: 0,
-        reach: column::get_u64(distance, 0),
+        reach: column::get(distance, 0, 0),
     }
 }
 
@@ -97,11 +94,10 @@ pub fn offer(
     if old.count < k {
         return push(distance, first, second, k, old.count, e);
     }
-    let last = old.last;
-    if !before(e, entry_inside(distance, first, second, last)) {
+    if !before(e, entry_inside(distance, first, second, old.last)) {
         return old;
     }
-    if last == 0 {
+    if old.last == 0 {
         return replace(distance, first, second, k, e);
     }
     heap::build(distance, first, second, k);

@@ -1,34 +1,20 @@
 -- The halves of a range, by its places.
-use mathlib.Core.Path.{◌≡◌, refl, sym, ap, ◌∙◌}
-use mathlib.Core.Bool.{Bool, true, false}
+use mathlib.Core.Path.{◌≡◌, sym, ap, ◌∙◌}
+use mathlib.Core.Bool.{true, false}
 use mathlib.Core.List.{List, ◌++◌}
-use Prim.Native.Nat.{ℕ, ◌+◌, ◌-◌, ◌/◌, ◌≤◌, ◌<◌, ◌^◌}
+use Prim.Native.Nat.{ℕ, ◌+◌, ◌-◌, ◌/◌, ◌≤◌, ◌<◌}
 use native.Mathlib.Omega.{arith}
 use lib.Dec.{ltb}
 use lib.IntN.{ℤ}
 use lib.ListN.{length, take, drop}
 use lib.Seq.{take-append_seam, drop-append_seam}
 use borrow.Author.Tests.{lt-ltb, le-ltb}
-use Rattle.boxes.specs.Box.{box_of}
-use Rattle.sweep.specs.Strip.{Placed, sites_of}
+use Rattle.sweep.specs.Strip.{Placed}
 use Rattle.sweep.proofs.SiteRuns.{rightward_join, length_rightward}
 use Rattle.halves.specs.declared.Range.{Range}
 use Rattle.halves.specs.declared.Half.{Half}
 use Rattle.halves.specs.Halves.{lower, upper, sooner, later}
-use Rattle.halves.specs.Terms.{SomeStrip}
-use Rattle.halves.specs.Internal.{range_sites, sites_in, RangeIn, gap_of, gap_to, HalfOf, HalvesOf}
-
--- A half is made of its places, their box and its gap.
-pub half_made : {xs ys hs : List ℤ} {from to : ℕ} {edges : List ℤ} {g : ℕ} (swapped : Bool) (other : List ℤ)
-    → SomeStrip xs ys hs from to → edges ≡ box_of (sites_of (range_sites xs ys hs from to)) → g ≡ gap_of swapped edges other → g < 2 ^ 64
-    → HalfOf xs ys hs (gap_to swapped other) (range_sites xs ys hs from to)
-    (record { range = record { from = from; to = to; edges = edges }; gap = g })
-half_made swapped other h e is fits = record {
-  range = record { places = h; box = e };
-  sites = refl;
-  gap = is ∙ ap (λ (own : List ℤ). gap_of swapped own other) e;
-  fits = fits;
-}
+use Rattle.halves.specs.Internal.{range_sites, sites_in, RangeIn, HalfOf, HalvesOf}
 
 module _ (xs ys hs : List ℤ) (from to : ℕ) (range : from ≤ to) where
   abbrev middle : ℕ
@@ -62,18 +48,6 @@ module _ (xs ys hs : List ℤ) (from to : ℕ) (range : from ≤ to) where
       let x = range_sites xs ys hs from middle in
       let y = range_sites xs ys hs middle to in
       sym (ap (drop (length all / 2)) parts ∙ ap (λ (n : ℕ). drop n (x ++ y)) (sym first_length) ∙ drop-append_seam x y)
-
--- The part of a range from one of its places to another.
-pub some_part : {xs ys hs : List ℤ} {from to f t : ℕ} → SomeStrip xs ys hs from to → f < t → t ≤ to → SomeStrip xs ys hs f t
-some_part h some inside = record {
-  strip = record {
-    lawful = h.strip.lawful;
-    heights = h.strip.heights;
-    range = omega arith;
-    inside = omega (arith, h.strip.inside);
-  };
-  some = some;
-}
 
 module _ {xs ys hs : List ℤ} {r : Range} (h : RangeIn xs ys hs r) where
   ordered : r.from ≤ r.to

@@ -2,12 +2,14 @@
 ghost use Rattle.std.specs.Prelude.{◌≡◌, ◌≤◌, ◌<◌, ltb, length};
 ghost use Rattle.std.specs.Int.Signed.{lt_z};
 ghost use Rattle.order.specs.Terms.{Sorted};
-ghost use Rattle.site.specs.Terms.{NumberedLent};
 ghost use Rattle.boxes.specs.Box.{box_of};
 ghost use Rattle.sweep.specs.Strip.{strip, sites_of};
+ghost use Rattle.sweep.specs.Terms.{NumberedLists};
 ghost use Rattle.halves.specs.Gap.{squared_strip_gap};
 ghost use Rattle.halves.specs.Terms.{SomeStrip};
 ghost use Rattle.halves.specs.Internal.{range_sites, box_across};
+
+use site::SiteColumns;
 
 // The box of a range of places.
 pub(super) fn box_of(x: &[i32], y: &[i32], height: &[i32], from: usize, to: usize) -> [i32; 6]
@@ -28,50 +30,39 @@ fn box_across(x: &[i32], from: usize, to: usize) -> [i32; 6]
 
 // The square of the gap of two ranges of places, such as two strips.
 fn squared_gap(
-    ax: &[i32],
-    ay: &[i32],
-    ah: &[i32],
-    bx: &[i32],
-    by: &[i32],
-    bh: &[i32],
+    a: SiteColumns<'_>,
+    b: SiteColumns<'_>,
     a_from: usize,
     a_to: usize,
     b_from: usize,
     b_to: usize,
 ) -> u64
-    requires { SomeStrip ax.now ay.now ah.now a_from a_to
-        × SomeStrip bx.now by.now bh.now b_from b_to }
-    ensures { NumberedLent ax ay ah bx by bh (λ a b.
-        result ≡ squared_strip_gap (strip a_from a_to a) (strip b_from b_to b)) }
+    requires { SomeStrip a.x.now a.y.now a.height.now a_from a_to
+        × SomeStrip b.x.now b.y.now b.height.now b_from b_to }
+    ensures { NumberedLists a.entry b.entry (λ p q.
+        result ≡ squared_strip_gap (strip a_from a_to p) (strip b_from b_to q)) }
 {
     boxes::squared_gap(
-        box_of(ax, ay, ah, a_from, a_to),
-        box_of(bx, by, bh, b_from, b_to),
+        box_of(a.x, a.y, a.height, a_from, a_to),
+        box_of(b.x, b.y, b.height, b_from, b_to),
     )
 }
 
 // Whether the gap squared of two ranges of places is greater than a limit. Along x it is known at once, and often enough.
 pub fn gap_beyond(
-    ax: &[i32],
-    ay: &[i32],
-    ah: &[i32],
-    bx: &[i32],
-    by: &[i32],
-    bh: &[i32],
+    a: SiteColumns<'_>,
+    b: SiteColumns<'_>,
     a_from: usize,
     a_to: usize,
     b_from: usize,
     b_to: usize,
     limit: u64,
 ) -> bool
-    requires { SomeStrip ax.now ay.now ah.now a_from a_to
-        × SomeStrip bx.now by.now bh.now b_from b_to }
-    ensures { NumberedLent ax ay ah bx by bh (λ a b.
-        result ≡ ltb limit (squared_strip_gap (strip a_from a_to a) (strip b_from b_to b))) }
+    requires { SomeStrip a.x.now a.y.now a.height.now a_from a_to
+        × SomeStrip b.x.now b.y.now b.height.now b_from b_to }
+    ensures { NumberedLists a.entry b.entry (λ p q.
+        result ≡ ltb limit (squared_strip_gap (strip a_from a_to p) (strip b_from b_to q))) }
 {
-    let across = boxes::squared_gap(box_across(ax, a_from, a_to), box_across(bx, b_from, b_to));
-    if limit < across {
-        return true;
-    }
-    limit < squared_gap(ax, ay, ah, bx, by, bh, a_from, a_to, b_from, b_to)
+    let across = boxes::squared_gap(box_across(a.x, a_from, a_to), box_across(b.x, b_from, b_to));
+    limit < across || limit < squared_gap(a, b, a_from, a_to, b_from, b_to)
 }

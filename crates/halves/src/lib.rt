@@ -5,15 +5,15 @@ mod gap;
 mod visits;
 
 ghost use Rattle.std.specs.Prelude.{◌≤◌};
-ghost use Rattle.site.specs.Terms.{NumberedLent};
 ghost use Rattle.entry.specs.Results.{results, lent_results};
 ghost use Rattle.entry.specs.Terms.{FinishAsked};
-ghost use Rattle.sweep.specs.Terms.{SweepAsked};
+ghost use Rattle.sweep.specs.Terms.{NumberedLists, SweepAsked};
 ghost use Rattle.halves.specs.Terms.{HalvedTo, HalvedStrips};
 ghost use Rattle.halves.specs.Internal.{visited_of};
 
 use entry::Queue;
 pub use gap::gap_beyond;
+use site::SiteColumns;
 
 // How many range pairs a join by halves visited.
 #[derive(Clone, Copy)]
@@ -62,22 +62,17 @@ fn answer(tally: Tally, distance: &mut [u64], first: &mut [u32], second: &mut [u
     ensures { let l = lent_results distance first second in
         HalvedTo (visited_of tally l.entry) l.entry l.exit result }
 {
-    let queue = tally.queue;
-    entry::finish(distance, first, second, queue);
+    entry::finish(distance, first, second, tally.queue);
     Halved {
-        entries: queue.count as u32,
+        entries: tally.queue.count as u32,
         range_pairs: RangePairs(tally.range_pairs),
     }
 }
 
 // The join by halves of two strips. (02 k.)
 pub fn run(
-    ax: &[i32],
-    ay: &[i32],
-    ah: &[i32],
-    bx: &[i32],
-    by: &[i32],
-    bh: &[i32],
+    a: SiteColumns<'_>,
+    b: SiteColumns<'_>,
     a_from: usize,
     a_to: usize,
     b_from: usize,
@@ -88,13 +83,14 @@ pub fn run(
     first: &mut [u32],
     second: &mut [u32],
 ) -> Halved
-    requires { SweepAsked ax.now ay.now ah.now bx.now by.now bh.now a_from a_to b_from b_to k count
+    requires { SweepAsked a.x.now a.y.now a.height.now b.x.now b.y.now b.height.now a_from a_to b_from b_to k count
         (results distance.old first.old second.old) }
-    ensures { let l = lent_results distance first second in let halved = HalvedStrips a_from a_to b_from b_to k count l.entry l.exit result in
-        NumberedLent ax ay ah bx by bh halved }
+    ensures { let l = lent_results distance first second in
+        let halved = HalvedStrips a_from a_to b_from b_to k count l.entry l.exit result in
+        NumberedLists a.entry b.entry halved }
 {
     let tally = visits::join(
-        ax, ay, ah, bx, by, bh, a_from, a_to, b_from, b_to, k, count, distance, first, second,
+        a, b, a_from, a_to, b_from, b_to, k, count, distance, first, second,
     );
     answer(tally, distance, first, second)
 }

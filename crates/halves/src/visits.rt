@@ -26,6 +26,7 @@ ghost use Rattle.halves.specs.Internal.{
 
 use super::{Half, Halves, Range, Tally, gap};
 use entry::{Entry, Queue};
+use site::SiteColumns;
 
 // The gap squared of two boxes, the first list's first: `own` is the second list's where they are swapped.
 fn gap_to(own: [i32; 6], other: [i32; 6], swapped: bool) -> u64
@@ -33,9 +34,10 @@ fn gap_to(own: [i32; 6], other: [i32; 6], swapped: bool) -> u64
     ensures { result ≡ gap_of swapped own other }
 {
     if swapped {
-        return boxes::squared_gap(other, own);
+        boxes::squared_gap(other, own)
+    } else {
+        boxes::squared_gap(own, other)
     }
-    boxes::squared_gap(own, other)
 }
 
 // The range from place `from` up to, not including, place `to`, with its gap squared to another range's box.
@@ -53,9 +55,10 @@ fn half(
         HalfOf x.now y.now height.now (gap_to swapped other) l result }
 {
     let edges = gap::box_of(x, y, height, from, to);
-    let gap = gap_to(edges, other, swapped);
-    let range = Range { from, to, edges };
-    Half { range, gap }
+    Half {
+        range: Range { from, to, edges },
+        gap: gap_to(edges, other, swapped),
+    }
 }
 
 // Both halves of a range, the one with the smaller gap first, the lower at equality.
@@ -75,14 +78,15 @@ fn halve(
     let lower = half(x, y, height, range.from, middle, other, swapped);
     let upper = half(x, y, height, middle, range.to, other, swapped);
     if upper.gap < lower.gap {
-        return Halves {
+        Halves {
             sooner: upper,
             later: lower,
-        };
-    }
-    Halves {
-        sooner: lower,
-        later: upper,
+        }
+    } else {
+        Halves {
+            sooner: lower,
+            later: upper,
+        }
     }
 }
 
@@ -90,12 +94,11 @@ fn halve(
 fn numbers(tally: Tally) -> [u64; 4]
     ensures { (length result ≡ 4) × (tally_of result ≡ tally) }
 {
-    let queue = tally.queue;
     [
         tally.range_pairs,
-        queue.count as u64,
-        queue.last as u64,
-        queue.reach,
+        tally.queue.count as u64,
+        tally.queue.last as u64,
+        tally.queue.reach,
     ]
 }
 
@@ -103,14 +106,13 @@ fn numbers(tally: Tally) -> [u64; 4]
 fn held(numbers: [u64; 4]) -> Tally
     ensures { result ≡ tally_of numbers }
 {
-    let queue = Queue {
-        count: numbers[1] as usize,
-        last: numbers[2] as usize,
-        reach: numbers[3],
-    };
     Tally {
         range_pairs: numbers[0],
-        queue,
+        queue: Queue {
+            count: numbers[1] as usize,
+            last: numbers[2] as usize,
+            reach: numbers[3],
+        },
     }
 }
 
@@ -128,7 +130,8 @@ fn offer(
     requires tally_len { length tally.old ≡ 4 }
     requires i_bound { (i < 2 ^ 32)
         × ((j < 2 ^ 32) × Queueing k (tally_of tally.old).queue (results distance.old first.old second.old)) }
-    ensures { let l = lent_results distance first second in let old = tally_of tally.old in
+    ensures { let l = lent_results distance first second in
+        let old = tally_of tally.old in
         let list = taken apart k (entry squared i j) (queued old.queue l.entry) in
         let s = visited list old.range_pairs in
         let new = tally.new in
@@ -142,12 +145,7 @@ fn offer(
         first: i as u32,
         second: j as u32,
     };
-    let queue = Queue {
-        count: tally[1] as usize,
-        last: tally[2] as usize,
-        reach: tally[3],
-    };
-    let next = entry::offer(distance, first, second, k, queue, e);
+    let next = entry::offer(distance, first, second, k, held(*tally).queue, e);
     tally[1] = next.count as u64;
     tally[2] = next.last as u64;
     tally[3] = next.reach;
@@ -176,7 +174,8 @@ fn expand(
     requires tally_len { length tally.old ≡ 4 }
     requires expand_asked { ExpandAsked ax.now ay.now ah.now bx.now by.now bh.now p q between k (tally_of tally.old)
         (results distance.old first.old second.old) }
-    ensures { let l = lent_results distance first second in let a = sites_in ax.now ay.now ah.now p in
+    ensures { let l = lent_results distance first second in
+        let a = sites_in ax.now ay.now ah.now p in
         let b = sites_in bx.now by.now bh.now q in
         let old = tally_of tally.old in
         let expanded = expand_from k a b (visited_of old l.entry) in
@@ -190,10 +189,7 @@ fn expand(
         return;
     }
     if m <= n {
-        let other = q.edges;
-        let halves = halve(ax, ay, ah, p, other, false);
-        let sooner = halves.sooner;
-        let later = halves.later;
+        let Halves { sooner, later } = halve(ax, ay, ah, p, q.edges, false);
         let s = sooner.range;
         let t = later.range;
         tally[0] += 1;
@@ -210,10 +206,7 @@ fn expand(
         }
         return;
     }
-    let other = p.edges;
-    let halves = halve(bx, by, bh, q, other, true);
-    let sooner = halves.sooner;
-    let later = halves.later;
+    let Halves { sooner, later } = halve(bx, by, bh, q, p.edges, true);
     let s = sooner.range;
     let t = later.range;
     tally[0] += 1;
@@ -232,12 +225,8 @@ fn expand(
 
 // The visit of two whole strips; there is none where one is empty.
 pub(super) fn join(
-    ax: &[i32],
-    ay: &[i32],
-    ah: &[i32],
-    bx: &[i32],
-    by: &[i32],
-    bh: &[i32],
+    a: SiteColumns<'_>,
+    b: SiteColumns<'_>,
     a_from: usize,
     a_to: usize,
     b_from: usize,
@@ -248,29 +237,27 @@ pub(super) fn join(
     first: &mut [u32],
     second: &mut [u32],
 ) -> Tally
-    requires { SweepAsked ax.now ay.now ah.now bx.now by.now bh.now a_from a_to b_from b_to k count
+    requires { SweepAsked a.x.now a.y.now a.height.now b.x.now b.y.now b.height.now a_from a_to b_from b_to k count
         (results distance.old first.old second.old) }
-    ensures { let l = lent_results distance first second in let a = range_sites ax.now ay.now ah.now a_from a_to in
-        let b = range_sites bx.now by.now bh.now b_from b_to in
-        VisitedTo k l.entry count (halves k a b (entries_of count l.entry)) l.exit result }
+    ensures { let l = lent_results distance first second in
+        let p = range_sites a.entry.x.now a.entry.y.now a.entry.height.now a_from a_to in
+        let q = range_sites b.entry.x.now b.entry.y.now b.entry.height.now b_from b_to in
+        VisitedTo k l.entry count (halves k p q (entries_of count l.entry)) l.exit result }
 {
     let queue = entry::start(distance, count, k);
     let none = Tally {
         range_pairs: 0,
         queue,
     };
-    if a_from == a_to {
+    if a_from == a_to || b_from == b_to {
         return none;
     }
-    if b_from == b_to {
-        return none;
-    }
-    let own = gap::box_of(ax, ay, ah, a_from, a_to);
-    let other = gap::box_of(bx, by, bh, b_from, b_to);
+    let own = gap::box_of(a.x, a.y, a.height, a_from, a_to);
+    let other = gap::box_of(b.x, b.y, b.height, b_from, b_to);
     let between = boxes::squared_gap(own, other);
     let root = Tally {
         range_pairs: 1,
-        queue,
+        ..none
     };
     if queue.reach < between {
         return root;
@@ -287,7 +274,8 @@ pub(super) fn join(
     };
     let mut tally = numbers(root);
     expand(
-        ax, ay, ah, bx, by, bh, p, q, between, k, &mut tally, distance, first, second,
+        a.x, a.y, a.height, b.x, b.y, b.height, p, q, between, k, &mut tally, distance, first,
+        second,
     );
     held(tally)
 }

@@ -9,7 +9,7 @@ use lib.Dec.{eqb}
 use lib.IntN.{ℤ, pos, negsuc}
 use lib.Signed.{le_z}
 use lib.ListN.{length, take, get_or, set, replicate, length-set, length-replicate, get_or-replicate}
-use lib.Seq.{take_all, get_or-set_same, get_or-set_other}
+use lib.Seq.{get_or-set_same, get_or-set_other}
 use Rattle.order.specs.Lists.{all}
 use Rattle.site.specs.Site.{between, height_within, gap}
 use Rattle.order.proofs.Order.{by_test}
@@ -86,6 +86,3 @@ tallied_more l counts i at d lt q e t =
       count = λ h p.
           count_more counts h k (occurrences h (take i l)) p q room (t.count h p) ∙ sym (occurrences_more h l i d lt);
     }
-
-pub tallied_end : (l : List ℤ) (counts : List ℕ) (i : ℕ) → length l ≤ i → Tallied (take i l) counts → Tallied l counts
-tallied_end l counts i h t = rw (take_all i l h) at t

@@ -22,10 +22,8 @@ fn occurrences(h: i32, column: &[i32]) -> u64
     ensures { result ≡ occurrences h column.now }
 {
     let mut found: u64 = 0;
-    let mut i = 0;
-    while i < column.len() {
-        found += equal(h, column[i]);
-        i += 1;
+    for &height in column {
+        found += equal(h, height);
     }
     found
 }
@@ -36,10 +34,8 @@ fn few_equal(a: &[i32], b: &[i32]) -> u64
     ensures { result ≡ equal_pairs a.now b.now }
 {
     let mut found: u64 = 0;
-    let mut i = 0;
-    while i < a.len() {
-        found += occurrences(a[i], b);
-        i += 1;
+    for &height in a {
+        found += occurrences(height, b);
     }
     found
 }
@@ -58,11 +54,8 @@ fn tally(column: &[i32]) -> [u16; 20_001]
     ensures { Tallied column.now result }
 {
     let mut counts = [0u16; 20_001];
-    let mut i = 0;
-    while i < column.len() {
-        let at = slot(column[i]);
-        counts[at] += 1;
-        i += 1;
+    for &height in column {
+        counts[slot(height)] += 1;
     }
     counts
 }
@@ -75,11 +68,8 @@ fn many_equal(a: &[i32], b: &[i32]) -> u64
 {
     let counts = tally(a);
     let mut found: u64 = 0;
-    let mut j = 0;
-    while j < b.len() {
-        let at = slot(b[j]);
-        found += counts[at] as u64;
-        j += 1;
+    for &height in b {
+        found += u64::from(counts[slot(height)]);
     }
     found
 }

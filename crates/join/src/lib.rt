@@ -1,12 +1,12 @@
 // The three ways to join two strips, on a list that may already hold entries: the two sweeps, and the join by halves.
 #![tactic(auto)]
 
-ghost use Rattle.site.specs.Terms.{NumberedLent};
 ghost use Rattle.entry.specs.Results.{results, lent_results};
-ghost use Rattle.sweep.specs.Terms.{SweepAsked};
+ghost use Rattle.sweep.specs.Terms.{NumberedLists, SweepAsked};
 ghost use Rattle.join.specs.Terms.{JoinedStrips};
 
 use halves::RangePairs;
+use site::SiteColumns;
 use sweep::{Distances, Looks, Way};
 
 // The three ways to join two strips: a sweep, or by halves. (01: sweep; 02 k: join by halves.)
@@ -34,12 +34,8 @@ pub struct Joined {
 // The join named.
 pub fn run(
     way: Join,
-    ax: &[i32],
-    ay: &[i32],
-    ah: &[i32],
-    bx: &[i32],
-    by: &[i32],
-    bh: &[i32],
+    a: SiteColumns<'_>,
+    b: SiteColumns<'_>,
     a_from: usize,
     a_to: usize,
     b_from: usize,
@@ -50,43 +46,38 @@ pub fn run(
     first: &mut [u32],
     second: &mut [u32],
 ) -> Joined
-    requires { SweepAsked ax.now ay.now ah.now bx.now by.now bh.now a_from a_to b_from b_to k count
+    requires { SweepAsked a.x.now a.y.now a.height.now b.x.now b.y.now b.height.now a_from a_to b_from b_to k count
         (results distance.old first.old second.old) }
-    ensures { let l = lent_results distance first second in let joined = JoinedStrips way a_from a_to b_from b_to k count l.entry l.exit result in
-        NumberedLent ax ay ah bx by bh joined }
+    ensures { let l = lent_results distance first second in
+        let joined = JoinedStrips way a_from a_to b_from b_to k count l.entry l.exit result in
+        NumberedLists a.entry b.entry joined }
 {
+    // Theorems name the way, and each is compiled into loops of its own: a closure would be called in them.
     match way {
         Join::Sweep(sweep) => {
             let swept = sweep::run(
-                sweep, ax, ay, ah, bx, by, bh, a_from, a_to, b_from, b_to, k, count, distance,
-                first, second,
+                sweep, a, b, a_from, a_to, b_from, b_to, k, count, distance, first, second,
             );
-            let looks = swept.looks;
-            let distances = swept.distances;
-            let counters = Counters {
-                looks,
-                distances,
-                range_pairs: RangePairs(0),
-            };
             Joined {
                 entries: swept.entries,
-                counters,
+                counters: Counters {
+                    looks: swept.looks,
+                    distances: swept.distances,
+                    range_pairs: RangePairs(0),
+                },
             }
         }
         Join::Halves => {
             let halved = halves::run(
-                ax, ay, ah, bx, by, bh, a_from, a_to, b_from, b_to, k, count, distance, first,
-                second,
+                a, b, a_from, a_to, b_from, b_to, k, count, distance, first, second,
             );
-            let range_pairs = halved.range_pairs;
-            let counters = Counters {
-                looks: Looks(0),
-                distances: Distances(0),
-                range_pairs,
-            };
             Joined {
                 entries: halved.entries,
-                counters,
+                counters: Counters {
+                    looks: Looks(0),
+                    distances: Distances(0),
+                    range_pairs: halved.range_pairs,
+                },
             }
         }
     }

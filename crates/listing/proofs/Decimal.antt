@@ -8,6 +8,8 @@ use native.Mathlib.Omega.{arith}
 use borrow.Author.Tests.{eqb-true, leb-true, leb-false, le-leb, lt-leb}
 use lib.Dec.{eqb, leb}
 use lib.ListN.{length, get_or, set, length-map}
+use Rattle.std.specs.Prelude.{MatchOption, Option, Some, None}
+use Rattle.std.specs.Option.{unwrap_or}
 use Rattle.order.specs.Lists.{keep}
 use Rattle.order.proofs.Order.{by_test}
 use Rattle.order.proofs.Lists.{keep_yes, keep_no, keep_nil, length_keep}
@@ -98,14 +100,15 @@ digits_found n (suc c) p q b l =
       digits = ap (map (digit_at n)) (powers_kept n c b (λ h. rw e at (l (omega arith))) 20 q);
     }
 
--- One more power of ten is passed.
-pub power_passed : (n count : ℕ) → 10 ^ count ≤ n → 10 ^ (count + 1 - 1) ≤ n
-power_passed n count h = let e : count + 1 - 1 ≡ count = omega arith in rw e h
-
--- Twenty digits hold any number of 64 bits.
-pub digits_all : (n count : ℕ) → n < 2 ^ 64 → count ≡ 20 → (1 < count → 10 ^ (count - 1) ≤ n) → Digits n count
-digits_all n count h e l =
-    digits_found n count (omega arith) (omega arith) (let wide : n < 10 ^ 20 = omega arith in rw e wide) l
+-- The count is the first power of ten above the number, and twenty digits hold any number of 64 bits.
+pub digits_first : (n : ℕ) → n < 2 ^ 64 → (r : Option ℕ)
+    → MatchOption r ((k : ℕ) → 1 ≤ k → k < 20 → 10 ^ k ≤ n)
+    (λ i. (1 ≤ i) × (i < 20) × (n < 10 ^ i) × ((k : ℕ) → 1 ≤ k → k < i → 10 ^ k ≤ n))
+    → Digits n (unwrap_or r 20)
+digits_first n h None e =
+    digits_found n 20 (omega arith) (omega arith) (omega arith) (λ l. e 19 (omega arith) (omega arith))
+digits_first n h (Some i) e =
+    digits_found n i e.0 (omega (arith, e.1)) e.2 (λ l. e.3 (i - 1) (omega arith) (omega arith))
 
 pub length_powers : (m : ℕ) → length (powers_below m) ≡ m
 unfolding powers_below

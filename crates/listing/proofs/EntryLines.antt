@@ -17,11 +17,6 @@ use Rattle.listing.specs.Internal.{entry_line, heading, number_at, entries_text,
 use Rattle.listing.proofs.Lines.{entry_length, heading_length}
 use Rattle.listing.proofs.Put.{Writing, put_length, put_then, writing_starts, writing_more, writing_ends}
 
--- The line that `put_entry_at` writes.
-pub line_put : (i d : ℕ) {at next x y a b : ℕ} {before after : List ℕ} → x ≡ a → y ≡ b
-    → Put at (entry_line (i + 1) d x y) before after next → Put at (entry_line (suc i) d a b) before after next
-line_put i d e f p = rw (← e, ← f, ← add-one i) p
-
 lines_none : (a b : ℕ → ℕ) (rank : ℕ) → entry_lines a b rank [] ≡ []
 unfolding entry_lines
 lines_none a b rank = refl

@@ -13,16 +13,16 @@ use mir.Facts.{to_z-of_z}
 use Rattle.column.proofs.Replaced.{Replaced, replaced_none, replaced_more, replaced_all}
 use Rattle.site.specs.Site.{Site}
 use Rattle.site.specs.SiteList.{Columns, columns, sites, site_at, columns_of}
-use Rattle.site.specs.Answer.{refused, answered, or_else}
+use Rattle.std.specs.Prelude.{Result, Ok, Err}
+use Rattle.site.specs.declared.refusals.Refusal.{Refusal}
+use Rattle.site.specs.Answer.{refused, answered, or_else, number, answer_of}
 use Rattle.site.specs.Refusal.{lists_refusal}
 use Rattle.site.proofs.SiteList.{nowhere, columns_sites, columns_length}
 use Rattle.site_file.specs.declared.Which.{Which}
 use Rattle.site_file.specs.declared.Which.TheVariants.{First, Second}
-use Rattle.site_file.specs.declared.SiteRead.{SiteRead}
-use Rattle.site_file.specs.declared.SiteRead.TheVariants.{Found, Refused}
 use Rattle.site_file.specs.declared.FileSite.{FileSite}
 use Rattle.site_file.specs.File.{site_of_file, count_in, sites_in}
-use Rattle.site_file.specs.Calls.{contents_refusal, site_answer, site_read_answer}
+use Rattle.site_file.specs.Calls.{contents_refusal, site_answer}
 use Rattle.site_file.proofs.File.{list_length}
 use Rattle.site_file.proofs.ReadAnswer.{inside, read_laid, site_found}
 use Rattle.site_file.proofs.SitesIn.{list_flat, columns_accepted}
@@ -43,21 +43,21 @@ module _ (i : ℕ) {s : FileSite} {t : Site} (e : site_of_file s ≡ t) where
   number_stored ns = ap (set ns i) (ap (λ r. r.number) e)
 
 -- A place of an accepted file is never refused: the site there is read.
-module _ (file : List ℕ) (w : Which) (i : ℕ) (r : SiteRead) (answer : site_read_answer r ≡ site_answer file w i)
+module _ (file : List ℕ) (w : Which) (i : ℕ) (r : Result FileSite Refusal) (answer : answer_of site_of_file r ≡ site_answer file w i)
     (none : contents_refusal file ≡ 0) (h : i < count_in file w) where
-  found : site_read_answer r ≡ answered (site_at (sites_in file w) i)
+  found : answer_of site_of_file r ≡ answered (site_at (sites_in file w) i)
   found = answer ∙ site_found file w i none h
 
-  pub found_site : {s : FileSite} → r ≡ Found s → site_of_file s ≡ site_at (sites_in file w) i
-  unfolding site_read_answer
+  pub found_site : {s : FileSite} → r ≡ Ok s → site_of_file s ≡ site_at (sites_in file w) i
+  unfolding answer_of
   found_site {s} e =
-      let same : answered (site_of_file s) ≡ answered (site_at (sites_in file w) i) = sym (ap site_read_answer e) ∙ found in
+      let same : answered (site_of_file s) ≡ answered (site_at (sites_in file w) i) = sym (ap (answer_of site_of_file) e) ∙ found in
       cc
 
-  pub found_always : {n : ℕ} → r ≡ Refused n → ⊥
-  unfolding site_read_answer
-  found_always {n} e =
-      let never : refused n ≡ answered (site_at (sites_in file w) i) = sym (ap site_read_answer e) ∙ found in
+  pub found_always : {e : Refusal} → r ≡ Err e → ⊥
+  unfolding answer_of
+  found_always {e} is =
+      let never : refused (number e) ≡ answered (site_at (sites_in file w) i) = sym (ap (answer_of site_of_file) is) ∙ found in
       let z : ◌≡◌ {A = ℕ} 0 1 = cc in
       omega arith
 

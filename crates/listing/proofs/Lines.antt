@@ -2,58 +2,13 @@
 use mathlib.Core.Path.{◌≡◌, refl, ap}
 use mathlib.Core.List.{List, [], ◌∷◌, ◌++◌, append_assoc}
 use Prim.Native.Nat.{ℕ, ◌+◌, ◌≤◌, ◌<◌}
-use native.Mathlib.Numerals.{add-one}
 use native.Mathlib.Omega.{arith}
-use lib.ListN.{length, drop, get_or, set, length-append, length-drop, drop_of_length-le}
-use lib.Seq.{drop-cons}
+use lib.ListN.{length, set, length-append}
 use Rattle.listing.specs.Decimal.{decimal}
 use Rattle.listing.specs.Listing.{bytes, line, refused_text}
 use Rattle.listing.specs.Internal.{entry_line, heading, Put}
 use Rattle.listing.proofs.Decimal.{decimal_length}
-use Rattle.listing.proofs.Put.{
-  Writing,
-  put_byte,
-  put_length,
-  put_then,
-  writing_starts,
-  writing_room,
-  writing_more,
-  writing_ends,
-}
-
--- ---- some bytes, one by one
-
--- The bytes from `i` on are still to be written.
-pub record BytesLeft (text : List ℕ) (at : ℕ) (before : List ℕ) (now : List ℕ) (next i : ℕ) : Type 0 where
-  pub room : next + length text ≤ length now + i
-  pub same : length now ≡ length before
-  pub writing : Writing at text before (drop i text) now next
-
-module _ (text : List ℕ) (at : ℕ) (before : List ℕ) where
-  bytes_left : {now : List ℕ} {next i : ℕ} → Writing at text before (drop i text) now next
-      → BytesLeft text at before now next i
-  bytes_left {now} {next} {i} w =
-      let r = writing_room w in
-      record {
-        room = omega (arith, r.0, length-drop i text);
-        same = r.1;
-        writing = w;
-      }
-
-  pub bytes_starts : at + length text ≤ length before → BytesLeft text at before before at 0
-  bytes_starts h = bytes_left (writing_starts h)
-
-  pub bytes_more : {now : List ℕ} {next i : ℕ} → i < length text → BytesLeft text at before now next i
-      → BytesLeft text at before (set now next (get_or text i 0)) (next + 1) (i + 1)
-  bytes_more {now} {next} {i} h w =
-      bytes_left
-      (rw add-one
-      (writing_more (get_or text i 0 ∷ []) (rw (drop-cons text i 0 h) at w.writing)
-      (put_byte next (get_or text i 0) now (omega (arith, w.room)))))
-
-  pub bytes_ends : {now : List ℕ} {next i : ℕ} → length text ≤ i → BytesLeft text at before now next i
-      → Put at text before now next
-  bytes_ends {now} {next} {i} h w = writing_ends (rw (drop_of_length-le text h) at w.writing)
+use Rattle.listing.proofs.Put.{put_byte, put_length, put_then}
 
 -- ---- a number and the byte after it
 

@@ -7,7 +7,9 @@ use native.Mathlib.Omega.{arith}
 use borrow.Author.Tests.{lt-ltb, le-ltb, ltb-false}
 use lib.Dec.{ltb}
 use lib.ListN.{length, take, drop, length-drop}
-use Rattle.site.specs.Answer.{refuse_if, or_else}
+use Rattle.std.specs.Prelude.{Ok, Err}
+use Rattle.site.specs.declared.refusals.Refusal.{Refusal}
+use Rattle.site.specs.Answer.{refuse_if, or_else, number, answer_of}
 use Rattle.site.proofs.Answer.{
   answered_values,
   refused_number,
@@ -22,22 +24,20 @@ use Rattle.column.specs.Column.{overwritten}
 use Rattle.column.proofs.Stored.{stored_start}
 use Rattle.entry.specs.Entry.{lawful_k}
 use Rattle.site_file.specs.Bytes.{word}
-use Rattle.site_file.specs.declared.FileRead.{FileRead}
-use Rattle.site_file.specs.declared.FileRead.TheVariants.{Counts, Refused}
-use Rattle.site_file.specs.Calls.{read_refusal, read_answer, file_read_answer}
+use Rattle.site_file.specs.Calls.{ReadValues, read_refusal, read_answer}
 use Rattle.site_file.proofs.Word.{rest_of}
 use Rattle.listing.specs.Listing.{listing_refusal, refused_text, listing}
 use Rattle.listing.specs.Internal.{file_text, Put, FileLists}
 
 -- What reading a file says of its refusal.
-module _ (file : List ℕ) {r : FileRead} (e : file_read_answer r ≡ read_answer file) where
-  pub read_none : {a b : ℕ} → r ≡ Counts a b → 0 ≡ read_refusal file
-  unfolding file_read_answer read_answer
-  read_none q = sym (answered_values (read_refusal file) _ _ (sym e ∙ ap file_read_answer q)).0
+module _ (file : List ℕ) {A : Type 0} (values : A → ReadValues) where
+  pub read_none : (told : A) → answer_of values (Ok told) ≡ read_answer file → 0 ≡ read_refusal file
+  unfolding answer_of read_answer
+  read_none told e = sym (answered_values (read_refusal file) _ _ (sym e)).0
 
-  pub read_number : {n : ℕ} → r ≡ Refused n → n ≡ read_refusal file
-  unfolding file_read_answer read_answer
-  read_number {n} q = (refused_number (read_refusal file) n _ (sym (ap file_read_answer q) ∙ e)).0
+  pub read_number : (r : Refusal) → answer_of values (Err r) ≡ read_answer file → number r ≡ read_refusal file
+  unfolding answer_of read_answer
+  read_number r e = (refused_number (read_refusal file) (number r) _ e).0
 
 -- ---- the tests in their order
 

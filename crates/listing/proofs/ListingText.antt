@@ -12,7 +12,9 @@ use Rattle.order.proofs.Order.{by_test}
 use Rattle.order.proofs.Best.{length_best}
 use Rattle.site.specs.SiteList.{Columns, raised, Plane, on_ground, sites, site_at}
 use Rattle.site.specs.Terms.{Level, Numbered}
-use Rattle.site.specs.Answer.{or_else}
+use Rattle.std.specs.Prelude.{Result, Ok, Err}
+use Rattle.site.specs.declared.refusals.Refusal.{Refusal}
+use Rattle.site.specs.Answer.{or_else, number, answer_of}
 use Rattle.site.specs.Refusal.{list_refusal, lists_refusal}
 use Rattle.site.proofs.Answer.{answered_values, refused_number}
 use Rattle.site.proofs.Accepted.{accepted_level, accepted_coordinates, accepted_heights, both_accepted}
@@ -25,11 +27,9 @@ use Rattle.entry.proofs.Rank.{k_limits}
 use Rattle.entry.proofs.Results.{room_fewer, entries_holding, room_holding}
 use Rattle.sweep.specs.Strip.{strip, pairs, all_pairs}
 use Rattle.sweep.specs.Terms.{StripIn}
-use Rattle.join.specs.declared.Counters.{Counters}
 use Rattle.join.specs.declared.Join.{Join}
 use Rattle.pairs.specs.declared.Listed.{Listed}
-use Rattle.pairs.specs.declared.Listed.TheVariants.{Entries, Refused}
-use Rattle.pairs.specs.KList.{k_list, k_list_refusal, k_list_answer, listed_answer}
+use Rattle.pairs.specs.KList.{k_list, k_list_refusal, k_list_answer, listed}
 use Rattle.pairs.proofs.KList.{whole_strip}
 use Rattle.plane.specs.Plane.{HeightsOfZero}
 use Rattle.plane.proofs.PairLists.{pairs_same}
@@ -132,16 +132,20 @@ module _ (way : Join) (a b : Columns) (k : ℕ) (r : Results) {buffer : List ℕ
   unfolding found k_list best_k
   few = omega (arith, k_most, length_best rank_before k (all_pairs (sites a) (sites b)))
 
-  module _ {l : Listed} (s : Results) (answer : listed_answer l s ≡ k_list_answer way a b k r) where
-    pub never_refused : {n : ℕ} → l ≡ Refused n → ⊥
-    unfolding listed_answer k_list_answer
-    never_refused {n} e = (refused_number (k_list_refusal a b k r) n _ (sym (ap (λ x. listed_answer x s) e) ∙ answer)).1 none
+  module _ {l : Result Listed Refusal} (s : Results) (answer : answer_of (listed s) l ≡ k_list_answer way a b k r) where
+    pub never_refused : {e : Refusal} → l ≡ Err e → ⊥
+    unfolding answer_of k_list_answer
+    never_refused {e} is =
+        (refused_number (k_list_refusal a b k r) (number e) _ (sym (ap (answer_of (listed s)) is) ∙ answer)).1 none
 
-    module _ {count : ℕ} {counters : Counters} (e : l ≡ Entries count counters) where
+    module _ {told : Listed} (e : l ≡ Ok told) where
+      abbrev count : ℕ
+      count = told.count
+
       values : (s ≡ holding found r) × (count ≡ length found)
-      unfolding listed_answer k_list_answer found
+      unfolding answer_of k_list_answer found
       values =
-          let v = sym (answered_values (k_list_refusal a b k r) _ _ (sym answer ∙ ap (λ x. listed_answer x s) e)).1 in
+          let v = sym (answered_values (k_list_refusal a b k r) _ _ (sym answer ∙ ap (answer_of (listed s)) e)).1 in
           (ap (λ x. x.results) v, ap (λ x. x.count) v)
 
       -- What the text is written from.

@@ -11,11 +11,7 @@ use super::line;
 fn number_at(numbers: &[u32], place: u32) -> u32
     ensures { result ≡ number_at numbers.now place }
 {
-    let i = place as usize;
-    if i < numbers.len() {
-        return numbers[i];
-    }
-    0
+    numbers.get(place as usize).copied().unwrap_or(0)
 }
 
 // Writes the line of the entry at a place of the result columns: the position past it.
@@ -58,10 +54,8 @@ fn put_entries(
         Puts at (entry_lines (number_at an.now) (number_at bn.now) 1 l) out result }
 {
     let mut next = at;
-    let mut i = 0;
-    while i < count {
+    for i in 0..count {
         next = put_entry_at(an, bn, distance, first, second, i, out, next);
-        i += 1;
     }
     next
 }

@@ -9,49 +9,45 @@ ghost use Rattle.listing.specs.Internal.{file_text, Puts, Lawful, Grounded, Size
 
 use super::{ROOM, body, input, line};
 use join::Join;
-use pairs::Listed;
+use site::SiteColumns;
 use site_file::Which;
 use sweep::Way;
 
 // Writes the text for two lists of the plane, whose K list the result columns take: the position past it. They are lent with
 // every height 0.
 fn list_with(
-    ax: &[i32],
-    ay: &[i32],
-    an: &[u32],
-    ah: &[i32],
-    bx: &[i32],
-    by: &[i32],
-    bn: &[u32],
-    bh: &[i32],
+    a: SiteColumns<'_>,
+    b: SiteColumns<'_>,
     k: u32,
     distance: &mut [u64],
     first: &mut [u32],
     second: &mut [u32],
     out: &mut [u8],
 ) -> usize
-    requires lawful { Lawful (columns ax.now ay.now an.now) (columns bx.now by.now bn.now) k out.old }
-    requires grounded { Grounded ax.now ah.now × Grounded bx.now bh.now }
+    requires lawful { Lawful (columns a.x.now a.y.now a.number.now) (columns b.x.now b.y.now b.number.now) k out.old }
+    requires grounded { Grounded a.x.now a.height.now × Grounded b.x.now b.height.now }
     requires second_value { room_for 4096 (results distance.old first.old second.old) ≡ true }
-    ensures { let a = (lent_plane ax ay an).entry in
-        let b = (lent_plane bx by bn).entry in
-        Puts 0 (listing_text k (sites a) (sites b)) out result }
+    ensures { let p = columns a.entry.x.now a.entry.y.now a.entry.number.now in
+        let q = columns b.entry.x.now b.entry.y.now b.entry.number.now in
+        Puts 0 (listing_text k (sites p) (sites q)) out result }
 {
     let way = Join::Sweep(Way::ReverseRun);
-    match pairs::k_list(
-        way, ax, ay, an, ah, bx, by, bn, bh, k, distance, first, second,
-    ) {
-        Listed::Entries { count, counters: _ } => {
-            let n = ax.len();
-            let m = bx.len();
-            let total = sweep::count_pairs(ax, ay, ah, bx, by, bh, 0, n, 0, m);
-            body::put_text(an, bn, distance, first, second, count as usize, total, out)
+    match pairs::k_list(way, a, b, k, distance, first, second) {
+        Ok(listed) => {
+            let n = a.x.len();
+            let m = b.x.len();
+            let total = sweep::count_pairs(a, b, 0, n, 0, m);
+            let count = listed.count as usize;
+            body::put_text(
+                a.number, b.number, distance, first, second, count, total, out,
+            )
         }
-        Listed::Refused(number) => line::put_refused(out, 0, number),
+        Err(refusal) => line::put_refused(out, 0, refusal.number()),
     }
 }
 
-// Writes the text for two lists of the plane, of at most 4,000 sites each: the position past it.
+// Writes the text for two lists of the plane, of at most 4,000 sites each: the position past it. There is no heap, so the
+// heights and the result columns are arrays of the greatest lengths.
 fn list_columns(
     ax: &[i32],
     ay: &[i32],
@@ -68,28 +64,24 @@ fn list_columns(
         let b = (lent_plane bx by bn).entry in
         Puts 0 (listing_text k (sites a) (sites b)) out result }
 {
-    let n = ax.len();
-    let m = bx.len();
     let first_heights = [0i32; 4000];
     let second_heights = [0i32; 4000];
     let mut distance = [0u64; 4096];
     let mut first = [0u32; 4096];
     let mut second = [0u32; 4096];
-    list_with(
-        ax,
-        ay,
-        an,
-        &first_heights[..n],
-        bx,
-        by,
-        bn,
-        &second_heights[..m],
-        k,
-        &mut distance,
-        &mut first,
-        &mut second,
-        out,
-    )
+    let a = SiteColumns {
+        x: ax,
+        y: ay,
+        number: an,
+        height: &first_heights[..ax.len()],
+    };
+    let b = SiteColumns {
+        x: bx,
+        y: by,
+        number: bn,
+        height: &second_heights[..bx.len()],
+    };
+    list_with(a, b, k, &mut distance, &mut first, &mut second, out)
 }
 
 // Reads both lists of a file into columns and writes their text: the position past it.
@@ -115,7 +107,8 @@ fn list_sites(
     list_columns(ax, ay, an, bx, by, bn, k, out)
 }
 
-// Writes the text for a site file of at most 48,016 bytes: the position past it.
+// Writes the text for a site file of at most 48,016 bytes: the position past it. There is no heap, so the columns are
+// arrays of the greatest length.
 fn list_file(file: &[u8], k: u32, out: &mut [u8]) -> usize
     requires { FileLists file.now k out.old × (length file.now ≤ 48016) }
     ensures { Puts 0 (file_text k file.now) out result }
@@ -146,10 +139,11 @@ pub fn list_cases(input: &[u8], out: &mut [u8; ROOM]) -> usize
     ensures { let text = listing input.now in
         (result ≡ length text) × (out.new ≡ overwritten text out.old) }
 {
-    let refusal = input::input_refusal(input);
-    if refusal != 0 {
-        return line::put_refused(out, 0, refusal);
+    match input::input_refusal(input) {
+        Ok(()) => {
+            let k = site_file::word_at(input, 0);
+            list_file(&input[4..], k, out)
+        }
+        Err(refusal) => line::put_refused(out, 0, refusal.number()),
     }
-    let k = site_file::word_at(input, 0);
-    list_file(&input[4..], k, out)
 }

@@ -3,7 +3,7 @@ ghost use Rattle.std.specs.Prelude.{◌≡◌, ◌+◌, ◌^◌, ◌≤◌, ◌<
 ghost use Rattle.listing.specs.Decimal.{decimal};
 ghost use Rattle.listing.specs.Internal.{digit_at, Puts, Digits};
 
-// The twenty powers of ten from 1 to 10,000,000,000,000,000,000.
+// The twenty powers of ten from 1 to 10,000,000,000,000,000,000: a table, since `pow` multiplies anew for each digit.
 const POWERS: [u64; 20] = [
     1,
     10,
@@ -47,14 +47,7 @@ fn digit(n: u64, i: usize) -> u8
 fn digits(n: u64) -> usize
     ensures { Digits n result }
 {
-    let mut count = 1;
-    while count < 20 {
-        if n < power(count) {
-            return count;
-        }
-        count += 1;
-    }
-    count
+    (1..20).find(|&count| n < power(count)).unwrap_or(20)
 }
 
 // Writes a number in decimal digits: the position past them.
@@ -62,10 +55,8 @@ pub(super) fn put_decimal(out: &mut [u8], at: usize, n: u64) -> usize
     requires { at + 20 ≤ length out.old }
     ensures { Puts at (decimal n) out result }
 {
-    let mut left = digits(n);
     let mut next = at;
-    while 0 < left {
-        left -= 1;
+    for left in (0..digits(n)).rev() {
         out[next] = digit(n, left);
         next += 1;
     }

@@ -11,13 +11,8 @@ fn put_bytes(out: &mut [u8], at: usize, text: &[u8]) -> usize
     requires { at + length text.now ≤ length out.old }
     ensures { Puts at text.now out result }
 {
-    let mut next = at;
-    let mut i = 0;
-    while i < text.len() {
-        out[next] = text[i];
-        next += 1;
-        i += 1;
-    }
+    let next = at + text.len();
+    out[at..next].copy_from_slice(text);
     next
 }
 

@@ -1,6 +1,6 @@
 -- The element of a list that comes first: none comes before it, and in a list in order it stands at an end.
 use mathlib.Core.Path.{◌≡◌, refl, ap, ◌∙◌}
-use mathlib.Core.Bool.{Bool, true, false}
+use mathlib.Core.Bool.{Bool, false}
 use mathlib.Core.List.{List, [], ◌∷◌, foldl}
 use Rattle.order.specs.Lists.{All, last}
 use Rattle.order.specs.Order.{after, first_of, foremost}
@@ -14,16 +14,6 @@ after_order o = record {
   weak = λ a b c h g. o.weak c b a g h;
   total = λ a b h g. o.total a b g h;
 }
-
--- The one of two that comes first, by its test.
-module _ {A : Type 0} (before : A → A → Bool) (a b : A) where
-  pub second_first : before b a ≡ true → b ≡ first_of before a b
-  unfolding first_of
-  second_first h = rw h
-
-  pub first_first : before b a ≡ false → a ≡ first_of before a b
-  unfolding first_of
-  first_first h = rw h
 
 -- What holds of each element, and of what stands for none, holds of it.
 module _ {A : Type 0} (before : A → A → Bool) (P : A → Type 0) where

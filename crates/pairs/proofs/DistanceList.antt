@@ -1,14 +1,17 @@
 -- What a distance list answers.
-use Rattle.std.proofs.Common.{◌≡◌, ℕ, ◌<◌, ◌≤◌, min, List, map, length, ℤ, sym, ap, ◌∙◌, zero-add, arith, ltb-false, le-ltb, lt-ltb}
+use Rattle.std.specs.Prelude.{Ok, Err}
+use Rattle.std.proofs.Common.{◌≡◌, ℕ, ◌<◌, ◌≤◌, min, List, map, length, ℤ, sym, refl, ap, ◌∙◌, zero-add, arith, ltb-false, le-ltb, lt-ltb}
 use Rattle.column.proofs.Stored.{stored_start}
-use Rattle.site.specs.Answer.{refused, answered, afterwards}
+use Rattle.site.specs.declared.refusals.Refusal.{Refusal}
+use Rattle.site.specs.Answer.{afterwards, number, answer_of}
 use Rattle.site.specs.SiteList.{Columns, raised, sites}
 use Rattle.site.specs.Terms.{Coordinates, Heights}
 use Rattle.site.specs.Refusal.{lists_refusal}
 use Rattle.site.proofs.Answer.{
-  answer_values,
-  answer_refused,
-  after_refused,
+  refusal_numbered,
+  result_ok,
+  result_err,
+  after_err,
   after_answered,
   first_refused,
   next_decides,
@@ -60,21 +63,21 @@ module _ (ax ay : List ℤ) (an : List ℕ) (ah bx by : List ℤ) (bn : List ℕ
   near_is ok = both_listed ax ay an ah bx by bn bh ok e
 
   -- The refusal, by its tests.
-  pub lists_refused : {q : ℕ} → q ≡ lists_refusal a b → (q ≡ 0 → ⊥) → q ≡ distance_refusal a b e first second
+  pub lists_refused : (r : Refusal) → number r ≡ lists_refusal a b → number r ≡ distance_refusal a b e first second
   unfolding distance_refusal
-  lists_refused p h = first_refused _ p h
+  lists_refused r p = first_refused _ p (refusal_numbered r)
 
-  module _ {q n : ℕ} (p : q ≡ lists_refusal a b) (none : q ≡ 0) (count : n ≡ length near) where
+  module _ {n : ℕ} (none : lists_refusal a b ≡ 0) (count : n ≡ length near) where
     counted : length listed ≡ n
-    counted = ap length (near_is (sym p ∙ none)) ∙ sym count
+    counted = ap length (near_is none) ∙ sym count
 
     pub too_short : min (length first) (length second) < n → 6 ≡ distance_refusal a b e first second
     unfolding distance_refusal
-    too_short h = next_decides p none (rw (counted, lt-ltb (min (length first) (length second)) n h))
+    too_short h = next_decides refl none (rw (counted, lt-ltb (min (length first) (length second)) n h))
 
     pub room : n ≤ min (length first) (length second) → 0 ≡ distance_refusal a b e first second
     unfolding distance_refusal
-    room h = next_decides p none (rw (counted, le-ltb (min (length first) (length second)) n h))
+    room h = next_decides refl none (rw (counted, le-ltb (min (length first) (length second)) n h))
 
   -- What no refusal tells.
   module _ (ok : distance_refusal a b e first second ≡ 0) where
@@ -95,17 +98,20 @@ module _ (ax ay : List ℤ) (an : List ℕ) (ah bx by : List ℤ) (bn : List ℕ
         (l.0, (l.1, record { in_first = omega arith; in_second = omega arith }))
 
   -- The answer and the columns.
-  pub refused_is : {r : ℕ} → r ≡ distance_refusal a b e first second → (r ≡ 0 → ⊥)
-      → (refused r ≡ distance_answer a b e first second)
+  pub refused_is : (r : Refusal) → number r ≡ distance_refusal a b e first second
+      → (answer_of (distance_values first second) (Err r) ≡ distance_answer a b e first second)
       × ((first ≡ afterwards (λ v. v.first) (distance_answer a b e first second) first)
       × (second ≡ afterwards (λ v. v.second) (distance_answer a b e first second) second))
   unfolding distance_answer
-  refused_is p h =
-      (answer_refused _ p h, (after_refused (λ v. v.first) _ first p h, after_refused (λ v. v.second) _ second p h))
+  refused_is r p =
+      let values = distance_values first second in (
+        result_err values _ r p,
+        (after_err values (λ v. v.first) _ first r p, after_err values (λ v. v.second) _ second r p),
+      )
 
   pub answered_is : {n : ℕ} {first' second' : List ℕ} → distance_refusal a b e first second ≡ 0
       → Written near 0 first second first' second' n
-      → (answered (distance_values first' second' n) ≡ distance_answer a b e first second)
+      → (answer_of (distance_values first' second') (Ok n) ≡ distance_answer a b e first second)
       × ((first' ≡ afterwards (λ v. v.first) (distance_answer a b e first second) first)
       × (second' ≡ afterwards (λ v. v.second) (distance_answer a b e first second) second))
   unfolding distance_answer
@@ -114,6 +120,6 @@ module _ (ax ay : List ℤ) (an : List ℕ) (ah bx by : List ℤ) (bn : List ℕ
       let f = v.in_first ∙ stored_start (map (λ p. p.first) listed) first in
       let s = v.in_second ∙ stored_start (map (λ p. p.second) listed) second in
       let c = v.count ∙ zero-add (length listed) in (
-        ap answered (λ i. distance_values (f i) (s i) (c i)) ∙ answer_values ok,
+        result_ok (distance_values first' second') n ok (λ i. distance_values (f i) (s i) (c i)),
         (f ∙ after_answered (λ v. v.first) _ first ok, s ∙ after_answered (λ v. v.second) _ second ok),
       )

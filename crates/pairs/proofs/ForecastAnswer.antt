@@ -1,17 +1,20 @@
 -- What a forecast answers.
-use Rattle.std.proofs.Common.{◌≡◌, ℕ, ◌<◌, ◌≤◌, Bool, leb, List, [], ◌∷◌, map, length, ℤ, sym, ap, ◌∙◌, ap₂, arith, length-append, ltb-false, le-ltb, lt-ltb}
+use Rattle.std.specs.Prelude.{Ok, Err}
+use Rattle.std.proofs.Common.{◌≡◌, ℕ, ◌<◌, ◌≤◌, Bool, leb, List, [], ◌∷◌, map, length, ℤ, sym, refl, ap, ◌∙◌, ap₂, arith, length-append, ltb-false, le-ltb, lt-ltb}
 use mathlib.Core.List.{map-map}
 use Rattle.order.specs.Lists.{keep, sum}
 use Rattle.order.proofs.Lists.{keep_append}
-use Rattle.site.specs.Answer.{refused, answered, afterwards}
+use Rattle.site.specs.declared.refusals.Refusal.{Refusal}
+use Rattle.site.specs.Answer.{afterwards, number, answer_of}
 use Rattle.site.specs.Site.{Site, gap}
 use Rattle.site.specs.SiteList.{Columns, sites}
 use Rattle.site.specs.Refusal.{list_refusal, lists_refusal}
 use Rattle.site.proofs.SiteList.{sites_x}
 use Rattle.site.proofs.Answer.{
-  answer_values,
-  answer_refused,
-  after_refused,
+  refusal_numbered,
+  result_ok,
+  result_err,
+  after_err,
   after_answered,
   first_refused,
   next_decides,
@@ -76,21 +79,21 @@ module _ (e : ℕ) (f : Site → Site) (same : (s : Site) → (f s).x ≡ s.x) (
 
 module _ (a b : Columns) (column : List ℕ) where
   -- The refusal, by its tests.
-  pub lists_refused : {q : ℕ} → q ≡ lists_refusal a b → (q ≡ 0 → ⊥) → q ≡ forecast_refusal a b column
+  pub lists_refused : (r : Refusal) → number r ≡ lists_refusal a b → number r ≡ forecast_refusal a b column
   unfolding forecast_refusal
-  lists_refused p h = first_refused _ p h
+  lists_refused r p = first_refused _ p (refusal_numbered r)
 
-  module _ {q : ℕ} (p : q ≡ lists_refusal a b) (none : q ≡ 0) where
+  module _ (none : lists_refusal a b ≡ 0) where
     size : length (sites a) ≡ length a.x
-    size = accepted_length a (both_accepted a b (sym p ∙ none)).0
+    size = accepted_length a (both_accepted a b none).0
 
     pub too_short : length column < length a.x → 6 ≡ forecast_refusal a b column
     unfolding forecast_refusal
-    too_short h = next_decides p none (rw (size, lt-ltb (length column) (length a.x) h))
+    too_short h = next_decides refl none (rw (size, lt-ltb (length column) (length a.x) h))
 
     pub room : length a.x ≤ length column → 0 ≡ forecast_refusal a b column
     unfolding forecast_refusal
-    room h = next_decides p none (rw (size, le-ltb (length column) (length a.x) h))
+    room h = next_decides refl none (rw (size, le-ltb (length column) (length a.x) h))
 
   -- What no refusal tells.
   module _ (ok : forecast_refusal a b column ≡ 0) where
@@ -117,20 +120,21 @@ module _ (a b : Columns) (column : List ℕ) where
         ∙ ap₂ (partners_across e) (sites_x a (accepted_level a l.0)) (sites_x b (accepted_level b l.1))
 
   -- The answer and the column.
-  pub refused_is : (e : ℕ) {r : ℕ} → r ≡ forecast_refusal a b column → (r ≡ 0 → ⊥)
-      → (refused r ≡ forecast_answer a b e column)
+  pub refused_is : (e : ℕ) (r : Refusal) → number r ≡ forecast_refusal a b column
+      → (answer_of (forecast_values column) (Err r) ≡ forecast_answer a b e column)
       × (column ≡ afterwards (λ v. v.partners) (forecast_answer a b e column) column)
   unfolding forecast_answer
-  refused_is e p h = (answer_refused _ p h, after_refused (λ v. v.partners) _ column p h)
+  refused_is e r p =
+      let values = forecast_values column in (result_err values _ r p, after_err values (λ v. v.partners) _ column r p)
 
   pub answered_is : {e n : ℕ} {after : List ℕ} → forecast_refusal a b column ≡ 0 → PartnersWritten a.x b.x e column after n
-      → (answered (forecast_values after n) ≡ forecast_answer a b e column)
+      → (answer_of (forecast_values after) (Ok n) ≡ forecast_answer a b e column)
       × (after ≡ afterwards (λ v. v.partners) (forecast_answer a b e column) column)
   unfolding forecast_answer
   answered_is {e} {n} {after} ok w =
       let same = partners_are ok e in
       let held : after ≡ _ = rw (← same) at w.column in
       let total : n ≡ forecast_total e (sites a) (sites b) = (rw (← same) at w.total) ∙ sym (total_sums e (sites a) (sites b)) in (
-        ap answered (λ i. forecast_values (held i) (total i)) ∙ answer_values ok,
+        result_ok (forecast_values after) n ok (λ i. forecast_values (held i) (total i)),
         held ∙ after_answered (λ v. v.partners) _ column ok,
       )

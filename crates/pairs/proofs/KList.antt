@@ -1,15 +1,18 @@
 -- What a K list answers.
+use Rattle.std.specs.Prelude.{Ok, Err}
 use Rattle.std.proofs.Common.{◌≡◌, ℕ, Bool, true, false, not, List, [], length, ℤ, sym, refl, ap, ◌∙◌, subst, ap₂, arith}
 use Rattle.order.specs.Terms.{Sorted}
 use Rattle.order.proofs.Best.{best_nil}
-use Rattle.site.specs.Answer.{Answer, refused, answered, afterwards, refuse_if, or_else}
+use Rattle.site.specs.declared.refusals.Refusal.{Refusal}
+use Rattle.site.specs.Answer.{afterwards, refuse_if, or_else, number, answer_of}
 use Rattle.site.specs.SiteList.{Columns, raised, sites}
 use Rattle.site.specs.Refusal.{list_refusal, lists_refusal}
 use Rattle.site.specs.Terms.{Numbered}
 use Rattle.site.proofs.Answer.{
-  answer_values,
-  answer_refused,
-  after_refused,
+  refusal_numbered,
+  result_ok,
+  result_err,
+  after_err,
   after_answered,
   first_refused,
   next_decides,
@@ -37,7 +40,8 @@ use Rattle.join.specs.declared.Joined.{Joined}
 use Rattle.join.specs.Join.{counts_of, Found, join}
 use Rattle.join.specs.Terms.{JoinedTo, JoinedStrips}
 use Rattle.join.proofs.JoinLaws.{join_whole_best}
-use Rattle.pairs.specs.KList.{k_list, k_list_refusal, KListValues, k_list_values, k_list_answer}
+use Rattle.pairs.specs.declared.Listed.{Listed}
+use Rattle.pairs.specs.KList.{k_list, k_list_refusal, k_list_values, k_list_answer, listed}
 
 sorted_none : (r : Results) → Sorted rank_before (entries_of 0 r)
 unfolding entries_of Sorted
@@ -66,28 +70,29 @@ values_are s l {before} e v =
 
 module _ (a b : Columns) (k : ℕ) (r : Results) where
   -- The refusal, by its tests.
-  pub k_lists_refused : {q : ℕ} → q ≡ lists_refusal a b → (q ≡ 0 → ⊥) → q ≡ k_list_refusal a b k r
+  pub k_lists_refused : (e : Refusal) → number e ≡ lists_refusal a b → number e ≡ k_list_refusal a b k r
   unfolding k_list_refusal
-  k_lists_refused p h = first_refused _ p h
+  k_lists_refused e p = first_refused _ p (refusal_numbered e)
 
-  module _ {q : ℕ} {lawful : Bool} (p : q ≡ lists_refusal a b) (none : q ≡ 0) (l : lawful ≡ lawful_k k) where
+  module _ {lawful : Bool} (none : lists_refusal a b ≡ 0) (l : lawful ≡ lawful_k k) where
     pub k_unlawful : lawful ≡ false → 4 ≡ k_list_refusal a b k r
     unfolding k_list_refusal
-    k_unlawful h = next_decides p none (first_refused _ (rw (← l, h)) (λ e. omega arith))
+    k_unlawful h = next_decides refl none (first_refused _ (rw (← l, h)) (λ e. omega arith))
 
     module _ {room : Bool} (h : lawful ≡ true) (m : room ≡ room_for k r) where
       pub k_short : room ≡ false → 6 ≡ k_list_refusal a b k r
       unfolding k_list_refusal
-      k_short g = next_decides p none (next_decides {q = 0} (rw (← l, h)) refl (rw (← m, g)))
+      k_short g = next_decides refl none (next_decides {q = 0} (rw (← l, h)) refl (rw (← m, g)))
 
       pub k_accepted : room ≡ true → 0 ≡ k_list_refusal a b k r
       unfolding k_list_refusal
-      k_accepted g = next_decides p none (next_decides {q = 0} (rw (← l, h)) refl (rw (← m, g)))
+      k_accepted g = next_decides refl none (next_decides {q = 0} (rw (← l, h)) refl (rw (← m, g)))
 
-  pub k_refused : (way : Join) {n : ℕ} → n ≡ k_list_refusal a b k r → (n ≡ 0 → ⊥)
-      → (refused n ≡ k_list_answer way a b k r) × (r ≡ afterwards (λ v. v.results) (k_list_answer way a b k r) r)
+  pub k_refused : (way : Join) (e : Refusal) → number e ≡ k_list_refusal a b k r
+      → (answer_of (listed r) (Err e) ≡ k_list_answer way a b k r)
+      × (r ≡ afterwards (λ v. v.results) (k_list_answer way a b k r) r)
   unfolding k_list_answer
-  k_refused way p h = (answer_refused _ p h, after_refused (λ v. v.results) _ r p h)
+  k_refused way e p = (result_err (listed r) _ e p, after_err (listed r) (λ v. v.results) _ r e p)
 
   -- What no refusal tells.
   module _ (ok : k_list_refusal a b k r ≡ 0) where
@@ -143,8 +148,8 @@ module _ (ax ay : List ℤ) (an : List ℕ) (ah bx by : List ℤ) (bn : List ℕ
   -- What it then answers and leaves.
   pub joined_is : (way : Join) {after : Results} {answer : Joined}
       → Numbered ax ay ah bx by bh (JoinedStrips way 0 (length ax) 0 (length bx) k 0 r after answer)
-      → let values = k_list_values after answer.entries (counts_of answer.counters) in
-      (answered values ≡ k_list_answer way a b k r)
+      → let told : Listed = record { count = answer.entries; counters = answer.counters } in
+      (answer_of (listed after) (Ok told) ≡ k_list_answer way a b k r)
       × (after ≡ afterwards (λ v. v.results) (k_list_answer way a b k r) r)
   unfolding k_list_answer
   joined_is way {after} {answer} w =
@@ -153,6 +158,6 @@ module _ (ax ay : List ℤ) (an : List ℕ) (ah bx by : List ℤ) (bn : List ℕ
       let u = w.numbered an bn (accepted_level a l.0) (accepted_level b l.1) in
       let v : JoinedTo s r after answer = subst (λ (t : Found). JoinedTo t r after answer) (over_whole a b k r ok way) u in
       let e = values_are s (k_list k (sites a) (sites b)) (join_k_list way k a b l.0 l.1) v in (
-        ap {B = Answer KListValues} answered e ∙ answer_values ok,
+        result_ok (listed after) _ ok e,
         ap (λ v. v.results) e ∙ after_answered (λ v. v.results) _ r ok,
       )

@@ -1,5 +1,5 @@
 -- Offsets of coordinates: which sites are too far in x.
-use Rattle.std.proofs.Common.{◌≡◌, ℕ, ◌+◌, ◌-◌, ◌*◌, ◌%◌, ◌^◌, ◌<◌, ◌≤◌, true, false, ◌&&◌, ltb, leb, ◌⊎◌, List, length, get_or, ℤ, pos, negsuc, refl, inl, inr, ⊎_elim, mul-le-mul_right, mul-le-mul_left, mul-lt-mul_of_pos_right, arith, ltb-false, ltb-true, le-leb}
+use Rattle.std.proofs.Common.{◌≡◌, ℕ, ◌+◌, ◌-◌, ◌*◌, ◌%◌, ◌^◌, ◌<◌, ◌≤◌, true, false, ◌&&◌, ltb, leb, ◌⊎◌, List, get_or, ℤ, pos, negsuc, refl, inl, inr, ⊎_elim, mul-le-mul_right, mul-le-mul_left, mul-lt-mul_of_pos_right, arith, ltb-false, ltb-true, le-leb}
 use borrow.Author.Tests.{lt-leb}
 use lib.Signed.{le_z}
 use Rattle.site.specs.Site.{Site, between, within, gap, square, squared_distance}
@@ -11,7 +11,7 @@ use Rattle.site.proofs.Tests.{by_test, and_first}
 use Rattle.site.proofs.Integers.{up, down, le_sides, le_total, le_trans, size_up, size_down}
 use Rattle.site.proofs.Distance.{squared_gap_x, squared_gap_y}
 use Rattle.pairs.specs.declared.Run.{Run}
-use Rattle.pairs.specs.Internal.{offset, offset_at, Rising, Across, Skipped, Behind, RunOf, near}
+use Rattle.pairs.specs.Internal.{offset, Rising, Across, RunOf, near}
 
 within_tests : (x : ℤ) → within x ≡ true → (le_z (negsuc 999_999_999) x && le_z x (pos 1_000_000_000)) ≡ true
 unfolding within between
@@ -87,11 +87,11 @@ far x y h s e beyond =
     (omega (arith, square_lt e (gap x s.x) beyond, squared_gap_x here s)))
 
 -- Nor is one further than `e` in y, by a difference that wraps.
-pub far_y : (x y h : ℤ) (s : Site) (e : ℕ) {a b r : ℕ} → within y ≡ true → within s.y ≡ true → e < 2 ^ 32 → r < 2 ^ 64
-    → a ≡ offset s.y → a < 2 ^ 32 → b ≡ offset y → b < 2 ^ 32 → (r + b) % 2 ^ 64 ≡ a + e → 2 * e < r
+pub far_y : (x y h : ℤ) (s : Site) (e : ℕ) {a b : ℕ} → within y ≡ true → within s.y ≡ true → e < 2 ^ 32
+    → a ≡ offset s.y → a < 2 ^ 32 → b ≡ offset y → b < 2 ^ 32 → 2 * e < (a + e + (2 ^ 64 - b)) % 2 ^ 64
     → near (e * e) x y h s ≡ false
 unfolding near square
-far_y x y h s e {a} {b} {r} i k u v p g q f w t =
+far_y x y h s e {a} {b} i k u p g q f t =
     let here = raised_site x y 0 h in
     let beyond : e < gap y s.y =
     by_test (ltb (a + e) b)
@@ -99,43 +99,6 @@ far_y x y h s e {a} {b} {r} i k u v p g q f w t =
     (λ l. far_right y s.y e i k (omega (arith, ltb-false (a + e) b l))) in
     rw (lt-leb (squared_distance here s) (e * e)
     (omega (arith, square_lt e (gap y s.y) beyond, squared_gap_y here s)))
-
--- Of each place of a range: of none, and of one more.
-pub between_none : (P : ℕ → Type 0) (f : ℕ) (k : ℕ) → f ≤ k → k < f → P k
-between_none P f k h g = absurd (omega arith)
-
-pub between_more : (P : ℕ → Type 0) (f i : ℕ) → ((k : ℕ) → f ≤ k → k < i → P k) → P i
-    → (k : ℕ) → f ≤ k → k < i + 1 → P k
-between_more P f i h p k a b =
-    by_test (ltb k i) (λ t. h k a (ltb-true k i t)) (λ t. let e : k ≡ i = omega (arith, ltb-false k i t) in rw e p)
-
--- A run by its two ends.
-pub run_next : (a b : List ℤ) (e i : ℕ) (last : Run) {x low left right : ℕ} → Rising b → Behind a b e i last
-    → x ≡ offset_at a i → low ≡ x - e
-    → Skipped b last.left low left → Skipped b last.right (x + e + 1) right
-    → RunOf a b e i (record { left = left; right = right })
-run_next a b e i last {x} {low} {left} {right} rises behind p q l r =
-    record {
-      behind = record { left = l.inside; right = r.inside; below = below; reached = reached };
-      from = from;
-      above = above;
-    }
-  where
-    below : (k : ℕ) → k < left → offset_at b k + e < offset_at a i
-    below k h =
-        by_test (ltb k last.left) (λ t. behind.below k (ltb-true k last.left t))
-        (λ t. omega (arith, l.below k (ltb-false k last.left t) h))
-
-    reached : (k : ℕ) → k < right → offset_at b k ≤ offset_at a i + e
-    reached k h =
-        by_test (ltb k last.right) (λ t. behind.reached k (ltb-true k last.right t))
-        (λ t. omega (arith, r.below k (ltb-false k last.right t) h))
-
-    from : (k : ℕ) → left ≤ k → k < length b → offset_at a i ≤ offset_at b k + e
-    from k h g = omega (arith, l.stop (omega arith), rises.rises left k h g)
-
-    above : (k : ℕ) → right ≤ k → k < length b → offset_at a i + e < offset_at b k
-    above k h g = omega (arith, r.stop (omega arith), rises.rises right k h g)
 
 -- Its ends do not cross.
 pub run_ends : {a b : List ℤ} {e i : ℕ} {run : Run} → RunOf a b e i run → run.left ≤ run.right

@@ -1,6 +1,6 @@
 -- The K list of two whole lists.
 use Rattle.std.specs.Prelude.{ℕ, not, List, [], length}
-use Rattle.site.specs.Answer.{Answer, refused, answered, answer_unless, refuse_if, or_else}
+use Rattle.site.specs.Answer.{Answer, answer_unless, refuse_if, or_else}
 use Rattle.site.specs.Site.{Site}
 use Rattle.site.specs.SiteList.{Columns, sites}
 use Rattle.site.specs.Refusal.{lists_refusal}
@@ -11,7 +11,6 @@ use Rattle.sweep.specs.Strip.{whole, all_pairs}
 use Rattle.join.specs.declared.Join.{Join}
 use Rattle.join.specs.Join.{Counts, counts_of, join}
 use Rattle.pairs.specs.declared.Listed.{Listed}
-use Rattle.pairs.specs.declared.Listed.TheVariants.{Entries, Refused}
 
 -- "The first K pairs by rank, or all" where there are fewer. (01: K list.)
 unfoldable pub k_list : ℕ → List Site → List Site → List Entry
@@ -38,7 +37,6 @@ k_list_answer way a b k r =
     let joined = join way k (whole (sites a)) (whole (sites b)) [] in
     answer_unless (k_list_refusal a b k r) (k_list_values (holding l r) (length l) joined.counts)
 
--- The paper's number and values for each case of the answer, with what the result columns hold at exit.
-unfoldable pub listed_answer : Listed → Results → Answer KListValues
-listed_answer (Entries count counters) r = answered (k_list_values r count (counts_of counters))
-listed_answer (Refused number) r = refused number
+-- The values that the struct of the code stands for, with the result columns at exit.
+abbrev pub listed : Results → Listed → KListValues
+listed r told = k_list_values r told.count (counts_of told.counters)

@@ -1,6 +1,5 @@
 -- What a reader must believe of the K list, the distance list and the forecast. The laws are in `proofs/`.
 pub mod KList
-pub mod Within
 pub mod DistanceList
 pub mod Forecast
 -- Nothing to believe: terms that only this crate's functions cite.

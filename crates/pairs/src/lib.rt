@@ -11,18 +11,11 @@ use join::Counters;
 pub use nearby::distance_list;
 pub use partners::forecast;
 
-// What a K list answers: the entry count and the counters, or the refusal's number.
+// What a K list answers: the entry count and the counters.
 #[derive(Clone, Copy)]
-pub enum Listed {
-    Entries { count: u32, counters: Counters },
-    Refused(u32),
-}
-
-// What a distance list and a forecast answer: the number of pairs, or the refusal's number.
-#[derive(Clone, Copy)]
-pub enum Within {
-    Pairs(u64),
-    Refused(u32),
+pub struct Listed {
+    pub count: u32,
+    pub counters: Counters,
 }
 
 // The places of a list from `left` up to, not including, `right`.

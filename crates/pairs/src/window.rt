@@ -8,14 +8,7 @@ use super::Run;
 pub(super) fn offset(x: i32) -> u64
     ensures { (result ≡ offset x) × (result < 2 ^ 32) }
 {
-    ((x as i64) + 2_147_483_648) as u64
-}
-
-// One number less another, or 0 where that is more.
-fn less(a: u64, b: u64) -> u64
-    ensures { result ≡ a - b }
-{
-    if b < a { a - b } else { 0 }
+    u64::from(x.abs_diff(i32::MIN))
 }
 
 // The first place from `from` on whose offset is `limit` or more.
@@ -23,14 +16,12 @@ fn skip_below(xs: &[i32], from: usize, limit: u64) -> usize
     requires { from ≤ length xs.now }
     ensures { Skipped xs.now from limit result }
 {
-    let mut i = from;
-    while i < xs.len() {
+    for i in from..xs.len() {
         if limit <= offset(xs[i]) {
             return i;
         }
-        i += 1;
     }
-    i
+    xs.len()
 }
 
 // The run of a reference: from the run of the one before it, both ends only move right.
@@ -39,9 +30,9 @@ pub(super) fn next_run(a: &[i32], b: &[i32], i: usize, last: Run, e: u32) -> Run
     ensures { RunOf a.now b.now e i result }
 {
     let x = offset(a[i]);
-    let from = last.left;
-    let to = last.right;
-    let left = skip_below(b, from, less(x, e as u64));
-    let right = skip_below(b, to, x + (e as u64) + 1);
-    Run { left, right }
+    let e = e as u64;
+    Run {
+        left: skip_below(b, last.left, x.saturating_sub(e)),
+        right: skip_below(b, last.right, x + e + 1),
+    }
 }

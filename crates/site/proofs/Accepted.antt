@@ -27,7 +27,7 @@ use Rattle.site.proofs.SiteBefore.{site_order}
 use Rattle.site.proofs.SiteList.{nowhere, columns_at, sites_length, sites_at, site_at_lem}
 use Rattle.site.proofs.PositionOrder.{position_not_first, not_before_x}
 use Rattle.site.proofs.Integers.{le_lt_not}
-use Rattle.site.proofs.Refusal.{lawful_is, lawful_up, equal_level, content_left}
+use Rattle.site.proofs.ListRefusal.{lawful_is, lawful_up, equal_level, content_left}
 
 -- Sites that no test refuses, by the tests and one by one.
 module _ (l : List Site) (ok : content_refusal l ≡ 0) where

@@ -1,10 +1,14 @@
 -- The laws of refusal numbers: what is answered under one, which of several comes first, and what it leaves as it was.
-use mathlib.Core.Path.{◌≡◌, refl, sym, ◌∙◌}
+use mathlib.Core.Path.{◌≡◌, refl, sym, ap, ◌∙◌}
 use mathlib.Core.Bool.{Bool, true, false, not, cond}
 use Prim.Native.Nat.{ℕ, zero, suc}
 use native.Mathlib.Omega.{arith}
+use Rattle.std.specs.Prelude.{Result, Ok, Err}
+use Rattle.std.specs.Result.{IsErr, IsErrAnd}
 use borrow.Author.Tests.{not-false}
-use Rattle.site.specs.Answer.{refused, answered, answer_unless, afterwards, number_of, or_else}
+use Rattle.site.specs.declared.refusals.Refusal.{Refusal}
+use Rattle.site.specs.declared.refusals.Refusal.TheVariants as refusal
+use Rattle.site.specs.Answer.{refused, answered, answer_unless, afterwards, number_of, or_else, number, answer_of}
 
 -- There is none, or there is one.
 pub by_number : {P : Type 0} → (n : ℕ) → (n ≡ 0 → P) → ((n ≡ 0 → ⊥) → P) → P
@@ -60,6 +64,49 @@ module _ {A B : Type 0} (value : A → B) where
   pub after_answered : {n : ℕ} (values : A) (before : B) → n ≡ 0 → value values ≡ afterwards value (answer_unless n values) before
   unfolding answer_unless afterwards
   after_answered values before e = rw e
+
+-- ---- what a result of the code answers
+
+-- No refusal has the number 0.
+pub refusal_numbered : (r : Refusal) → number r ≡ 0 → ⊥
+unfolding number
+refusal_numbered refusal.Columns h = omega arith
+refusal_numbered refusal.Limits h = omega arith
+refusal_numbered refusal.Order h = omega arith
+refusal_numbered refusal.K h = omega arith
+refusal_numbered refusal.Ends h = omega arith
+refusal_numbered refusal.Room h = omega arith
+refusal_numbered refusal.Unsound h = omega arith
+refusal_numbered refusal.Place h = omega arith
+refusal_numbered refusal.Settled h = omega arith
+refusal_numbered refusal.File h = omega arith
+refusal_numbered refusal.Present h = omega arith
+refusal_numbered refusal.Gap h = omega arith
+refusal_numbered refusal.Overlap h = omega arith
+refusal_numbered refusal.Price h = omega arith
+refusal_numbered refusal.Customer h = omega arith
+refusal_numbered refusal.Absent h = omega arith
+
+-- What `?` passes on is the refusal that it met.
+pub passed_on : {A : Type 0} {r : Result A Refusal} {e : Refusal} → IsErr r × IsErrAnd r (λ x. x ≡ e) → r ≡ Err e
+passed_on {r = Ok v} h = absurd h.1
+passed_on {r = Err x} h = ap Err h.1
+
+module _ {A B : Type 0} (values : A → B) where
+  -- Its value, where nothing refuses.
+  pub result_ok : {n : ℕ} {v : B} (value : A) → n ≡ 0 → values value ≡ v → answer_of values (Ok value) ≡ answer_unless n v
+  unfolding answer_of
+  result_ok {n} {v} value none is = rw is (answer_values {v = v} none)
+
+  -- Its refusal.
+  pub result_err : {n : ℕ} (v : B) (r : Refusal) → number r ≡ n → answer_of values (Err r) ≡ answer_unless n v
+  unfolding answer_of
+  result_err v r is = answer_refused v is (refusal_numbered r)
+
+  -- A place that it leaves as it was.
+  pub after_err : {C : Type 0} (place : B → C) {n : ℕ} (v : B) (before : C) (r : Refusal) → number r ≡ n
+      → before ≡ afterwards place (answer_unless n v) before
+  after_err place v before r is = after_refused place v before is (refusal_numbered r)
 
 -- ---- the first of two
 

@@ -1,6 +1,6 @@
 -- How many elements fail a test, and how many neighbours are out of order, for loops that count them.
 use mathlib.Core.Path.{◌≡◌, refl, sym}
-use mathlib.Core.Bool.{Bool, true, false, cond}
+use mathlib.Core.Bool.{Bool, true, false, cond, not}
 use mathlib.Core.List.{List, [], ◌∷◌}
 use Prim.Native.Nat.{ℕ, suc, ◌+◌, ◌≤◌, ◌<◌}
 use native.Mathlib.Nat.{zero-add}
@@ -10,6 +10,7 @@ use borrow.Author.Tests.{ne_eqb}
 use lib.Dec.{eqb}
 use lib.ListN.{length, drop, get_or, length-drop, drop_of_length-le}
 use lib.Seq.{drop-cons}
+use mir.Val.{bool_byte}
 use Rattle.order.specs.Order.{ascending}
 use Rattle.order.specs.Lists.{all}
 use Rattle.order.proofs.Order.{by_test}
@@ -22,6 +23,15 @@ yes_le false e = omega arith
 pub no_le : {n : ℕ} (b : Bool) → n ≡ cond b 0 1 → n ≤ 1
 no_le true e = omega arith
 no_le false e = omega arith
+
+-- A test as a number.
+pub yes_byte : (b : Bool) → bool_byte b ≡ cond b 1 0
+yes_byte true = refl
+yes_byte false = refl
+
+pub no_byte : (b : Bool) → bool_byte (not b) ≡ cond b 0 1
+no_byte true = refl
+no_byte false = refl
 
 -- ---- elements that fail a test
 

@@ -1,22 +1,20 @@
 -- A list of the plane with every height 0: its sites, their distances, and its refusal.
 use mathlib.Core.Path.{◌≡◌, refl, sym, ap, ◌∙◌}
-use mathlib.Core.Bool.{true}
+use mathlib.Core.Bool.{true, ◌&&◌, and-true}
 use mathlib.Core.List.{List, [], ◌∷◌, map, zip_with}
 use Prim.Native.Nat.{ℕ, zero, suc, ◌≤◌, ◌+◌}
 use native.Mathlib.Omega.{arith}
-use borrow.Author.Tests.{eqb-true, eqb-false}
-use lib.Dec.{eqb}
 use lib.IntN.{ℤ, pos}
 use lib.ListN.{length, length-map}
 use Rattle.order.specs.Lists.{all, sum}
 use Rattle.order.proofs.Order.{by_test}
 use Rattle.order.proofs.Lists.{length_zip}
-use Rattle.site.specs.Site.{Site, between, height_within, gap, square, squared_distance}
+use Rattle.site.specs.Site.{Site, between, height_within, gap, square, squared_distance, within}
 use Rattle.site.specs.SiteList.{Columns, columns, Plane, on_ground, with_coordinate, with_columns, sites, site_at}
-use Rattle.site.specs.Refusal.{list_refusal, lists_refusal}
+use Rattle.site.specs.Refusal.{size_fault, list_refusal, lists_refusal}
 use Rattle.site.proofs.Distance.{squared_over, gap_same, squared_distance_is, squared_distance_sym}
 use Rattle.site.proofs.SiteList.{nowhere, plane_flattened}
-use Rattle.site.proofs.Refusal.{raised_unequal, raised_same}
+use Rattle.site.proofs.ListRefusal.{sized_level, sizes_refused, plane_content, raised_refused, raised_content}
 
 -- A site with the height 0.
 abbrev pub ground : Site → Site
@@ -82,14 +80,14 @@ zeros_within (x ∷ xs) = zeros_within xs
 
 pub ground_refusal : (c : Columns) → Plane c → list_refusal (on_ground c) ≡ list_refusal c
 ground_refusal c plane =
-    let flat = columns c.x c.y c.number in
     let zeros = map (λ x. pos 0) c.x in
-    by_test (eqb (list_refusal flat) 1)
-    (λ t.
-    let one = sym (eqb-true (list_refusal flat) 1 t) in
-    sym (raised_unequal c.x c.y c.number zeros one) ∙ one)
+    by_test (size_fault (columns c.x c.y c.number) (length c.x))
+    (λ t. sym (raised_refused c.x c.y c.number zeros t) ∙ sizes_refused c.x c.y c.number t)
     (λ f.
-    sym (raised_same c.x c.y c.number zeros (eqb-false (list_refusal flat) 1 f) (sym (length-map c.x (λ x. pos 0))) (zeros_within c.x)))
+    let sized = sized_level c.x c.y c.number f in
+    rw (zeros_within c.x, and-true (all within c.x && all within c.y))
+    at (raised_content c.x c.y c.number zeros sized.0 sized.1 (sym (length-map c.x (λ x. pos 0))))
+    ∙ sym (plane_content c.x c.y c.number sized.0 sized.1))
     ∙ ap list_refusal (sym (plane_flattened c plane))
 
 pub ground_lists : (a b : Columns) → Plane a → Plane b → lists_refusal (on_ground a) (on_ground b) ≡ lists_refusal a b

@@ -12,18 +12,20 @@ use lib.Seq.{length-take-le}
 use Rattle.order.specs.Lists.{all}
 use Rattle.order.specs.Order.{ascending}
 use Rattle.order.proofs.Lists.{all_map, all_weaken}
-use Rattle.site.specs.declared.Changed.TheVariants.{At, Refused}
-use Rattle.site.specs.Answer.{answer_unless, afterwards, or_else}
+use Rattle.site.specs.declared.Changed.{Changed}
+use Rattle.site.specs.declared.refusals.Refusal.{Refusal}
+use Rattle.std.specs.Prelude.{Ok, Err}
+use Rattle.site.specs.Answer.{answer_unless, afterwards, or_else, number, answer_of}
 use Rattle.site.specs.Site.{Site, site_before}
 use Rattle.site.specs.SiteList.{Columns, raised, sites, in_use}
 use Rattle.site.specs.Terms.{Level}
 use Rattle.site.specs.Refusal.{equal_lengths, size_fault, content_refusal, list_refusal}
-use Rattle.site.specs.InUse.{used_refusal, place_of, present, ChangeValues, change_values, changed_answer}
+use Rattle.site.specs.InUse.{used_refusal, place_of, present, ChangeValues, changed}
 use Rattle.site.proofs.Tests.{and_first, and_second}
-use Rattle.site.proofs.Answer.{answer_values, answer_refused, after_refused, after_answered, or_else_first, or_else_second, fault_none}
+use Rattle.site.proofs.Answer.{result_ok, result_err, after_err, after_answered, or_else_first, or_else_second, fault_none}
 use Rattle.site.proofs.SiteList.{sites_length, flattened, flat_level, flat_site, flat_sites}
 use Rattle.site.proofs.PlaceOf.{place_flat, present_flat}
-use Rattle.site.proofs.Refusal.{level_equal, equal_level, content_left, flat_ascending}
+use Rattle.site.proofs.ListRefusal.{level_equal, equal_level, content_left, flat_ascending}
 use Rattle.site.proofs.Accepted.{LawfulList, content_inside, content_order, content_ascends, lawful_accepted}
 
 -- ---- the refusal
@@ -136,18 +138,16 @@ used_accepted c n level inside lawful =
 
 -- ---- the answer of a change
 
-module _ {number : ℕ} (values : ChangeValues) (c : Columns) where
+module _ {n : ℕ} (values : ChangeValues) (c : Columns) where
   -- It is made.
-  pub changed : {d : Columns} {p k : ℕ} → number ≡ 0 → change_values d p k ≡ values
-      → (changed_answer (At p k) d ≡ answer_unless number values) × (d ≡ afterwards (λ v. v.columns) (answer_unless number values) c)
-  unfolding changed_answer
-  changed {d} {p} {k} ok e = (
-    answer_values {v = change_values d p k} ok ∙ ap (answer_unless number) e,
+  pub change_made : {d : Columns} {told : Changed} → n ≡ 0 → changed d told ≡ values
+      → (answer_of (changed d) (Ok told) ≡ answer_unless n values) × (d ≡ afterwards (λ v. v.columns) (answer_unless n values) c)
+  change_made {d} {told} ok e = (
+    result_ok (changed d) told ok e,
     ap (λ (v : ChangeValues). v.columns) e ∙ after_answered (λ v. v.columns) values c ok,
   )
 
   -- It is refused, and changes nothing.
-  pub unchanged : {r : ℕ} → r ≡ number → (r ≡ 0 → ⊥)
-      → (changed_answer (Refused r) c ≡ answer_unless number values) × (c ≡ afterwards (λ v. v.columns) (answer_unless number values) c)
-  unfolding changed_answer
-  unchanged e h = (answer_refused values e h, after_refused (λ v. v.columns) values c e h)
+  pub change_refused : (r : Refusal) → number r ≡ n
+      → (answer_of (changed c) (Err r) ≡ answer_unless n values) × (c ≡ afterwards (λ v. v.columns) (answer_unless n values) c)
+  change_refused r e = (result_err (changed c) values r e, after_err (changed c) (λ v. v.columns) values c r e)

@@ -77,9 +77,6 @@ sides_lt (negsuc a) (negsuc b) h = lt-ltb b a (omega arith)
 pub lt_le : (a b : ℤ) → lt_z a b ≡ true → le_z a b ≡ true
 lt_le a b h = sides_le a b (omega (arith, lt_sides a b h))
 
-pub lt_asym : (a b : ℤ) → lt_z a b ≡ true → lt_z b a ≡ false
-lt_asym a b h = by_test (lt_z b a) (λ k. absurd (omega (arith, lt_sides a b h, lt_sides b a k))) (λ k. k)
-
 pub lt_trans : (a b c : ℤ) → lt_z a b ≡ true → lt_z b c ≡ true → lt_z a c ≡ true
 lt_trans a b c h k = sides_lt a c (omega (arith, lt_sides a b h, lt_sides b c k))
 

@@ -10,7 +10,7 @@ pub mod SiteBefore
 pub mod PositionOrder
 pub mod SiteList
 pub mod Numbered
-pub mod Refusal
+pub mod ListRefusal
 pub mod Accepted
 pub mod Ground
 pub mod PlaceOf

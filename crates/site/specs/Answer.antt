@@ -1,5 +1,7 @@
 -- What a call tells its caller. A refusal is its number in document 01; 0 is none.
-use Rattle.std.specs.Prelude.{Bool, cond, ℕ, zero, suc}
+use Rattle.std.specs.Prelude.{Bool, cond, ℕ, zero, suc, Result, Ok, Err}
+use Rattle.site.specs.declared.refusals.Refusal.{Refusal}
+use Rattle.site.specs.declared.refusals.Refusal.TheVariants as refusal
 
 -- "A refusal answers its number alone"; a success answers its values.
 pub data Answer (A : Type 0) : Type 0 where
@@ -29,3 +31,32 @@ refuse_if fault number = cond fault number 0
 unfoldable pub or_else : ℕ → ℕ → ℕ
 or_else zero next = next
 or_else (suc n) next = suc n
+
+-- The number of a refusal.
+unfoldable pub number : Refusal → ℕ
+number refusal.Columns = 1
+number refusal.Limits = 2
+number refusal.Order = 3
+number refusal.K = 4
+number refusal.Ends = 5
+number refusal.Room = 6
+number refusal.Unsound = 7
+number refusal.Place = 8
+number refusal.Settled = 9
+number refusal.File = 10
+number refusal.Present = 11
+number refusal.Gap = 12
+number refusal.Overlap = 13
+number refusal.Price = 14
+number refusal.Customer = 15
+number refusal.Absent = 16
+
+-- What a result of the code answers: the values that its value stands for, or the refusal's number.
+unfoldable pub answer_of : {A B : Type 0} → (A → B) → Result A Refusal → Answer B
+answer_of values (Ok value) = answered (values value)
+answer_of values (Err r) = refused (number r)
+
+-- The number of a result's refusal, 0 for none.
+unfoldable pub refusal_of : {A : Type 0} → Result A Refusal → ℕ
+refusal_of (Ok value) = 0
+refusal_of (Err r) = number r

@@ -2,8 +2,7 @@
 use Rattle.std.specs.Prelude.{Bool, not, ◌||◌, List, ℕ, length}
 use Rattle.order.specs.Lists.{all, keep}
 use Rattle.site.specs.declared.Changed.{Changed}
-use Rattle.site.specs.declared.Changed.TheVariants.{At, Refused}
-use Rattle.site.specs.Answer.{Answer, refused, answered, refuse_if, or_else}
+use Rattle.site.specs.Answer.{refuse_if, or_else}
 use Rattle.site.specs.Site.{Site, site_before}
 use Rattle.site.specs.SiteList.{Columns, sites, in_use}
 use Rattle.site.specs.Refusal.{size_fault, content_refusal}
@@ -29,7 +28,6 @@ pub record ChangeValues : Type 0 where
 abbrev pub change_values : Columns → ℕ → ℕ → ChangeValues
 change_values c place count = record { columns = c; place = place; count = count }
 
--- The number and the values for each case of `Changed`, with the columns at exit.
-unfoldable pub changed_answer : Changed → Columns → Answer ChangeValues
-changed_answer (At place count) c = answered (change_values c place count)
-changed_answer (Refused number) c = refused number
+-- The values that the struct of the code stands for, with the columns at exit.
+abbrev pub changed : Columns → Changed → ChangeValues
+changed c told = change_values c told.place told.count

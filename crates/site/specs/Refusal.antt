@@ -2,9 +2,7 @@
 use Rattle.std.specs.Prelude.{Bool, not, ◌&&◌, List, ℕ, leb, eqb, length}
 use Rattle.order.specs.Order.{ascending}
 use Rattle.order.specs.Lists.{all}
-use Rattle.site.specs.declared.Checked.{Checked}
-use Rattle.site.specs.declared.Checked.TheVariants.{Sites, Refused}
-use Rattle.site.specs.Answer.{Answer, refused, answered, answer_unless, refuse_if, or_else}
+use Rattle.site.specs.Answer.{Answer, answer_unless, refuse_if, or_else}
 use Rattle.site.specs.Site.{Site, lawful_site, site_before}
 use Rattle.site.specs.SiteList.{Columns, sites}
 
@@ -32,8 +30,3 @@ lists_refusal a b = or_else (list_refusal a) (list_refusal b)
 -- "a list check, the site count", or the refusal.
 unfoldable pub check_answer : Columns → Answer ℕ
 check_answer c = answer_unless (list_refusal c) (length c.x)
-
--- The paper's number and value for each case of the answer.
-unfoldable pub checked_answer : Checked → Answer ℕ
-checked_answer (Sites count) = answered count
-checked_answer (Refused number) = refused number

@@ -2,6 +2,7 @@
 use Rattle.std.specs.Prelude.{◌≡◌, ℕ, ℤ, pos, take, get_or}
 use mathlib.Core.List.{List, [], ◌∷◌, map, zip_with}
 use Rattle.column.specs.Lent.{Lent, LentMut, Held, the, ◌of◌, ◌of_mut◌}
+use Rattle.site.specs.declared.SiteColumns as told
 use Rattle.site.specs.Site.{Site}
 
 -- The columns of a list, as they are lent; `further` has one for each coordinate beside x and y. (01: list.)
@@ -24,6 +25,10 @@ lent_plane x y number = the columns of x of y of number
 
 abbrev pub lent_list : Lent (List ℤ) → Lent (List ℤ) → Lent (List ℕ) → Lent (List ℤ) → Held Columns
 lent_list x y number height = the raised of x of y of number of height
+
+-- The list that the struct of the code lends.
+abbrev pub list_of : told.SiteColumns → Columns
+list_of l = raised l.x.now l.y.now l.number.now l.height.now
 
 abbrev pub lent_list_mut :
     LentMut (List ℤ) → LentMut (List ℤ) → LentMut (List ℕ) → LentMut (List ℤ) → Held Columns

@@ -6,6 +6,7 @@ mod adding;
 mod in_use;
 mod lists;
 mod positions;
+mod refusals;
 mod removing;
 
 ghost use Rattle.std.specs.Prelude.{◌≡◌};
@@ -15,6 +16,7 @@ pub use adding::{add, lawful};
 pub use in_use::{is_present, place_of};
 pub use lists::{before, check, list_refusal, lists_refusal, plane_refusal};
 pub use positions::{at_most, gap, plane_distance, rise, squared_distance, squared_gap};
+pub use refusals::Refusal;
 pub use removing::remove;
 
 // A position, a number and a height. (01: site; 02 l: height.)
@@ -26,18 +28,20 @@ pub struct Site {
     pub height: i32,
 }
 
-// What checking a list answers: how many sites it has, or the refusal's number.
+// A site list as it is lent: a column each for the x, y, numbers and heights of its sites. (01: site list.)
 #[derive(Clone, Copy)]
-pub enum Checked {
-    Sites(u32),
-    Refused(u32),
+pub struct SiteColumns<'a> {
+    pub x: &'a [i32],
+    pub y: &'a [i32],
+    pub number: &'a [u32],
+    pub height: &'a [i32],
 }
 
-// What adding or removing a site answers: its place and the new count in use, or the refusal's number.
+// What adding or removing a site answers: its place and the new count in use.
 #[derive(Clone, Copy)]
-pub enum Changed {
-    At { place: u32, count: u32 },
-    Refused(u32),
+pub struct Changed {
+    pub place: u32,
+    pub count: u32,
 }
 
 // Whether a coordinate is inside two limits, both allowed.

@@ -11,27 +11,20 @@ pub fn at_most(a: i32, b: i32) -> bool
     a <= b
 }
 
-// One coordinate less another.
-fn difference(a: i32, b: i32) -> i64
-    ensures { result ≡ a -ℤ b }
-{
-    (a as i64) - (b as i64)
-}
-
 // The difference of two coordinates.
+#[tactic(auto, unfolding(crate::specs::Site::gap))]
 pub fn gap(a: i32, b: i32) -> u64
     ensures { result ≡ gap a b }
 {
-    let d = difference(a, b);
-    if d < 0 { (0 - d) as u64 } else { d as u64 }
+    a.abs_diff(b) as u64
 }
 
 // How far `b` is above `a`, 0 where it is not.
+#[tactic(auto, unfolding(crate::specs::Site::gap))]
 pub fn rise(a: i32, b: i32) -> u64
     ensures { result ≡ cond (lt_z a b) (gap a b) 0 }
 {
-    let d = difference(b, a);
-    if d < 0 { 0 } else { d as u64 }
+    (b as i64 - a as i64).max(0) as u64
 }
 
 // The square of the difference of two coordinates.

@@ -1,33 +1,21 @@
 // Removing a site from the sites in use.
 ghost use Rattle.std.specs.Prelude.{◌≡◌, ◌≤◌, ◌<◌, length};
-ghost use Rattle.site.specs.Answer.{afterwards};
-ghost use Rattle.site.specs.SiteList.{site, lent_list, lent_list_mut};
-ghost use Rattle.site.specs.InUse.{changed_answer};
+ghost use Rattle.site.specs.Answer.{afterwards, answer_of, refusal_of};
+ghost use Rattle.site.specs.SiteList.{site, list_of, lent_list_mut};
+ghost use Rattle.site.specs.InUse.{changed};
 ghost use Rattle.site.specs.Removal.{remove_refusal, remove_site, remove_answer};
 
-use super::{Changed, in_use};
+use super::{Changed, Refusal, SiteColumns, in_use};
 
-// The refusal of a removal, 1, 2, 3 or 16; 0 for none.
-fn remove_refusal(
-    x: &[i32],
-    y: &[i32],
-    number: &[u32],
-    height: &[i32],
-    count: u32,
-    sx: i32,
-    sy: i32,
-    sn: u32,
-) -> u32
-    ensures { result ≡ remove_refusal (lent_list x y number height).entry count (site sx sy sn) }
+// Whether a removal is refused: for 1, 2, 3 or 16.
+fn remove_refusal(l: SiteColumns<'_>, count: u32, sx: i32, sy: i32, sn: u32) -> Result<(), Refusal>
+    ensures { refusal_of result ≡ remove_refusal (list_of l.entry) count (site sx sy sn) }
 {
-    let refusal = in_use::used_refusal(x, y, number, height, count);
-    if refusal != 0 {
-        return refusal;
-    }
-    if in_use::is_present(x, y, number, count as usize, sx, sy, sn) {
-        0
+    in_use::used_refusal(l, count)?;
+    if in_use::is_present(l.x, l.y, l.number, count as usize, sx, sy, sn) {
+        Ok(())
     } else {
-        16
+        Err(Refusal::Absent)
     }
 }
 
@@ -43,10 +31,10 @@ fn remove_site(
     requires { (place < n) × (n ≤ length x.old) × (n ≤ length y.old) × (n ≤ length number.old) × (n ≤ length height.old) }
     ensures { let c = lent_list_mut x y number height in c.exit ≡ remove_site place n c.entry }
 {
-    column::remove_i32(x, place, n);
-    column::remove_i32(y, place, n);
-    column::remove_u32(number, place, n);
-    column::remove_i32(height, place, n);
+    column::remove(x, place, n);
+    column::remove(y, place, n);
+    column::remove(number, place, n);
+    column::remove(height, place, n);
 }
 
 // A site taken out of its place, later ones moved down by one. (02 f: taking a site out.)
@@ -59,19 +47,23 @@ pub fn remove(
     sx: i32,
     sy: i32,
     sn: u32,
-) -> Changed
-    ensures { let c = lent_list_mut x y number height in let answer = remove_answer c.entry count (site sx sy sn) in
-        (changed_answer result c.exit ≡ answer) × (c.exit ≡ afterwards (λ v. v.columns) answer c.entry) }
+) -> Result<Changed, Refusal>
+    ensures { let c = lent_list_mut x y number height in
+        let answer = remove_answer c.entry count (site sx sy sn) in
+        (answer_of (changed c.exit) result ≡ answer) × (c.exit ≡ afterwards (λ v. v.columns) answer c.entry) }
 {
-    let refusal = remove_refusal(x, y, number, height, count, sx, sy, sn);
-    if refusal != 0 {
-        return Changed::Refused(refusal);
-    }
+    let lent = SiteColumns {
+        x,
+        y,
+        number,
+        height,
+    };
+    remove_refusal(lent, count, sx, sy, sn)?;
     let n = count as usize;
     let place = in_use::place_of(x, y, number, n, sx, sy, sn);
     remove_site(x, y, number, height, place as usize, n);
-    Changed::At {
+    Ok(Changed {
         place,
         count: count - 1,
-    }
+    })
 }

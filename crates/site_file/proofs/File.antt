@@ -1,6 +1,6 @@
 -- The sites in a file's bytes, one after another.
 use mathlib.Core.Path.{◌≡◌, refl, sym, ap, ◌∙◌}
-use mathlib.Core.Bool.{Bool, true, false, and-true}
+use mathlib.Core.Bool.{Bool, true, false, ◌&&◌, and-true}
 use mathlib.Core.List.{List, ◌++◌, flat_map, zip_with}
 use Prim.Native.Nat.{ℕ, zero, suc, ◌+◌, ◌-◌, ◌*◌, ◌≤◌, ◌<◌}
 use native.Mathlib.Nat.{add-zero}
@@ -12,6 +12,7 @@ use lib.Seq.{drop-cons}
 use mir.Syntax.{w32}
 use mir.Val.{SFits, to_z, of_z}
 use mir.Facts.{to_z-of_z}
+use Rattle.std.specs.List.{list_all, range_with_len}
 use Rattle.order.specs.Order.{ascending}
 use Rattle.order.specs.Lists.{all}
 use Rattle.site.specs.Site.{Site, within, all_within, lawful_site, site_before}
@@ -20,21 +21,10 @@ use Rattle.site.specs.Terms.{Level}
 use Rattle.site.proofs.SiteList.{nowhere, sites_length, sites_at}
 use Rattle.site_file.specs.declared.FileSite.{FileSite}
 use Rattle.site_file.specs.declared.Which.{Which}
-use Rattle.site_file.specs.declared.Which.TheVariants.{First, Second}
 use Rattle.site_file.specs.Bytes.{bytes4, word, unsigned, signed}
 use Rattle.column.specs.Column.{stored}
 use Rattle.site_file.specs.File.{site_of_file, site_bytes, start_in, count_in, site_in, sites_from, sites_in}
 use Rattle.column.proofs.Stored.{stored_none, stored_after}
-
--- What the contents say of each list.
-module _ (file : List ℕ) where
-  pub count_first : {r : ℕ} {w : Which} → w ≡ First → r ≡ word file 4 → r ≡ count_in file w
-  unfolding count_in
-  count_first e p = rw e p
-
-  pub count_second : {r : ℕ} {w : Which} → w ≡ Second → r ≡ word file 12 → r ≡ count_in file w
-  unfolding count_in
-  count_second e p = rw e p
 
 -- What the code makes of the bytes at a position.
 module _ (file : List ℕ) (at : ℕ) where
@@ -44,7 +34,7 @@ module _ (file : List ℕ) (at : ℕ) where
   unfolding site_in
   site_made hx hy pa px pb py pn = rw (to_z-of_z hx, to_z-of_z hy, px, py, pa, pb, pn)
 
-  -- What the limits and the order say of sites that were read.
+  -- What the limits say of a site that was read.
   pub lawful_made : {s : FileSite} {p q : Bool} → site_of_file s ≡ site_in file at → SFits w32 s.x
       → p ≡ within (to_z w32 (of_z w32 s.x)) → p ≡ true → SFits w32 s.y → q ≡ within (to_z w32 (of_z w32 s.y))
       → q ≡ lawful_site (site_in file at)
@@ -57,51 +47,39 @@ module _ (file : List ℕ) (at : ℕ) where
   unfolding lawful_site all_within all zip_with
   lawful_not e hx px t = rw (← e, ← (px ∙ ap within (to_z-of_z hx)), t)
 
-  pub ordered_made : {s t : FileSite} {r : Bool} → site_of_file s ≡ site_in file at → site_of_file t ≡ site_in file (at + 12) → SFits w32 s.x
-      → SFits w32 s.y → SFits w32 t.x → SFits w32 t.y
-      → r ≡ site_before (site (to_z w32 (of_z w32 s.x)) (to_z w32 (of_z w32 s.y)) s.number)
-      (site (to_z w32 (of_z w32 t.x)) (to_z w32 (of_z w32 t.y)) t.number)
-      → r ≡ site_before (site_in file at) (site_in file (at + 12))
-  ordered_made e f hx hy kx ky p = rw (← e, ← f) (rw (to_z-of_z hx, to_z-of_z hy, to_z-of_z kx, to_z-of_z ky) at p)
+-- A test of each site of a run, or of each one and the next, by place.
+module _ (file : List ℕ) (start : ℕ) where
+  abbrev pub lawful_place : ℕ → Bool
+  lawful_place i = lawful_site (site_in file (start + 12 * i))
 
-  -- One site of a run that is tested against the limits.
-  pub lawful_step : (left : ℕ) → 0 < left → lawful_site (site_in file at) ≡ true
-      → all lawful_site (sites_from file (at + 12) (left - 1)) ≡ all lawful_site (sites_from file at left)
+  abbrev pub ordered_place : ℕ → Bool
+  ordered_place i = site_before (site_in file (start + 12 * (i - 1))) (site_in file (start + 12 * (i - 1) + 12))
+
+  lawful_from : (at i n : ℕ) → at ≡ start + 12 * i
+      → list_all lawful_place (range_with_len i n) ≡ all lawful_site (sites_from file at n)
   unfolding all sites_from
-  lawful_step zero h t = absurd (omega arith)
-  lawful_step (suc n) h t = let e : suc n - 1 ≡ n = omega arith in rw (t, e)
+  lawful_from at i zero e = refl
+  lawful_from at i (suc n) e =
+      rw (← e) (ap (λ (b : Bool). lawful_site (site_in file at) && b) (lawful_from (at + 12) (i + 1) n (omega arith)))
 
-  pub lawful_stop : (left : ℕ) → 0 < left → lawful_site (site_in file at) ≡ false
-      → false ≡ all lawful_site (sites_from file at left)
-  unfolding all sites_from
-  lawful_stop zero h t = absurd (omega arith)
-  lawful_stop (suc n) h t = rw t
-
-  pub lawful_end : (left : ℕ) → left ≤ 0 → true ≡ all lawful_site (sites_from file at left)
-  unfolding all sites_from
-  lawful_end zero h = refl
-  lawful_end (suc n) h = absurd (omega arith)
-
-  -- One site of a run that is tested for its order.
-  pub ascending_step : (left : ℕ) → 1 < left → site_before (site_in file at) (site_in file (at + 12)) ≡ true
-      → ascending site_before (sites_from file (at + 12) (left - 1)) ≡ ascending site_before (sites_from file at left)
+  ascending_from : (at i n : ℕ) → at ≡ start + 12 * i
+      → list_all ordered_place (range_with_len (i + 1) n) ≡ ascending site_before (sites_from file at (suc n))
   unfolding ascending sites_from
-  ascending_step zero h t = absurd (omega arith)
-  ascending_step (suc zero) h t = absurd (omega arith)
-  ascending_step (suc (suc n)) h t = let e : suc (suc n) - 1 ≡ suc n = omega arith in rw (t, e)
+  ascending_from at i zero e = refl
+  ascending_from at i (suc n) e =
+      let same : start + 12 * (i + 1 - 1) ≡ at = omega arith in
+      rw same
+      (ap (λ (b : Bool). site_before (site_in file at) (site_in file (at + 12)) && b)
+      (ascending_from (at + 12) (i + 1) n (omega arith)))
 
-  pub ascending_stop : (left : ℕ) → 1 < left → site_before (site_in file at) (site_in file (at + 12)) ≡ false
-      → false ≡ ascending site_before (sites_from file at left)
-  unfolding ascending sites_from
-  ascending_stop zero h t = absurd (omega arith)
-  ascending_stop (suc zero) h t = absurd (omega arith)
-  ascending_stop (suc (suc n)) h t = rw t
+  pub lawful_run : (n : ℕ) → list_all lawful_place (range_with_len 0 n) ≡ all lawful_site (sites_from file start n)
+  lawful_run n = lawful_from start 0 n (omega arith)
 
-  pub ascending_end : (left : ℕ) → left ≤ 1 → true ≡ ascending site_before (sites_from file at left)
+  pub ascending_run : (n : ℕ)
+      → list_all ordered_place (range_with_len 1 (n - 1)) ≡ ascending site_before (sites_from file start n)
   unfolding ascending sites_from
-  ascending_end zero h = refl
-  ascending_end (suc zero) h = refl
-  ascending_end (suc (suc n)) h = absurd (omega arith)
+  ascending_run zero = refl
+  ascending_run (suc n) = let one : suc n - 1 ≡ n = omega arith in rw one (ascending_from start 0 n (omega arith))
 
 -- The sites from a position on, by place.
 pub from_length : (l : List ℕ) (at n : ℕ) → length (sites_from l at n) ≡ n
@@ -137,20 +115,21 @@ site_stored l at n x y h hx hy pa e pb f g =
 
 -- One site stored, and then the rest of the list.
 module _ (c : Columns) (level : Level c) where
-  pub sites_step : (l : List ℕ) (at i : ℕ) {m : List ℕ} → at + 12 ≤ length l → i < length c.x
+  pub sites_step : (l : List ℕ) (start i : ℕ) {m : List ℕ} → start + 12 * i + 12 ≤ length l → i < length c.x
       → SFits w32 (get_or c.x i (pos 0)) → SFits w32 (get_or c.y i (pos 0))
-      → m ≡ stored at
+      → m ≡ stored (start + 12 * i)
       (site_bytes
       (site (to_z w32 (of_z w32 (get_or c.x i (pos 0)))) (to_z w32 (of_z w32 (get_or c.y i (pos 0))))
       (get_or c.number i 0)))
       l
-      → stored (at + 12) (flat_map site_bytes (drop (i + 1) (sites c))) m
-      ≡ stored at (flat_map site_bytes (drop i (sites c))) l
+      → stored (start + 12 * (i + 1)) (flat_map site_bytes (drop (i + 1) (sites c))) m
+      ≡ stored (start + 12 * i) (flat_map site_bytes (drop i (sites c))) l
   unfolding flat_map site_bytes bytes4
-  sites_step l at i h lt hx hy e =
+  sites_step l start i h lt hx hy e =
+      let next : start + 12 * (i + 1) ≡ start + 12 * i + 12 = omega arith in
       let left = drop-cons (sites c) i nowhere (omega (arith, sites_length c level)) in
-      rw (e, to_z-of_z hx, to_z-of_z hy, left, sites_at c level i nowhere lt, add-one)
-      (stored_after at (at + 12) _ _ l refl h)
+      rw (next, e, to_z-of_z hx, to_z-of_z hy, left, sites_at c level i nowhere lt, add-one)
+      (stored_after (start + 12 * i) (start + 12 * i + 12) _ _ l refl h)
 
   pub sites_end : (l : List ℕ) (at i : ℕ) → length c.x ≤ i → l ≡ stored at (flat_map site_bytes (drop i (sites c))) l
   unfolding flat_map

@@ -1,5 +1,5 @@
 -- The refusals of a file, one test after another.
-use mathlib.Core.Path.{◌≡◌, sym, ◌∙◌}
+use mathlib.Core.Path.{◌≡◌, refl, sym}
 use mathlib.Core.Bool.{Bool, true, false, not, ◌&&◌, ◌||◌}
 use mathlib.Core.List.{List}
 use Prim.Native.Nat.{ℕ, ◌+◌, ◌*◌, ◌≤◌, ◌<◌}
@@ -10,13 +10,15 @@ use lib.ListN.{length}
 use Rattle.order.specs.Order.{ascending}
 use Rattle.order.specs.Lists.{all}
 use Rattle.site.specs.Site.{Site, lawful_site, site_before}
-use Rattle.site.specs.Answer.{refused, answered, answer_unless, refuse_if, or_else}
+use Rattle.std.specs.Prelude.{Ok, Err}
+use Rattle.site.specs.declared.refusals.Refusal.{Refusal}
+use Rattle.site.specs.Answer.{answered, answer_unless, refuse_if, or_else, number, answer_of}
 use Rattle.site.specs.SiteList.{site_at}
 use Rattle.site.specs.Refusal.{content_refusal}
 use Rattle.site.proofs.Tests.{by_test, and_first, and_second, or_first, or_second}
 use Rattle.site.proofs.Answer.{
-  answer_values,
-  answer_refused,
+  result_ok,
+  result_err,
   first_refused,
   next_decides,
   or_else_first,
@@ -28,7 +30,7 @@ use Rattle.site_file.specs.Bytes.{word}
 use Rattle.site_file.specs.declared.Which.{Which}
 use Rattle.site_file.specs.declared.Which.TheVariants.{First, Second}
 use Rattle.site_file.specs.File.{start_in, count_in, site_in, sites_from, sites_in}
-use Rattle.site_file.specs.Calls.{contents_refusal, read_refusal, read_answer, site_refusal, site_answer}
+use Rattle.site_file.specs.Calls.{contents_refusal, read_refusal, counts, read_answer, site_refusal, site_answer}
 use Rattle.site_file.proofs.File.{from_at}
 
 -- The tests of a file's contents, in their order.
@@ -127,24 +129,24 @@ module _ (l : List Site) {b : Bool} (p : b ≡ all lawful_site l) where
   lawful_sites t q f = rw (← p, t, ← q, f)
 
 -- What the parts of a reading answer.
-module _ (file : List ℕ) {r : ℕ} (p : r ≡ contents_refusal file) where
-  pub read_stops : (r ≡ 0 → ⊥) → r ≡ read_refusal file
+module _ (file : List ℕ) where
+  pub read_stops : {r : ℕ} → r ≡ contents_refusal file → (r ≡ 0 → ⊥) → r ≡ read_refusal file
   unfolding read_refusal
-  read_stops h = first_refused _ p h
+  read_stops p h = first_refused _ p h
 
-  module _ (z : r ≡ 0) {n s : ℕ} (pn : n ≡ word file 4) (ps : s ≡ content_refusal (sites_from file 16 n)) where
+  module _ (p : 0 ≡ contents_refusal file) {n s : ℕ} (pn : n ≡ word file 4) (ps : s ≡ content_refusal (sites_from file 16 n)) where
     first_content : s ≡ content_refusal (sites_in file First)
     unfolding sites_in start_in count_in
-    first_content = rw ((laid file (sym p ∙ z)).first, ← pn) ps
+    first_content = rw ((laid file (sym p)).first, ← pn) ps
 
     pub read_first : (s ≡ 0 → ⊥) → s ≡ read_refusal file
     unfolding read_refusal
-    read_first h = next_decides p z (first_refused _ first_content h)
+    read_first h = next_decides p refl (first_refused _ first_content h)
 
     pub read_second : s ≡ 0 → {m k t : ℕ} → k ≡ word file 8 → m ≡ word file 12 → t ≡ content_refusal (sites_from file k m)
         → t ≡ read_refusal file
     unfolding read_refusal sites_in start_in count_in
-    read_second h pk pm pt = next_decides p z (next_decides first_content h (rw (← pk, ← pm) pt))
+    read_second h pk pm pt = next_decides p refl (next_decides first_content h (rw (← pk, ← pm) pt))
 
 -- What a file that is not refused says.
 module _ (file : List ℕ) (h : read_refusal file ≡ 0) where
@@ -161,15 +163,15 @@ module _ (file : List ℕ) (h : read_refusal file ≡ 0) where
   read_content Second = or_else_second _ _ (or_else_second _ _ h)
 
 -- The answers of a reading.
-module _ (file : List ℕ) {r : ℕ} (p : r ≡ read_refusal file) where
-  pub read_refused : (r ≡ 0 → ⊥) → refused r ≡ read_answer file
+module _ (file : List ℕ) where
+  pub read_refused : (r : Refusal) → number r ≡ read_refusal file → answer_of counts (Err r) ≡ read_answer file
   unfolding read_answer
-  read_refused h = answer_refused _ p h
+  read_refused r p = result_err counts _ r p
 
-  pub read_answered : r ≡ 0 → {a b : ℕ} → a ≡ word file 4 → b ≡ word file 12
-      → answered (record { first = a; second = b }) ≡ read_answer file
+  pub read_answered : 0 ≡ read_refusal file → {a b : ℕ} → a ≡ word file 4 → b ≡ word file 12
+      → answer_of counts (Ok (record { first = a; second = b })) ≡ read_answer file
   unfolding read_answer count_in
-  read_answered z pa pb = rw (← pa, ← pb) (answer_values (sym p ∙ z))
+  read_answered p pa pb = rw (← pa, ← pb) (result_ok counts _ (sym p) refl)
 
 -- Where a list of a lawful file lies.
 pub record Inside (file : List ℕ) (w : Which) : Type 0 where

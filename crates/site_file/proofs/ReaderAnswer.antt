@@ -18,14 +18,6 @@ use Rattle.site_file.specs.Calls.{contents_refusal, site_refusal, site_answer}
 use Rattle.site_file.specs.ReaderAnswer.{held_start, own_starts, reader_refusal, reader_answer}
 use Rattle.site_file.proofs.ReadAnswer.{laid, inside, site_position}
 
-pub held_first : (first second : ℕ) {r : ℕ} {w : Which} → w ≡ First → r ≡ first → r ≡ held_start first second w
-unfolding held_start
-held_first first second e p = rw e p
-
-pub held_second : (first second : ℕ) {r : ℕ} {w : Which} → w ≡ Second → r ≡ second → r ≡ held_start first second w
-unfolding held_start
-held_second first second e p = rw e p
-
 -- Held starts that are the file's.
 pub held_start_lem : (file : List ℕ) (w : Which) {a b first second : ℕ} → a ≡ word file 0 → a ≡ first → b ≡ word file 8
     → b ≡ second → held_start first second w ≡ start_in file w
@@ -33,25 +25,25 @@ unfolding held_start start_in
 held_start_lem file First p e q f = sym e ∙ p
 held_start_lem file Second p e q f = sym f ∙ q
 
-module _ (file : List ℕ) (first second : ℕ) (w : Which) (place : ℕ) {r : ℕ} (p : r ≡ contents_refusal file) where
-  pub held_refused : (r ≡ 0 → ⊥) → refused r ≡ reader_answer file first second w place
+module _ (file : List ℕ) (first second : ℕ) (w : Which) (place : ℕ) where
+  pub held_refused : {r : ℕ} → r ≡ contents_refusal file → (r ≡ 0 → ⊥) → refused r ≡ reader_answer file first second w place
   unfolding reader_answer reader_refusal
-  held_refused h = answer_refused _ (first_refused _ p h) h
+  held_refused p h = answer_refused _ (first_refused _ p h) h
 
-  module _ (z : r ≡ 0) {a : ℕ} (pa : a ≡ word file 0) where
+  module _ (p : 0 ≡ contents_refusal file) {a : ℕ} (pa : a ≡ word file 0) where
     pub held_first_wrong : (a ≡ first → ⊥) → refused 10 ≡ reader_answer file first second w place
     unfolding reader_answer reader_refusal own_starts start_in answer_unless or_else
-    held_first_wrong h = rw (← p, z, ← pa, ne_eqb a first h)
+    held_first_wrong h = rw (← p, ← pa, ne_eqb a first h)
 
     module _ (e : a ≡ first) {b : ℕ} (pb : b ≡ word file 8) where
       pub held_second_wrong : (b ≡ second → ⊥) → refused 10 ≡ reader_answer file first second w place
       unfolding reader_answer reader_refusal own_starts start_in answer_unless or_else
-      held_second_wrong h = rw (← p, z, ← pa, eq-eqb a first e, ← pb, ne_eqb b second h)
+      held_second_wrong h = rw (← p, ← pa, eq-eqb a first e, ← pb, ne_eqb b second h)
 
       module _ (f : b ≡ second) {n : ℕ} (pn : n ≡ count_in file w) where
         pub held_past : n ≤ place → refused 8 ≡ reader_answer file first second w place
         unfolding reader_answer reader_refusal own_starts start_in answer_unless or_else
-        held_past h = rw (← p, z, ← pa, eq-eqb a first e, ← pb, eq-eqb b second f, ← pn, le-leb n place h)
+        held_past h = rw (← p, ← pa, eq-eqb a first e, ← pb, eq-eqb b second f, ← pn, le-leb n place h)
 
         pub held_found : place < n → {k : ℕ} {s : Site} → k ≡ held_start first second w
             → s ≡ site_in file (k + 12 * place) → answered s ≡ reader_answer file first second w place
@@ -59,7 +51,6 @@ module _ (file : List ℕ) (first second : ℕ) (w : Which) (place : ℕ) {r : �
         held_found h pk ps =
             rw (
               ← p,
-              z,
               ← pa,
               eq-eqb a first e,
               ← pb,
@@ -73,7 +64,7 @@ module _ (file : List ℕ) (first second : ℕ) (w : Which) (place : ℕ) {r : �
         pub held_reach : place < n → {k : ℕ} → k ≡ held_start first second w
             → (k + 12 * place + 12 ≤ length file) × (length file ≤ 1_572_856)
         held_reach h pk =
-            let g = inside file w (laid file (sym p ∙ z)) in
+            let g = inside file w (laid file (sym p)) in
             let start = held_start_lem file w pa e pb f in (omega arith, g.small)
 
 -- Through its own starts a file is consulted as by itself.

@@ -8,7 +8,7 @@ use lib.Seq.{take-add, take_all, take_at, drop-drop}
 use Rattle.order.specs.Lists.{All}
 use Rattle.column.specs.Column.{overwritten}
 use Rattle.site.specs.Site.{Site}
-use Rattle.site.specs.Answer.{answered, or_else}
+use Rattle.site.specs.Answer.{answered, or_else, answer_of}
 use Rattle.site.specs.SiteList.{Columns, sites, site_at, columns_of}
 use Rattle.site.specs.Refusal.{content_refusal, lists_refusal}
 use Rattle.site.proofs.Answer.{answer_values, answered_values, or_none}
@@ -97,7 +97,7 @@ yields_site file w c place ok same count h =
     site_found file w place (sym ok) (omega arith) ∙ ap (λ (l : List Site). answered (site_at l place)) same
 
 pub every_output_accepted : EveryOutputAccepted
-unfolding count_in
+unfolding count_in answer_of
 every_output_accepted a b buffer v pa pb ha hb h =
     let out = output_bytes a b buffer v h in
     let k = ready a b (length buffer) out.0 in
@@ -117,7 +117,7 @@ every_output_accepted a b buffer v pa pb ha hb h =
     file_accepted (sites a) (sites b) la lb fa fb (accepted_content a k.first) (accepted_content b k.second) in
     rw out.1
     (record {
-      accepted = sym (read_answered file accepted refl (sym n) (sym m));
+      accepted = sym (read_answered file accepted (sym n) (sym m));
       first = first;
       second = second;
       first_site = λ place lt. yields_site file First a place ok first n lt;
@@ -178,7 +178,7 @@ every_accepted_is_output file h ok =
       columns_numbers file (start_in file First) (word file 4) h,
       columns_numbers file (start_in file Second) (word file 12) h,
       λ buffer room.
-          let none = write_ready a b (length buffer) refl lists (omega (arith, g.size)) in
+          let none = write_ready a b (length buffer) (sym lists) (omega (arith, g.size)) in
           sym (answer_values (sym none)) ∙ ap
           (λ (l : List ℕ). answered (write_values (overwritten l buffer) (length l))) bytes,
     )

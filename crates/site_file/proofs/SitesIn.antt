@@ -12,7 +12,7 @@ use Rattle.site.specs.Site.{Site, within, further_limits, all_within, lawful_sit
 use Rattle.site.specs.SiteList.{Columns, Plane, sites, columns_of}
 use Rattle.site.specs.Refusal.{content_refusal, list_refusal}
 use Rattle.site.proofs.Tests.{and_first, and_second}
-use Rattle.site.proofs.Refusal.{lawful_is, plane_flat, content_left}
+use Rattle.site.proofs.ListRefusal.{lawful_is, plane_flat, content_left}
 use Rattle.site.proofs.SiteList.{flattened, plane_flattened, sites_numbered, Flat, columns_sites, columns_length, columns_level}
 use Rattle.site.proofs.Accepted.{accepted_lawful}
 use Rattle.site_file.specs.declared.Which.{Which}

@@ -13,21 +13,20 @@ use native.Mathlib.Nat.{
 }
 use native.Mathlib.Omega.{arith}
 use borrow.Author.Tests.{leb-true}
-use lib.Dec.{ltb, leb}
+use lib.Dec.{leb}
 use lib.IntN.{ℤ, pos, negsuc}
 use lib.ListN.{length, take, drop, get_or, length-drop, drop_of_length-le}
 use lib.Seq.{get_or-append-add, get_or-drop, take_all}
 use mir.Syntax.{w32}
-use mir.Val.{SFits, to_z, of_z}
+use mir.Val.{SFits}
 use mir.Facts.{to_z-of_z, of_z-to_z}
 use mathlib.Core.Bool.{true}
 use Rattle.order.specs.Lists.{All}
 use Rattle.site.specs.Site.{between, within}
-use Rattle.order.proofs.Order.{by_test}
 use Rattle.order.proofs.Lists.{all_drop}
 use Rattle.site.proofs.Tests.{and_first}
 use Rattle.site_file.specs.Bytes.{bytes4, word, unsigned, signed}
-use Rattle.site_file.proofs.Bytes.{unsigned_fits}
+use Rattle.site_file.proofs.Bytes.{signed_bits, unsigned_bits, unsigned_fits}
 
 -- What a slice of bytes can hold.
 abbrev pub Bytes : List ℕ → Type 0
@@ -96,18 +95,6 @@ bytes_first (a ∷ b ∷ c ∷ d ∷ l) h k =
       mod-eq_of_lt h.1.1.1.0,
     )
 
--- A signed number of 32 bits by its bits.
-unsigned_bits : (z : ℤ) → unsigned z ≡ of_z w32 z
-unfolding unsigned
-unsigned_bits (pos n) = refl
-unsigned_bits (negsuc n) = omega arith
-
-signed_bits : (n : ℕ) → n < 4_294_967_296 → signed n ≡ to_z w32 n
-unfolding signed
-signed_bits n h =
-    by_test (ltb n 2_147_483_648) (λ t. rw t)
-    (λ t. let e : 4_294_967_295 - n ≡ 4_294_967_296 - suc n = omega arith in rw (t, e))
-
 -- A coordinate inside the limits fits 32 bits, and comes back.
 within_fits : (z : ℤ) → within z ≡ true → SFits w32 z
 unfolding within between
@@ -142,20 +129,9 @@ word_drop l at = rw (get_or-drop at l 0 0, get_or-drop at l 1 0, get_or-drop at 
 pub rest_of : {A : Type 0} (l : List A) (at : ℕ) → take (length l - at) (drop at l) ≡ drop at l
 rest_of l at = take_all (length l - at) (drop at l) (omega (arith, length-drop at l))
 
-word_first_of : (l : List ℕ) {a b c d r : ℕ} → r ≡ a + 256 * b + 65_536 * c + 16_777_216 * d → a ≡ get_or l 0 0
-    → b ≡ get_or l 1 0 → c ≡ get_or l 2 0 → d ≡ get_or l 3 0 → r ≡ word l 0
-unfolding word
-word_first_of l p pa pb pc pd = omega arith
-
 -- A word is made of bytes of the rest of a list, and is 0 past its end.
-module _ (l : List ℕ) (at : ℕ) where
-  abbrev rest : List ℕ
-  rest = take (length l - at) (drop at l)
-
-  pub word_made : {a b c d r : ℕ} → r ≡ a + 256 * b + 65_536 * c + 16_777_216 * d → a ≡ get_or rest 0 0
-      → b ≡ get_or rest 1 0 → c ≡ get_or rest 2 0 → d ≡ get_or rest 3 0 → r ≡ word l at
-  word_made p pa pb pc pd =
-      word_first_of rest p pa pb pc pd ∙ ap (λ (m : List ℕ). word m 0) (rest_of l at) ∙ sym (word_drop l at)
+pub word_made : (l : List ℕ) (at : ℕ) {r : ℕ} → r ≡ word (take (length l - at) (drop at l)) 0 → r ≡ word l at
+word_made l at p = p ∙ ap (λ (m : List ℕ). word m 0) (rest_of l at) ∙ sym (word_drop l at)
 
 word_nothing : word [] 0 ≡ 0
 unfolding word

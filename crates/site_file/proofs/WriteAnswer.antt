@@ -9,13 +9,15 @@ use lib.ListN.{length, length-append}
 use Rattle.column.specs.Column.{overwritten, stored}
 use Rattle.column.proofs.Stored.{stored_start, stored_after}
 use Rattle.site.specs.Site.{Site}
-use Rattle.site.specs.Answer.{refused, answered, afterwards}
+use Rattle.std.specs.Prelude.{Ok, Err}
+use Rattle.site.specs.declared.refusals.Refusal.{Refusal}
+use Rattle.site.specs.Answer.{afterwards, number, answer_of}
 use Rattle.site.specs.SiteList.{Columns, sites}
 use Rattle.site.specs.Refusal.{list_refusal, lists_refusal}
 use Rattle.site.proofs.Answer.{
-  answer_values,
-  answer_refused,
-  after_refused,
+  result_ok,
+  result_err,
+  after_err,
   after_answered,
   first_refused,
   next_decides,
@@ -94,32 +96,32 @@ lists_length a b h =
     omega (arith, file_length (sites a) (sites b), accepted_length a lists.0, accepted_length b lists.1)
 
 -- The refusal of two lists: the first one's, else the second one's.
-module _ (a b : Columns) {r : ℕ} (p : r ≡ list_refusal a) where
-  pub lists_first : (r ≡ 0 → ⊥) → r ≡ lists_refusal a b
+module _ (a b : Columns) {r : ℕ} where
+  pub lists_first : r ≡ list_refusal a → (r ≡ 0 → ⊥) → r ≡ lists_refusal a b
   unfolding lists_refusal
-  lists_first h = first_refused _ p h
+  lists_first p h = first_refused _ p h
 
-  pub lists_second : r ≡ 0 → {s : ℕ} → s ≡ list_refusal b → s ≡ lists_refusal a b
+  pub lists_second : 0 ≡ list_refusal a → r ≡ list_refusal b → r ≡ lists_refusal a b
   unfolding lists_refusal
-  lists_second z q = next_decides p z q
+  lists_second p q = next_decides p refl q
 
 -- The refusals of writing, one test after another.
-module _ (a b : Columns) (room : ℕ) {r : ℕ} (p : r ≡ lists_refusal a b) where
-  pub write_lists : (r ≡ 0 → ⊥) → r ≡ write_refusal a b room
+module _ (a b : Columns) (room : ℕ) where
+  pub write_lists : {r : ℕ} → r ≡ lists_refusal a b → (r ≡ 0 → ⊥) → r ≡ write_refusal a b room
   unfolding write_refusal
-  write_lists h = first_refused _ p h
+  write_lists p h = first_refused _ p h
 
-  pub write_short : r ≡ 0 → room < 16 + 12 * length a.x + 12 * length b.x → 6 ≡ write_refusal a b room
+  pub write_short : 0 ≡ lists_refusal a b → room < 16 + 12 * length a.x + 12 * length b.x → 6 ≡ write_refusal a b room
   unfolding write_refusal
-  write_short z h =
-      let e = lists_length a b (sym p ∙ z) in
-      next_decides p z (rw (lt-ltb room (length (file_bytes (sites a) (sites b))) (omega arith)))
+  write_short p h =
+      let e = lists_length a b (sym p) in
+      next_decides p refl (rw (lt-ltb room (length (file_bytes (sites a) (sites b))) (omega arith)))
 
-  pub write_ready : r ≡ 0 → 16 + 12 * length a.x + 12 * length b.x ≤ room → 0 ≡ write_refusal a b room
+  pub write_ready : 0 ≡ lists_refusal a b → 16 + 12 * length a.x + 12 * length b.x ≤ room → 0 ≡ write_refusal a b room
   unfolding write_refusal
-  write_ready z h =
-      let e = lists_length a b (sym p ∙ z) in
-      next_decides p z (rw (le-ltb room (length (file_bytes (sites a) (sites b))) (omega arith)))
+  write_ready p h =
+      let e = lists_length a b (sym p) in
+      next_decides p refl (rw (le-ltb room (length (file_bytes (sites a) (sites b))) (omega arith)))
 
 -- What is known where nothing refuses.
 pub record Ready (a b : Columns) (room : ℕ) : Type 0 where
@@ -148,28 +150,30 @@ ready a b room h =
     }
 
 -- The answers of writing, and what the buffer then holds.
-module _ (a b : Columns) (buffer : List ℕ) {r : ℕ} (p : r ≡ write_refusal a b (length buffer)) where
-  pub write_refused : (r ≡ 0 → ⊥)
-      → (refused r ≡ write_answer a b buffer) × (buffer ≡ afterwards (λ v. v.buffer) (write_answer a b buffer) buffer)
+module _ (a b : Columns) (buffer : List ℕ) where
+  pub write_refused : (r : Refusal) → number r ≡ write_refusal a b (length buffer)
+      → (answer_of (write_values buffer) (Err r) ≡ write_answer a b buffer) × (buffer ≡ afterwards (λ v. v.buffer) (write_answer a b buffer) buffer)
   unfolding write_answer
-  write_refused h = (answer_refused _ p h, after_refused _ _ _ p h)
+  write_refused r p = (result_err (write_values buffer) _ r p, after_err (write_values buffer) _ _ _ r p)
 
   -- The parts of a file were stored one after another.
-  module _ (z : r ≡ 0) {q s t : List ℕ}
+  module _ (p : 0 ≡ write_refusal a b (length buffer)) {q s t : List ℕ}
       (e : q ≡ stored 0 (contents_bytes (length a.x) (length b.x)) buffer)
       (f : s ≡ stored 16 (flat_map site_bytes (sites a)) q)
       (g : t ≡ stored (16 + 12 * length a.x) (flat_map site_bytes (sites b)) s) where
     stored_file : t ≡ overwritten (file_bytes (sites a) (sites b)) buffer
     stored_file =
-        let k = ready a b (length buffer) (sym p ∙ z) in
+        let k = ready a b (length buffer) (sym p) in
         let na : length (sites a) ≡ length a.x = accepted_length a k.first in
         let nb : length (sites b) ≡ length b.x = accepted_length b k.second in
         rw (g, f, e, ← na, ← nb) (file_stored (sites a) (sites b) buffer (omega arith))
 
     pub write_answered :
-        (answered (write_values t (16 + 12 * length a.x + 12 * length b.x)) ≡ write_answer a b buffer)
+        (answer_of (write_values t) (Ok (16 + 12 * length a.x + 12 * length b.x)) ≡ write_answer a b buffer)
         × (t ≡ afterwards (λ v. v.buffer) (write_answer a b buffer) buffer)
     unfolding write_answer
     write_answered =
-        let size = (ready a b (length buffer) (sym p ∙ z)).size in
-        (rw (← size, stored_file) (answer_values (sym p ∙ z)), stored_file ∙ after_answered _ _ _ (sym p ∙ z))
+        let size = (ready a b (length buffer) (sym p)).size in (
+          result_ok (write_values t) _ (sym p) (rw (stored_file, size)),
+          stored_file ∙ after_answered _ _ _ (sym p),
+        )

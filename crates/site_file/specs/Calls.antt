@@ -2,18 +2,13 @@
 use Rattle.std.specs.Prelude.{not, ◌&&◌, ◌||◌, List, ℕ, ◌+◌, ◌*◌, leb, ltb, eqb, length}
 use Rattle.column.specs.Column.{overwritten}
 use Rattle.site.specs.Site.{Site}
-use Rattle.site.specs.Answer.{Answer, refused, answered, answer_unless, refuse_if, or_else}
+use Rattle.site.specs.Answer.{Answer, answer_unless, refuse_if, or_else}
 use Rattle.site.specs.SiteList.{Columns, sites, site_at}
 use Rattle.site.specs.Refusal.{content_refusal, lists_refusal}
 use Rattle.site_file.specs.declared.Which.{Which}
 use Rattle.site_file.specs.declared.Which.TheVariants.{First, Second}
-use Rattle.site_file.specs.declared.Written.{Written}
-use Rattle.site_file.specs.declared.Written.TheVariants as written
-use Rattle.site_file.specs.declared.FileRead.{FileRead}
-use Rattle.site_file.specs.declared.FileRead.TheVariants as read
-use Rattle.site_file.specs.declared.SiteRead.{SiteRead}
-use Rattle.site_file.specs.declared.SiteRead.TheVariants as found
-use Rattle.site_file.specs.File.{file_bytes, start_in, count_in, sites_in, site_of_file}
+use Rattle.site_file.specs.declared.Counts.{Counts}
+use Rattle.site_file.specs.File.{file_bytes, start_in, count_in, sites_in}
 
 pub record WriteValues : Type 0 where
   pub buffer : List ℕ
@@ -54,6 +49,10 @@ pub record ReadValues : Type 0 where
 abbrev pub read_values : ℕ → ℕ → ReadValues
 read_values first second = record { first = first; second = second }
 
+-- The values that the struct of the code stands for.
+abbrev pub counts : Counts → ReadValues
+counts told = read_values told.first told.second
+
 -- "the file reader, both site counts", or the refusal.
 unfoldable pub read_answer : List ℕ → Answer ReadValues
 read_answer file = answer_unless (read_refusal file) (read_values (count_in file First) (count_in file Second))
@@ -65,16 +64,3 @@ site_refusal file which place = or_else (contents_refusal file) (refuse_if (leb 
 -- "a site of a file, its x, y and number", or the refusal.
 unfoldable pub site_answer : List ℕ → Which → ℕ → Answer Site
 site_answer file which place = answer_unless (site_refusal file which place) (site_at (sites_in file which) place)
-
--- 01's number and values for each case of each answer; a file's values include what the lent buffer then holds.
-unfoldable pub written_answer : Written → List ℕ → Answer WriteValues
-written_answer (written.Bytes length) buffer = answered (write_values buffer length)
-written_answer (written.Refused number) buffer = refused number
-
-unfoldable pub file_read_answer : FileRead → Answer ReadValues
-file_read_answer (read.Counts first second) = answered (read_values first second)
-file_read_answer (read.Refused number) = refused number
-
-unfoldable pub site_read_answer : SiteRead → Answer Site
-site_read_answer (found.Found s) = answered (site_of_file s)
-site_read_answer (found.Refused number) = refused number

@@ -18,18 +18,11 @@ pub enum Which {
     Second,
 }
 
-// What writing a file answers: its length, or the refusal's number.
+// What reading a file answers: both site counts.
 #[derive(Clone, Copy)]
-pub enum Written {
-    Bytes(u32),
-    Refused(u32),
-}
-
-// What reading a file answers: both site counts, or the refusal's number.
-#[derive(Clone, Copy)]
-pub enum FileRead {
-    Counts { first: u32, second: u32 },
-    Refused(u32),
+pub struct Counts {
+    pub first: u32,
+    pub second: u32,
 }
 
 // A site of a file: its x, y and number.
@@ -38,13 +31,6 @@ pub struct FileSite {
     pub x: i32,
     pub y: i32,
     pub number: u32,
-}
-
-// What consulting a file answers: the site, or the refusal's number.
-#[derive(Clone, Copy)]
-pub enum SiteRead {
-    Found(FileSite),
-    Refused(u32),
 }
 
 // A file with the starts of both its lists: its sites are read where they lie.

@@ -3,12 +3,13 @@ ghost use Rattle.std.specs.Prelude.{◌≡◌, ◌+◌, ◌*◌, ◌≤◌, leng
 ghost use Rattle.order.specs.Order.{ascending};
 ghost use Rattle.order.specs.Lists.{all};
 ghost use Rattle.site.specs.Site.{lawful_site, site_before};
+ghost use Rattle.site.specs.Answer.{answer_of, refusal_of};
 ghost use Rattle.site.specs.Refusal.{content_refusal};
 ghost use Rattle.site_file.specs.File.{site_of_file, count_in, site_in, sites_from};
-ghost use Rattle.site_file.specs.Calls.{contents_refusal, read_refusal, read_answer, file_read_answer};
+ghost use Rattle.site_file.specs.Calls.{contents_refusal, read_refusal, counts, read_answer};
 
-use super::{FileRead, FileSite, Which, numbers};
-use site::Site;
+use super::{Counts, FileSite, Which, numbers};
+use site::{Refusal, Site};
 
 // The site whose bytes begin at a position.
 pub(super) fn site_at(file: &[u8], at: usize) -> FileSite
@@ -28,10 +29,7 @@ fn lawful_at(file: &[u8], at: usize) -> bool
     ensures { result ≡ lawful_site (site_in file.now at) }
 {
     let s = site_at(file, at);
-    if Site::within(s.x) {
-        return Site::within(s.y);
-    }
-    false
+    Site::within(s.x) && Site::within(s.y)
 }
 
 // Whether the site at a position comes before the site after it.
@@ -49,16 +47,7 @@ fn all_lawful(file: &[u8], start: usize, count: usize) -> bool
     requires { start + 12 * count ≤ length file.now }
     ensures { result ≡ all lawful_site (sites_from file.now start count) }
 {
-    let mut at = start;
-    let mut left = count;
-    while 0 < left {
-        if !lawful_at(file, at) {
-            return false;
-        }
-        at += 12;
-        left -= 1;
-    }
-    true
+    (0..count).all(|i| lawful_at(file, start + 12 * i))
 }
 
 // Whether the sites from a position on are strictly ascending.
@@ -66,71 +55,50 @@ fn all_ascending(file: &[u8], start: usize, count: usize) -> bool
     requires { start + 12 * count ≤ length file.now }
     ensures { result ≡ ascending site_before (sites_from file.now start count) }
 {
-    let mut at = start;
-    let mut left = count;
-    while 1 < left {
-        if !ordered_at(file, at) {
-            return false;
-        }
-        at += 12;
-        left -= 1;
-    }
-    true
+    (1..count).all(|i| ordered_at(file, start + 12 * (i - 1)))
 }
 
-// The refusal of the sites from a position on: 2, 3 or none.
-fn content_refusal(file: &[u8], start: usize, count: usize) -> u32
+// Whether the sites from a position on are refused: for 2, then 3.
+fn content_refusal(file: &[u8], start: usize, count: usize) -> Result<(), Refusal>
     requires { start + 12 * count ≤ length file.now }
-    ensures { result ≡ content_refusal (sites_from file.now start count) }
+    ensures { refusal_of result ≡ content_refusal (sites_from file.now start count) }
 {
     if !all_lawful(file, start, count) {
-        return 2;
+        return Err(Refusal::Limits);
     }
     if !all_ascending(file, start, count) {
-        return 3;
+        return Err(Refusal::Order);
     }
-    0
+    Ok(())
 }
 
-// The refusal of a file's contents and length: 10, 1 or none.
-pub(super) fn contents_refusal(file: &[u8]) -> u32
-    ensures { result ≡ contents_refusal file.now }
+// Whether a file's contents and length are refused: for 10 where it is too short, then 1, then 10.
+pub(super) fn contents_refusal(file: &[u8]) -> Result<(), Refusal>
+    ensures { refusal_of result ≡ contents_refusal file.now }
 {
     if file.len() < 16 {
-        return 10;
+        return Err(Refusal::File);
     }
     let n = numbers::word_at(file, 4);
     let m = numbers::word_at(file, 12);
-    if 65535 < n {
-        return 1;
+    if 65535 < n || 65535 < m {
+        return Err(Refusal::Columns);
     }
-    if 65535 < m {
-        return 1;
+    if numbers::word_at(file, 0) != 16
+        || numbers::word_at(file, 8) != 16 + 12 * n
+        || file.len() != (16 + 12 * n + 12 * m) as usize
+    {
+        return Err(Refusal::File);
     }
-    if numbers::word_at(file, 0) != 16 {
-        return 10;
-    }
-    if numbers::word_at(file, 8) != 16 + 12 * n {
-        return 10;
-    }
-    if file.len() != (16 + 12 * n + 12 * m) as usize {
-        return 10;
-    }
-    0
+    Ok(())
 }
 
-// The refusal of a file: its contents and length, then each list's sites.
-fn read_refusal(file: &[u8]) -> u32
-    ensures { result ≡ read_refusal file.now }
+// Whether a file is refused: for its contents and length, then for each list's sites.
+fn read_refusal(file: &[u8]) -> Result<(), Refusal>
+    ensures { refusal_of result ≡ read_refusal file.now }
 {
-    let contents = contents_refusal(file);
-    if contents != 0 {
-        return contents;
-    }
-    let first = content_refusal(file, 16, numbers::word_at(file, 4) as usize);
-    if first != 0 {
-        return first;
-    }
+    contents_refusal(file)?;
+    content_refusal(file, 16, numbers::word_at(file, 4) as usize)?;
     content_refusal(
         file,
         numbers::word_at(file, 8) as usize,
@@ -149,15 +117,12 @@ pub fn count_in(file: &[u8], which: Which) -> u32
 }
 
 // Reads a file: both site counts, or the refusal.
-pub fn read(file: &[u8]) -> FileRead
-    ensures { file_read_answer result ≡ read_answer file.now }
+pub fn read(file: &[u8]) -> Result<Counts, Refusal>
+    ensures { answer_of counts result ≡ read_answer file.now }
 {
-    let refusal = read_refusal(file);
-    if refusal != 0 {
-        return FileRead::Refused(refusal);
-    }
-    FileRead::Counts {
+    read_refusal(file)?;
+    Ok(Counts {
         first: numbers::word_at(file, 4),
         second: numbers::word_at(file, 12),
-    }
+    })
 }

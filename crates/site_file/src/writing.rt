@@ -1,14 +1,15 @@
 // Writing two lists as a file.
 ghost use Rattle.std.specs.Prelude.{◌≡◌, ◌+◌, ◌*◌, ◌≤◌, length};
 ghost use mathlib.Core.List.{flat_map};
-ghost use Rattle.site.specs.Answer.{afterwards};
+ghost use Rattle.site.specs.Answer.{afterwards, answer_of, refusal_of};
 ghost use Rattle.site.specs.SiteList.{site, columns, lent_plane, sites};
 ghost use Rattle.site.specs.Terms.{Level};
 ghost use Rattle.column.specs.Column.{stored};
 ghost use Rattle.site_file.specs.File.{site_bytes, contents_bytes};
-ghost use Rattle.site_file.specs.Calls.{write_refusal, write_answer, written_answer};
+ghost use Rattle.site_file.specs.Calls.{write_refusal, write_values, write_answer};
 
-use super::{Written, numbers};
+use super::numbers;
+use site::Refusal;
 
 // A site stored as twelve bytes.
 fn put_site(buffer: &mut [u8], at: usize, x: i32, y: i32, number: u32)
@@ -27,12 +28,8 @@ fn put_sites(buffer: &mut [u8], start: usize, x: &[i32], y: &[i32], number: &[u3
     ensures { let c = (lent_plane x y number).entry in
         buffer.new ≡ stored start (flat_map site_bytes (sites c)) buffer.old }
 {
-    let mut at = start;
-    let mut i = 0;
-    while i < x.len() {
-        put_site(buffer, at, x[i], y[i], number[i]);
-        at += 12;
-        i += 1;
+    for i in 0..x.len() {
+        put_site(buffer, start + 12 * i, x[i], y[i], number[i]);
     }
 }
 
@@ -47,7 +44,7 @@ fn put_contents(buffer: &mut [u8], n: u32, m: u32)
     numbers::put_word(buffer, 12, m);
 }
 
-// The refusal of writing two lists into a buffer of `room` bytes: 1, 2, 3, 6 or none.
+// Whether writing two lists into a buffer of `room` bytes is refused: for 1, 2, 3 or 6.
 fn write_refusal(
     ax: &[i32],
     ay: &[i32],
@@ -56,23 +53,17 @@ fn write_refusal(
     by: &[i32],
     bn: &[u32],
     room: usize,
-) -> u32
+) -> Result<(), Refusal>
     ensures { let a = (lent_plane ax ay an).entry in
         let b = (lent_plane bx by bn).entry in
-        result ≡ write_refusal a b room }
+        refusal_of result ≡ write_refusal a b room }
 {
-    let first = site::plane_refusal(ax, ay, an);
-    if first != 0 {
-        return first;
-    }
-    let second = site::plane_refusal(bx, by, bn);
-    if second != 0 {
-        return second;
-    }
+    site::plane_refusal(ax, ay, an)?;
+    site::plane_refusal(bx, by, bn)?;
     if room < 16 + 12 * ax.len() + 12 * bx.len() {
-        return 6;
+        return Err(Refusal::Room);
     }
-    0
+    Ok(())
 }
 
 // Writes two lists as a file: its length, or the refusal.
@@ -84,21 +75,18 @@ pub fn write(
     by: &[i32],
     bn: &[u32],
     buffer: &mut [u8],
-) -> Written
+) -> Result<u32, Refusal>
     ensures { let a = (lent_plane ax ay an).entry in
         let b = (lent_plane bx by bn).entry in
         let answer = write_answer a b buffer.old in
-        (written_answer result buffer.new ≡ answer)
+        (answer_of (write_values buffer.new) result ≡ answer)
         × (buffer.new ≡ afterwards (λ v. v.buffer) answer buffer.old) }
 {
-    let refusal = write_refusal(ax, ay, an, bx, by, bn, buffer.len());
-    if refusal != 0 {
-        return Written::Refused(refusal);
-    }
+    write_refusal(ax, ay, an, bx, by, bn, buffer.len())?;
     let n = ax.len();
     let m = bx.len();
     put_contents(buffer, n as u32, m as u32);
     put_sites(buffer, 16, ax, ay, an);
     put_sites(buffer, 16 + 12 * n, bx, by, bn);
-    Written::Bytes((16 + 12 * n + 12 * m) as u32)
+    Ok((16 + 12 * n + 12 * m) as u32)
 }

@@ -1,6 +1,6 @@
 -- Which list has the next reference.
-use mathlib.Core.Path.{◌≡◌, sym, ap₂, ◌∙◌}
-use mathlib.Core.Bool.{Bool, true, false}
+use mathlib.Core.Path.{◌≡◌, sym}
+use mathlib.Core.Bool.{true, false}
 use mathlib.Core.List.{List}
 use Prim.Native.Nat.{ℕ, ◌≤◌, ◌<◌}
 use lib.IntN.{ℤ, pos}
@@ -23,10 +23,6 @@ module _ (ax : List ℤ) (i aTo : ℕ) (bx : List ℤ) (j bTo : ℕ) where
   next_both : i < aTo → j < bTo → first_next ax i aTo bx j bTo ≡ le_z (get_or ax i (pos 0)) (get_or bx j (pos 0))
   unfolding first_next
   next_both h g = simp (lt-ltb i aTo h, lt-leb bTo j g)
-
-  pub next_read : (x y : ℤ) (t : Bool) → i < aTo → j < bTo → x ≡ get_or ax i (pos 0) → y ≡ get_or bx j (pos 0) → t ≡ le_z x y
-      → t ≡ first_next ax i aTo bx j bTo
-  next_read x y t h g a b is = is ∙ ap₂ le_z a b ∙ sym (next_both h g)
 
   -- The next of both lists: which one leads.
   pub next_leads : (ay ah by bh : List ℤ) → i < aTo → j < bTo → leads (spot ax ay ah i) (spot bx by bh j) ≡ first_next ax i aTo bx j bTo

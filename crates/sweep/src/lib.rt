@@ -7,14 +7,14 @@ mod scan;
 mod sweeps;
 
 ghost use Rattle.std.specs.Prelude.{◌≤◌};
-ghost use Rattle.site.specs.Terms.{NumberedLent};
 ghost use Rattle.entry.specs.Results.{results, lent_results};
 ghost use Rattle.entry.specs.Terms.{FinishAsked};
-ghost use Rattle.sweep.specs.Terms.{SweepAsked, SweptTo, SweptStrips};
+ghost use Rattle.sweep.specs.Terms.{NumberedLists, SweepAsked, SweptTo, SweptStrips};
 ghost use Rattle.sweep.specs.Internal.{state_of};
 
 pub use count::count_pairs;
 use entry::Queue;
+use site::SiteColumns;
 
 // How many looks a sweep made.
 #[derive(Clone, Copy)]
@@ -72,10 +72,9 @@ fn answer(tally: Tally, distance: &mut [u64], first: &mut [u32], second: &mut [u
     ensures { let l = lent_results distance first second in
         SweptTo (state_of tally l.entry) l.entry l.exit result }
 {
-    let queue = tally.queue;
-    entry::finish(distance, first, second, queue);
+    entry::finish(distance, first, second, tally.queue);
     Swept {
-        entries: queue.count as u32,
+        entries: tally.queue.count as u32,
         looks: Looks(tally.looks),
         distances: Distances(tally.distances),
     }
@@ -84,12 +83,8 @@ fn answer(tally: Tally, distance: &mut [u64], first: &mut [u32], second: &mut [u
 // The sweep named.
 pub fn run(
     way: Way,
-    ax: &[i32],
-    ay: &[i32],
-    ah: &[i32],
-    bx: &[i32],
-    by: &[i32],
-    bh: &[i32],
+    a: SiteColumns<'_>,
+    b: SiteColumns<'_>,
     a_from: usize,
     a_to: usize,
     b_from: usize,
@@ -100,25 +95,21 @@ pub fn run(
     first: &mut [u32],
     second: &mut [u32],
 ) -> Swept
-    requires { SweepAsked ax.now ay.now ah.now bx.now by.now bh.now a_from a_to b_from b_to k count
+    requires { SweepAsked a.x.now a.y.now a.height.now b.x.now b.y.now b.height.now a_from a_to b_from b_to k count
         (results distance.old first.old second.old) }
-    ensures { let l = lent_results distance first second in let swept = SweptStrips way a_from a_to b_from b_to k count l.entry l.exit result in
-        NumberedLent ax ay ah bx by bh swept }
+    ensures { let l = lent_results distance first second in
+        let swept = SweptStrips way a_from a_to b_from b_to k count l.entry l.exit result in
+        NumberedLists a.entry b.entry swept }
 {
-    match way {
-        Way::Classic => {
-            let tally = sweeps::classic(
-                ax, ay, ah, bx, by, bh, a_from, a_to, b_from, b_to, k, count, distance, first,
-                second,
-            );
-            answer(tally, distance, first, second)
-        }
-        Way::ReverseRun => {
-            let tally = sweeps::reverse_run(
-                ax, ay, ah, bx, by, bh, a_from, a_to, b_from, b_to, k, count, distance, first,
-                second,
-            );
-            answer(tally, distance, first, second)
-        }
-    }
+    // Theorems name the way, and each is compiled into loops of its own: a closure would be called in them.
+    let tally = match way {
+        Way::Classic => sweeps::classic(
+            a.x, a.y, a.height, b.x, b.y, b.height, a_from, a_to, b_from, b_to, k, count, distance,
+            first, second,
+        ),
+        Way::ReverseRun => sweeps::reverse_run(
+            a, b, a_from, a_to, b_from, b_to, k, count, distance, first, second,
+        ),
+    };
+    answer(tally, distance, first, second)
 }

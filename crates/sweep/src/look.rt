@@ -92,7 +92,8 @@ pub(super) fn look(
     second: &mut [u32],
 ) -> Looked
     requires { LookAsked reference xs.now ys.now hs.now i k old (results distance.old first.old second.old) }
-    ensures { let l = lent_results distance first second in let candidate = look_from reference (spot xs.now ys.now hs.now i) in
+    ensures { let l = lent_results distance first second in
+        let candidate = look_from reference (spot xs.now ys.now hs.now i) in
         LookDone k candidate old l.entry l.exit result }
 {
     let mut tally = old;
@@ -119,13 +120,11 @@ pub(super) fn look(
     }
     let other = i as u32;
     if reference.swapped {
-        let queue = tally.queue;
         let e = pair(squared, other, reference.place);
-        let next = entry::offer(distance, first, second, k, queue, e);
+        let next = entry::offer(distance, first, second, k, tally.queue, e);
         return gone_on(tally, next);
     }
-    let queue = tally.queue;
     let e = pair(squared, reference.place, other);
-    let next = entry::offer(distance, first, second, k, queue, e);
+    let next = entry::offer(distance, first, second, k, tally.queue, e);
     gone_on(tally, next)
 }

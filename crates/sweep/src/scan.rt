@@ -23,19 +23,18 @@ pub(super) fn scan_right(
     second: &mut [u32],
 ) -> Tally
     requires { ScanAsked reference xs.now ys.now hs.now from to k old (results distance.old first.old second.old) }
-    ensures { let l = lent_results distance first second in let run = rightward xs.now ys.now hs.now from (to - from) in
+    ensures { let l = lent_results distance first second in
+        let run = rightward xs.now ys.now hs.now from (to - from) in
         let scanned = scan apart k (map (look_from reference) run) (state_of old l.entry) in
         Tallied k l.entry old.queue.count scanned.state l.exit result }
 {
-    let mut at = from;
     let mut tally = old;
-    while at < to {
+    for at in from..to {
         let l = look::look(reference, xs, ys, hs, at, k, tally, distance, first, second);
         tally = l.tally;
         if l.stopped {
             break;
         }
-        at += 1;
     }
     tally
 }
@@ -56,34 +55,20 @@ pub(super) fn scan_left(
     second: &mut [u32],
 ) -> Tally
     requires { ScanAsked reference xs.now ys.now hs.now limit taken k old (results distance.old first.old second.old) }
-    ensures { let l = lent_results distance first second in let run = leftward xs.now ys.now hs.now limit (taken - limit) in
+    ensures { let l = lent_results distance first second in
+        let run = leftward xs.now ys.now hs.now limit (taken - limit) in
         let scanned = scan apart k (map (look_from reference) run) (state_of old l.entry) in
         Tallied k l.entry old.queue.count scanned.state l.exit result × (result.at + scanned.passed ≡ taken) }
 {
-    let mut at = taken;
     let mut tally = old;
-    let stop = loop {
-        if at == limit {
-            break at;
-        }
-        let l = look::look(
-            reference,
-            xs,
-            ys,
-            hs,
-            at - 1,
-            k,
-            tally,
-            distance,
-            first,
-            second,
-        );
+    for at in (limit..taken).rev() {
+        let l = look::look(reference, xs, ys, hs, at, k, tally, distance, first, second);
         tally = l.tally;
         if l.stopped {
-            break at;
+            tally.at = at + 1;
+            return tally;
         }
-        at -= 1;
-    };
-    tally.at = stop;
+    }
+    tally.at = limit;
     tally
 }

@@ -8,6 +8,7 @@ ghost use Rattle.sweep.specs.Terms.{rightward, SweepAsked};
 ghost use Rattle.sweep.specs.Internal.{reference_at, first_next, Tallied};
 
 use super::{Reference, Tally, scan};
+use site::SiteColumns;
 
 // The site at a place of its columns as a reference.
 fn reference_at(xs: &[i32], ys: &[i32], hs: &[i32], i: usize, swapped: bool) -> Reference
@@ -28,16 +29,11 @@ fn first_next(ax: &[i32], i: usize, a_to: usize, bx: &[i32], j: usize, b_to: usi
     requires { (a_to ≤ length ax.now) × (b_to ≤ length bx.now) }
     ensures { result ≡ first_next ax.now i a_to bx.now j b_to }
 {
-    if a_to <= i {
-        return false;
-    }
-    if b_to <= j {
-        return true;
-    }
-    site::at_most(ax[i], bx[j])
+    i < a_to && (b_to <= j || site::at_most(ax[i], bx[j]))
 }
 
 // Two fingers over the strips: the reference with the smaller x is scanned to the right, and its finger moves on.
+// Both lists are lent as columns: as two structs they made this sweep slower by an eighth on long lists.
 pub(super) fn classic(
     ax: &[i32],
     ay: &[i32],
@@ -57,7 +53,8 @@ pub(super) fn classic(
 ) -> Tally
     requires { SweepAsked ax.now ay.now ah.now bx.now by.now bh.now a_from a_to b_from b_to k count
         (results distance.old first.old second.old) }
-    ensures { let l = lent_results distance first second in let a = rightward ax.now ay.now ah.now a_from (a_to - a_from) in
+    ensures { let l = lent_results distance first second in
+        let a = rightward ax.now ay.now ah.now a_from (a_to - a_from) in
         let b = rightward bx.now by.now bh.now b_from (b_to - b_from) in
         Tallied k l.entry count (sweep Classic k a b (entries_of count l.entry)) l.exit result }
 {
@@ -85,12 +82,8 @@ pub(super) fn classic(
 
 // References in ascending x, each against the other list's sites already taken, latest first, down to its left limit.
 pub(super) fn reverse_run(
-    ax: &[i32],
-    ay: &[i32],
-    ah: &[i32],
-    bx: &[i32],
-    by: &[i32],
-    bh: &[i32],
+    a: SiteColumns<'_>,
+    b: SiteColumns<'_>,
     a_from: usize,
     a_to: usize,
     b_from: usize,
@@ -101,11 +94,12 @@ pub(super) fn reverse_run(
     first: &mut [u32],
     second: &mut [u32],
 ) -> Tally
-    requires { SweepAsked ax.now ay.now ah.now bx.now by.now bh.now a_from a_to b_from b_to k count
+    requires { SweepAsked a.x.now a.y.now a.height.now b.x.now b.y.now b.height.now a_from a_to b_from b_to k count
         (results distance.old first.old second.old) }
-    ensures { let l = lent_results distance first second in let a = rightward ax.now ay.now ah.now a_from (a_to - a_from) in
-        let b = rightward bx.now by.now bh.now b_from (b_to - b_from) in
-        Tallied k l.entry count (sweep ReverseRun k a b (entries_of count l.entry)) l.exit result }
+    ensures { let l = lent_results distance first second in
+        let p = rightward a.entry.x.now a.entry.y.now a.entry.height.now a_from (a_to - a_from) in
+        let q = rightward b.entry.x.now b.entry.y.now b.entry.height.now b_from (b_to - b_from) in
+        Tallied k l.entry count (sweep ReverseRun k p q (entries_of count l.entry)) l.exit result }
 {
     let mut i = a_from;
     let mut j = b_from;
@@ -118,9 +112,11 @@ pub(super) fn reverse_run(
         queue: entry::start(distance, count, k),
     };
     'references: loop {
-        if first_next(ax, i, a_to, bx, j, b_to) {
-            let r = reference_at(ax, ay, ah, i, false);
-            tally = scan::scan_left(r, bx, by, bh, b_limit, j, k, tally, distance, first, second);
+        if first_next(a.x, i, a_to, b.x, j, b_to) {
+            let r = reference_at(a.x, a.y, a.height, i, false);
+            tally = scan::scan_left(
+                r, b.x, b.y, b.height, b_limit, j, k, tally, distance, first, second,
+            );
             b_limit = tally.at;
             i += 1;
             continue 'references;
@@ -128,8 +124,10 @@ pub(super) fn reverse_run(
         if b_to <= j {
             break 'references;
         }
-        let r = reference_at(bx, by, bh, j, true);
-        tally = scan::scan_left(r, ax, ay, ah, a_limit, i, k, tally, distance, first, second);
+        let r = reference_at(b.x, b.y, b.height, j, true);
+        tally = scan::scan_left(
+            r, a.x, a.y, a.height, a_limit, i, k, tally, distance, first, second,
+        );
         a_limit = tally.at;
         j += 1;
     }

@@ -5,19 +5,13 @@ use lib.IntN.{ℤ}
 use mir.Syntax.{w32}
 use mir.Val.{SFits, to_z, of_z}
 use mir.Facts.{to_z-of_z}
+use Rattle.std.specs.Prelude.{Result, Ok, Err}
 use Rattle.column.specs.Lent.{Held}
 use Rattle.site.specs.declared.Changed.{Changed}
+use Rattle.site.specs.declared.refusals.Refusal.{Refusal}
 use Rattle.site.specs.SiteList.{Columns, site, raised_site}
-use Rattle.site.specs.Answer.{Answer, refused, answered, number_of, afterwards}
-use Rattle.site.specs.InUse.{ChangeValues, change_values, changed_answer}
-use Rattle.pairs.specs.declared.Within.{Within}
-use Rattle.pairs.specs.declared.Within.TheVariants as within
-use Rattle.pairs.specs.Within.{within_answer}
-use Rattle.bands.specs.declared.Edited.{Edited}
-use Rattle.bands.specs.declared.Edited.TheVariants as edited
-use Rattle.bands.specs.declared.Priced.{Priced}
-use Rattle.bands.specs.declared.Priced.TheVariants as priced
-use Rattle.bands.specs.Calls.{edited_answer, priced_answer}
+use Rattle.site.specs.Answer.{Answer, refused, answered, number_of, afterwards, number, answer_of}
+use Rattle.site.specs.InUse.{ChangeValues, change_values, changed}
 use Rattle.vumlintel.specs.Crosses.{Crosses}
 
 module _ {A : Type 0} {answer : Answer A} where
@@ -46,45 +40,24 @@ pub site_up_of : {x y h : ℤ} (number : ℕ) → SFits w32 x → SFits w32 y �
 site_up_of number fx fy fh = λ i. raised_site (to_z-of_z fx i) (to_z-of_z fy i) number (to_z-of_z fh i)
 
 -- A change of a list crosses beside its columns: those that the call left, and those that it was lent.
-pub crossed_change : {answer : Answer ChangeValues} {n : ℕ} (told : Changed) {c d : Columns} {p k p' k' : ℕ}
-    → (changed_answer told d ≡ answer) × (d ≡ afterwards (λ v. v.columns) answer c)
-    → ((e : Columns) → Crosses (changed_answer told e) n (record { entry = change_values e p k; exit = change_values e p' k' }))
+pub crossed_change : {answer : Answer ChangeValues} {n : ℕ} (told : Result Changed Refusal) {c d : Columns} {p k p' k' : ℕ}
+    → (answer_of (changed d) told ≡ answer) × (d ≡ afterwards (λ v. v.columns) answer c)
+    → ((e : Columns) → Crosses (answer_of (changed e) told) n (record { entry = change_values e p k; exit = change_values e p' k' }))
     → Crosses answer n (record { entry = change_values c p k; exit = change_values d p' k' })
 unfolding afterwards
-crossed_change {answer = refused number} told {d = d} call crossed = rw (← call.1) (rw call.0 at (crossed d))
+crossed_change {answer = refused m} told {d = d} call crossed = rw (← call.1) (rw call.0 at (crossed d))
 crossed_change {answer = answered values} told {d = d} call crossed =
     let there = rw call.0 at (crossed d) in
     record { number = there.number; values = there.values }
 
--- An answer with its values made into others.
-unfoldable pub over : {A B : Type 0} → (A → B) → Answer A → Answer B
-over f (refused number) = refused number
-over f (answered values) = answered (f values)
-
--- A number crosses beside what is lent with it: what the call left, or, where it is refused, what was lent.
-pub crossed_number : {A : Type 0} {answer : Answer A} {n k k' : ℕ} (told : Answer ℕ) {before after : ℕ → A}
-    → over after told ≡ answer
+-- A value crosses beside what is lent with it: what the call left, or, where it is refused, what was lent.
+pub crossed_value : {A B : Type 0} {answer : Answer A} {n : ℕ} {k k' : B} (told : Result B Refusal) {before after : B → A}
+    → answer_of after told ≡ answer
     → ((m : ℕ) → refused m ≡ answer → after ≡ before)
-    → Crosses told n (record { entry = k; exit = k' })
+    → Crosses (answer_of (λ value. value) told) n (record { entry = k; exit = k' })
     → Crosses answer n (record { entry = before k; exit = after k' })
-unfolding over number_of afterwards
-crossed_number (answered number) {after = after} call leaves crossed =
+unfolding answer_of number_of afterwards
+crossed_value (Ok value) {after = after} call leaves crossed =
     rw crossed.number (crossed_values call (ap after crossed.values))
-crossed_number (refused number) call leaves crossed =
-    rw crossed.number (crossed_refusal call (λ i. leaves number call i (crossed.values i)))
-
--- So the number of pairs that a distance list and a forecast tell, the place that an edit tells and the total that pricing does.
-pub within_over : {A : Type 0} (told : Within) (after : ℕ → A) → over after (within_answer told (λ n. n)) ≡ within_answer told after
-unfolding over within_answer
-within_over (within.Pairs count) after = refl
-within_over (within.Refused number) after = refl
-
-pub edited_over : {A : Type 0} (told : Edited) (after : ℕ → A) → over after (edited_answer told (λ n. n)) ≡ edited_answer told after
-unfolding over edited_answer
-edited_over (edited.At place) after = refl
-edited_over (edited.Refused number) after = refl
-
-pub priced_over : {A : Type 0} (told : Priced) (after : ℕ → A) → over after (priced_answer told (λ n. n)) ≡ priced_answer told after
-unfolding over priced_answer
-priced_over (priced.Total total) after = refl
-priced_over (priced.Refused number) after = refl
+crossed_value (Err refusal) call leaves crossed =
+    rw crossed.number (crossed_refusal call (λ i. leaves (number refusal) call i (crossed.values i)))

@@ -1,4 +1,3 @@
 -- The laws of answers that cross.
 pub mod Crosses
 pub mod Counters
-pub mod Left

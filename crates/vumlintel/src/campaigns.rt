@@ -2,8 +2,9 @@
 // A grid crosses in its parts, each behind a reference.
 ghost use Rattle.std.specs.Prelude.{◌≡◌};
 ghost use Rattle.column.specs.Lent.{the, ◌with◌, ◌of_mut◌};
+ghost use Rattle.site.specs.Answer.{answer_of};
 ghost use Rattle.site.specs.SiteList.{lent_list};
-ghost use Rattle.entry.specs.Results.{results, lent_results, Results};
+ghost use Rattle.entry.specs.Results.{results, lent_results};
 ghost use Rattle.sweep.specs.declared.Way.TheVariants.{Classic, ReverseRun};
 ghost use Rattle.join.specs.declared.Join.TheVariants.{Sweep, Halves};
 ghost use Rattle.join.specs.Join.{counts, by_sweep, by_halves};
@@ -15,18 +16,21 @@ ghost use Rattle.campaign.specs.Calls.{
   lower_answer,
   job_values,
   job_answer,
-  job_done_answer,
+  swept_by,
+  counts_by,
   status_values,
   status_answer,
 };
-ghost use Rattle.batch.specs.Batch.{lent_batch, batch_values, batch_answer, batch_done_answer};
+ghost use Rattle.batch.specs.Batch.{lent_batch, batch_values, batch_answer};
 ghost use Rattle.vumlintel.specs.Crosses.{Crosses};
 ghost use Rattle.vumlintel.specs.Lent.{lent_grid};
 
-use batch::{BatchDone, BatchOutcome};
-use campaign::{JobDone, Outcome, Status};
+use super::crossing::put_counters;
+use super::lists::list;
+use campaign::Outcome;
 use customers::Grid;
 use join::Join;
+use site::Refusal;
 use sweep::Way;
 
 // A grid of its parts.
@@ -44,15 +48,12 @@ fn get(
     ensures { result ≡ grid_of first_strips.now second_strips.now first_ends.now second_ends.now marks.now
         k1.now entries1.now k2.now entries2.now }
 {
-    let first_cut = *first_ends;
-    let second_cut = *second_ends;
-    let marked = *marks;
     Grid {
         first_strips: *first_strips,
         second_strips: *second_strips,
-        first_ends: first_cut,
-        second_ends: second_cut,
-        marks: marked,
+        first_ends: *first_ends,
+        second_ends: *second_ends,
+        marks: *marks,
         k1: *k1,
         entries1: *entries1,
         k2: *k2,
@@ -76,9 +77,12 @@ fn put(
     ensures { let parts = lent_grid first_strips second_strips first_ends second_ends marks k1 entries1 k2 entries2 in
         parts.exit ≡ g }
 {
-    let first_cut = g.first_ends;
-    let second_cut = g.second_ends;
-    let marked = g.marks;
+    let Grid {
+        first_ends: first_cut,
+        second_ends: second_cut,
+        marks: marked,
+        ..
+    } = g;
     *first_strips = g.first_strips;
     *second_strips = g.second_strips;
     *first_ends = first_cut;
@@ -90,61 +94,64 @@ fn put(
     *entries2 = g.entries2;
 }
 
-// What a job answers beside the grid, across the boundary: 1 for swept and 0 for skipped.
-fn cross_done(
-    done: JobDone,
+// The grid that a call answers, across the boundary.
+fn store(
+    answer: Result<Grid, Refusal>,
+    first_strips: &mut u32,
+    second_strips: &mut u32,
+    first_ends: &mut [u32; 32],
+    second_ends: &mut [u32; 32],
+    marks: &mut [u8; 1024],
+    k1: &mut u32,
+    entries1: &mut u32,
+    k2: &mut u32,
+    entries2: &mut u32,
+) -> u32
+    ensures { let parts = lent_grid first_strips second_strips first_ends second_ends marks k1 entries1 k2 entries2 in
+        Crosses (answer_of (λ g. g) answer) result parts }
+{
+    match answer {
+        Ok(g) => {
+            put(
+                g,
+                first_strips,
+                second_strips,
+                first_ends,
+                second_ends,
+                marks,
+                k1,
+                entries1,
+                k2,
+                entries2,
+            );
+            0
+        }
+        Err(refusal) => refusal.number(),
+    }
+}
+
+// How a job ended, across the boundary: 1 for swept and 0 for skipped, and the counters.
+fn put_outcome(
+    outcome: Outcome,
     swept: &mut u32,
     looks: &mut u64,
     distances: &mut u64,
     range_pairs: &mut u64,
-) -> u32
-    ensures { let counters = the counts of_mut looks of_mut distances of_mut range_pairs in
-        ((l : Results) →
-        Crosses (job_done_answer done l) result (the (job_values done.grid l) of_mut swept with counters)) }
+)
+    ensures { (swept.new ≡ swept_by outcome)
+        × ((the counts of_mut looks of_mut distances of_mut range_pairs).exit ≡ counts_by outcome) }
 {
-    let outcome = done.outcome;
     match outcome {
-        Outcome::Swept(c) => {
+        Outcome::Swept(counters) => {
             *swept = 1;
-            *looks = c.looks.0;
-            *distances = c.distances.0;
-            *range_pairs = c.range_pairs.0;
-            0
+            put_counters(counters, looks, distances, range_pairs);
         }
         Outcome::Skipped => {
             *swept = 0;
             *looks = 0;
             *distances = 0;
             *range_pairs = 0;
-            0
         }
-        Outcome::Refused(n) => n,
-    }
-}
-
-// What several jobs answer beside the grid, across the boundary.
-fn cross_batch(
-    done: BatchDone,
-    skipped: &mut u32,
-    looks: &mut u64,
-    distances: &mut u64,
-    range_pairs: &mut u64,
-) -> u32
-    ensures { let counters = the counts of_mut looks of_mut distances of_mut range_pairs in
-        ((l : Results) →
-        Crosses (batch_done_answer done l) result (the (batch_values done.grid l) of_mut skipped with counters)) }
-{
-    let outcome = done.outcome;
-    match outcome {
-        BatchOutcome::Done(sums) => {
-            let counters = sums.counters;
-            *skipped = sums.skipped;
-            *looks = counters.looks.0;
-            *distances = counters.distances.0;
-            *range_pairs = counters.range_pairs.0;
-            0
-        }
-        BatchOutcome::Refused(n) => n,
     }
 }
 
@@ -176,24 +183,10 @@ pub extern "C" fn vumlintel_prepare(
         let b = (lent_list bx by bn bh).entry in
         Crosses (prepare_answer a b first_cuts.now second_cuts.now) result g }
 {
-    let answered = campaign::calls::prepare(
-        ax,
-        ay,
-        an,
-        ah,
-        bx,
-        by,
-        bn,
-        bh,
-        first_cuts,
-        second_cuts,
-    );
-    let refusal = answered.refusal;
-    if refusal != 0 {
-        return refusal;
-    }
-    let prepared = answered.grid;
-    put(
+    let a = list(ax, ay, an, ah);
+    let b = list(bx, by, bn, bh);
+    let prepared = campaign::calls::prepare(a, b, first_cuts, second_cuts);
+    store(
         prepared,
         first_strips,
         second_strips,
@@ -204,8 +197,7 @@ pub extern "C" fn vumlintel_prepare(
         entries1,
         k2,
         entries2,
-    );
-    0
+    )
 }
 
 // Opening: the grid with the customer's campaign.
@@ -254,17 +246,13 @@ pub extern "C" fn vumlintel_open(
         k2,
         entries2,
     );
-    let answered = campaign::calls::open(
+    let a = list(ax, ay, an, ah);
+    let b = list(bx, by, bn, bh);
+    let opened = campaign::calls::open(
         customer,
         g,
-        ax,
-        ay,
-        an,
-        ah,
-        bx,
-        by,
-        bn,
-        bh,
+        a,
+        b,
         k,
         first_cuts,
         second_cuts,
@@ -272,12 +260,7 @@ pub extern "C" fn vumlintel_open(
         first,
         second,
     );
-    let refused = answered.refusal;
-    if refused != 0 {
-        return refused;
-    }
-    let opened = answered.grid;
-    put(
+    store(
         opened,
         first_strips,
         second_strips,
@@ -288,8 +271,7 @@ pub extern "C" fn vumlintel_open(
         entries1,
         k2,
         entries2,
-    );
-    0
+    )
 }
 
 // A smaller K: the grid with the customer's campaign cut to it.
@@ -335,15 +317,10 @@ pub extern "C" fn vumlintel_lower_k(
         k2,
         entries2,
     );
-    let answered = campaign::calls::lower_k(
-        customer, g, ax, ay, an, ah, bx, by, bn, bh, k, distance, first, second,
-    );
-    let fault = answered.refusal;
-    if fault != 0 {
-        return fault;
-    }
-    let lowered = answered.grid;
-    put(
+    let a = list(ax, ay, an, ah);
+    let b = list(bx, by, bn, bh);
+    let lowered = campaign::calls::lower_k(customer, g, a, b, k, distance, first, second);
+    store(
         lowered,
         first_strips,
         second_strips,
@@ -354,8 +331,7 @@ pub extern "C" fn vumlintel_lower_k(
         entries1,
         k2,
         entries2,
-    );
-    0
+    )
 }
 
 // A customer's job by any of the three ways: the grid, whether it was swept, and the counters. A refused one stores nothing.
@@ -408,17 +384,13 @@ fn job(
         k2,
         entries2,
     );
-    let done = campaign::calls::job(
+    let a = list(ax, ay, an, ah);
+    let b = list(bx, by, bn, bh);
+    let answer = campaign::calls::job(
         customer,
         g,
-        ax,
-        ay,
-        an,
-        ah,
-        bx,
-        by,
-        bn,
-        bh,
+        a,
+        b,
         distance,
         first,
         second,
@@ -426,24 +398,25 @@ fn job(
         second_strip,
         way,
     );
-    let after = done.grid;
-    let number = cross_done(done, swept, looks, distances, range_pairs);
-    if number != 0 {
-        return number;
+    match answer {
+        Ok(done) => {
+            put(
+                done.grid,
+                first_strips,
+                second_strips,
+                first_ends,
+                second_ends,
+                marks,
+                k1,
+                entries1,
+                k2,
+                entries2,
+            );
+            put_outcome(done.outcome, swept, looks, distances, range_pairs);
+            0
+        }
+        Err(refused) => refused.number(),
     }
-    put(
-        after,
-        first_strips,
-        second_strips,
-        first_ends,
-        second_ends,
-        marks,
-        k1,
-        entries1,
-        k2,
-        entries2,
-    );
-    0
 }
 
 // A job by the classic sweep: the grid, whether it was swept, the looks and the distances.
@@ -711,28 +684,31 @@ pub extern "C" fn vumlintel_jobs(
         k2,
         entries2,
     );
-    let done = batch::jobs(
-        customer, g, ax, ay, an, ah, bx, by, bn, bh, distance, first, second, job_first,
-        job_second, job_way,
+    let a = list(ax, ay, an, ah);
+    let b = list(bx, by, bn, bh);
+    let answer = batch::jobs(
+        customer, g, a, b, distance, first, second, job_first, job_second, job_way,
     );
-    let ended = done.grid;
-    let told = cross_batch(done, skipped, looks, distances, range_pairs);
-    if told != 0 {
-        return told;
+    match answer {
+        Ok(ended) => {
+            put(
+                ended.grid,
+                first_strips,
+                second_strips,
+                first_ends,
+                second_ends,
+                marks,
+                k1,
+                entries1,
+                k2,
+                entries2,
+            );
+            *skipped = ended.sums.skipped;
+            put_counters(ended.sums.counters, looks, distances, range_pairs);
+            0
+        }
+        Err(told) => told.number(),
     }
-    put(
-        ended,
-        first_strips,
-        second_strips,
-        first_ends,
-        second_ends,
-        marks,
-        k1,
-        entries1,
-        k2,
-        entries2,
-    );
-    0
 }
 
 // Status: a customer's jobs settled, the jobs in all, the entries and K.
@@ -783,22 +759,16 @@ pub extern "C" fn vumlintel_status(
         k2,
         entries2,
     );
-    let answer = campaign::calls::status(
-        customer, g, ax, ay, an, ah, bx, by, bn, bh, distance, first, second,
-    );
-    match answer {
-        Status::Counts {
-            settled: s,
-            jobs: j,
-            entries: e,
-            k: n,
-        } => {
-            *settled = s;
-            *jobs = j;
-            *entries = e;
-            *k = n;
+    let a = list(ax, ay, an, ah);
+    let b = list(bx, by, bn, bh);
+    match campaign::calls::status(customer, g, a, b, distance, first, second) {
+        Ok(told) => {
+            *settled = told.settled;
+            *jobs = told.jobs;
+            *entries = told.entries;
+            *k = told.k;
             0
         }
-        Status::Refused(n) => n,
+        Err(fault) => fault.number(),
     }
 }

@@ -5,7 +5,8 @@ ghost use Rattle.site_file.specs.declared.Which.TheVariants.{First, Second};
 ghost use Rattle.site_file.specs.Calls.{write_values, write_answer, read_answer, site_answer, read_values};
 ghost use Rattle.vumlintel.specs.Crosses.{Crosses};
 
-use site_file::{FileRead, SiteRead, Which, Written};
+use super::crossing::cross;
+use site_file::Which;
 
 // Writing two lists as a site file: its length.
 #[unsafe(no_mangle)]
@@ -23,14 +24,7 @@ pub extern "C" fn vumlintel_write_file(
         let b = (lent_plane bx by bn).entry in
         Crosses (write_answer a b buffer.old) result (the write_values of_mut buffer of_mut length) }
 {
-    let answer = site_file::write(ax, ay, an, bx, by, bn, buffer);
-    match answer {
-        Written::Bytes(n) => {
-            *length = n;
-            0
-        }
-        Written::Refused(n) => n,
-    }
+    cross(site_file::write(ax, ay, an, bx, by, bn, buffer), length)
 }
 
 // Reading a site file: both site counts.
@@ -38,17 +32,13 @@ pub extern "C" fn vumlintel_write_file(
 pub extern "C" fn vumlintel_read_file(file: &[u8], first: &mut u32, second: &mut u32) -> u32
     ensures { Crosses (read_answer file.now) result (the read_values of_mut first of_mut second) }
 {
-    let answer = site_file::read(file);
-    match answer {
-        FileRead::Counts {
-            first: n,
-            second: m,
-        } => {
-            *first = n;
-            *second = m;
+    match site_file::read(file) {
+        Ok(counts) => {
+            *first = counts.first;
+            *second = counts.second;
             0
         }
-        FileRead::Refused(n) => n,
+        Err(refusal) => refusal.number(),
     }
 }
 
@@ -63,17 +53,14 @@ fn file_site(
 ) -> u32
     ensures { Crosses (site_answer file.now which place) result (the site of_mut x of_mut y of_mut number) }
 {
-    let answer = site_file::consult(file, which, place);
-    match answer {
-        SiteRead::Found(s) => {
-            let site_x = s.x;
-            let site_y = s.y;
-            *x = site_x;
-            *y = site_y;
-            *number = s.number;
+    match site_file::consult(file, which, place) {
+        Ok(site) => {
+            *x = site.x;
+            *y = site.y;
+            *number = site.number;
             0
         }
-        SiteRead::Refused(n) => n,
+        Err(fault) => fault.number(),
     }
 }
 

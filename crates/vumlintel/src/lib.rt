@@ -3,6 +3,7 @@
 #![tactic(auto)]
 
 mod campaigns;
+mod crossing;
 mod files;
 mod lists;
 mod pair_lists;

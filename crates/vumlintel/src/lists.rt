@@ -1,13 +1,33 @@
 // Checking a site list, adding a site to one, and removing one.
+ghost use Rattle.std.specs.Prelude.{◌≡◌};
 ghost use Rattle.column.specs.Lent.{the, ◌with◌, ◌of_mut◌};
-ghost use Rattle.site.specs.SiteList.{Columns, lent_list, site, raised_site, lent_list_mut};
+ghost use Rattle.site.specs.SiteList.{Columns, lent_list, list_of, site, raised_site, lent_list_mut};
 ghost use Rattle.site.specs.Refusal.{check_answer};
-ghost use Rattle.site.specs.InUse.{change_values, changed_answer};
+ghost use Rattle.site.specs.Answer.{answer_of};
+ghost use Rattle.site.specs.InUse.{change_values, changed};
 ghost use Rattle.site.specs.Addition.{add_answer};
 ghost use Rattle.site.specs.Removal.{remove_answer};
 ghost use Rattle.vumlintel.specs.Crosses.{Crosses};
 
-use site::{Changed, Checked, Site};
+use super::crossing::cross;
+use site::{Changed, Refusal, Site, SiteColumns};
+
+// A list as it is lent across the boundary.
+pub(super) fn list<'a>(
+    x: &'a [i32],
+    y: &'a [i32],
+    number: &'a [u32],
+    height: &'a [i32],
+) -> SiteColumns<'a>
+    ensures { list_of result ≡ (lent_list x y number height).entry }
+{
+    SiteColumns {
+        x,
+        y,
+        number,
+        height,
+    }
+}
 
 // Checking a site list: the site count.
 #[unsafe(no_mangle)]
@@ -20,27 +40,20 @@ pub extern "C" fn vumlintel_check(
 ) -> u32
     ensures { Crosses (check_answer (lent_list x y number height).entry) result (the (λ n. n) of_mut count) }
 {
-    let answer = site::check(x, y, number, height);
-    match answer {
-        Checked::Sites(sites) => {
-            *count = sites;
-            0
-        }
-        Checked::Refused(n) => n,
-    }
+    cross(site::check(list(x, y, number, height)), count)
 }
 
 // What adding or removing a site answers beside the columns, across the boundary.
-fn cross_changed(answer: Changed, place: &mut u32, count: &mut u32) -> u32
-    ensures { (c : Columns) → Crosses (changed_answer answer c) result (the (change_values c) of_mut place of_mut count) }
+fn cross_changed(answer: Result<Changed, Refusal>, place: &mut u32, count: &mut u32) -> u32
+    ensures { (c : Columns) → Crosses (answer_of (changed c) answer) result (the (change_values c) of_mut place of_mut count) }
 {
     match answer {
-        Changed::At { place: p, count: n } => {
-            *place = p;
-            *count = n;
+        Ok(told) => {
+            *place = told.place;
+            *count = told.count;
             0
         }
-        Changed::Refused(n) => n,
+        Err(refusal) => refusal.number(),
     }
 }
 

@@ -6,13 +6,13 @@ ghost use Rattle.sweep.specs.declared.Way.TheVariants.{Classic, ReverseRun};
 ghost use Rattle.join.specs.declared.Join.TheVariants.{Sweep, Halves};
 ghost use Rattle.join.specs.Join.{counts, by_sweep, by_halves};
 ghost use Rattle.pairs.specs.KList.{k_list_values, k_list_answer};
-ghost use Rattle.pairs.specs.Within.{within_answer};
 ghost use Rattle.pairs.specs.DistanceList.{distance_values, distance_answer};
 ghost use Rattle.pairs.specs.Forecast.{forecast_values, forecast_answer};
 ghost use Rattle.vumlintel.specs.Crosses.{Crosses};
 
+use super::crossing::{cross, put_counters};
+use super::lists::list;
 use join::Join;
-use pairs::{Listed, Within};
 use sweep::Way;
 
 // The K list by any of the three ways: the entry count and the counters.
@@ -42,21 +42,15 @@ fn k_list(
         let places = the k_list_values with l of_mut entries with counters in
         Crosses (k_list_answer way a b k l.entry) result places }
 {
-    let answer = pairs::k_list(
-        way, ax, ay, an, ah, bx, by, bn, bh, k, distance, first, second,
-    );
-    match answer {
-        Listed::Entries {
-            count: n,
-            counters: c,
-        } => {
-            *entries = n;
-            *looks = c.looks.0;
-            *distances = c.distances.0;
-            *range_pairs = c.range_pairs.0;
+    let a = list(ax, ay, an, ah);
+    let b = list(bx, by, bn, bh);
+    match pairs::k_list(way, a, b, k, distance, first, second) {
+        Ok(told) => {
+            *entries = told.count;
+            put_counters(told.counters, looks, distances, range_pairs);
             0
         }
-        Listed::Refused(n) => n,
+        Err(refusal) => refusal.number(),
     }
 }
 
@@ -204,19 +198,6 @@ pub extern "C" fn vumlintel_k_list_halves(
     )
 }
 
-// What a distance list or a forecast answers, beside its columns: the number of pairs.
-fn cross_within(answer: Within, count: &mut u64) -> u32
-    ensures { Crosses (within_answer answer (λ n. n)) result (the (λ n. n) of_mut count) }
-{
-    match answer {
-        Within::Pairs(n) => {
-            *count = n;
-            0
-        }
-        Within::Refused(n) => n,
-    }
-}
-
 // The distance list: its count.
 #[unsafe(no_mangle)]
 pub extern "C" fn vumlintel_distance_list(
@@ -238,8 +219,9 @@ pub extern "C" fn vumlintel_distance_list(
         let places = the distance_values of_mut first of_mut second of_mut count in
         Crosses (distance_answer a b e first.old second.old) result places }
 {
-    let answer = pairs::distance_list(ax, ay, an, ah, bx, by, bn, bh, e, first, second);
-    cross_within(answer, count)
+    let a = list(ax, ay, an, ah);
+    let b = list(bx, by, bn, bh);
+    cross(pairs::distance_list(a, b, e, first, second), count)
 }
 
 // The forecast of a distance list's size: the number of pairs no further apart than `e` in x, and each place's own.
@@ -261,6 +243,7 @@ pub extern "C" fn vumlintel_forecast(
         let b = (lent_list bx by bn bh).entry in
         Crosses (forecast_answer a b e partners.old) result (the forecast_values of_mut partners of_mut total) }
 {
-    let answer = pairs::forecast(ax, ay, an, ah, bx, by, bn, bh, e, partners);
-    cross_within(answer, total)
+    let a = list(ax, ay, an, ah);
+    let b = list(bx, by, bn, bh);
+    cross(pairs::forecast(a, b, e, partners), total)
 }

@@ -1,30 +1,11 @@
 // Price bands: editing a table of them, and pricing a case list from it.
 ghost use Rattle.column.specs.Lent.{the, ◌of_mut◌};
 ghost use Rattle.bands.specs.Bands.{band};
-ghost use Rattle.bands.specs.Calls.{
-  edit_values,
-  edit_answer,
-  edited_answer,
-  price_values,
-  price_answer,
-  priced_answer,
-};
+ghost use Rattle.bands.specs.Calls.{edit_values, edit_answer, price_values, price_answer};
 ghost use Rattle.vumlintel.specs.Crosses.{Crosses};
 
-use bands::{Band, Edited, Priced};
-
-// The place that an edit answers, across the boundary.
-fn cross_edited(answer: Edited, edited: &mut u32) -> u32
-    ensures { Crosses (edited_answer answer (λ place. place)) result (the (λ place. place) of_mut edited) }
-{
-    match answer {
-        Edited::At(place) => {
-            *edited = place;
-            0
-        }
-        Edited::Refused(n) => n,
-    }
-}
+use super::crossing::cross;
+use bands::Band;
 
 // Editing a table of bands: the record at a place is replaced, unjudged.
 #[unsafe(no_mangle)]
@@ -39,21 +20,7 @@ pub extern "C" fn vumlintel_edit_band(
     ensures { let answer = edit_answer bands.old place (band from to price) in
         Crosses answer result (the edit_values of_mut bands of_mut edited) }
 {
-    let answer = bands::edit(bands, place, Band { from, to, price });
-    cross_edited(answer, edited)
-}
-
-// The total that pricing answers, across the boundary.
-fn cross_priced(answer: Priced, total: &mut u64) -> u32
-    ensures { Crosses (priced_answer answer (λ sum. sum)) result (the (λ sum. sum) of_mut total) }
-{
-    match answer {
-        Priced::Total(sum) => {
-            *total = sum;
-            0
-        }
-        Priced::Refused(n) => n,
-    }
+    cross(bands::edit(bands, place, Band { from, to, price }), edited)
 }
 
 // Pricing a case list by a table of bands: each entry's price, and the total.
@@ -68,6 +35,5 @@ pub extern "C" fn vumlintel_price(
     ensures { let answer = price_answer bands.now distance.now entries prices.old in
         Crosses answer result (the price_values of_mut prices of_mut total) }
 {
-    let answer = bands::price(bands, distance, entries, prices);
-    cross_priced(answer, total)
+    cross(bands::price(bands, distance, entries, prices), total)
 }

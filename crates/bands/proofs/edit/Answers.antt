@@ -1,11 +1,15 @@
 -- `bands::edit` meets its contract: the band is stored inside the table, and past it nothing is.
-use Rattle.bands.proofs.EditAnswer.{edit_stores, edit_refuses}
+use Rattle.std.proofs.Common.{length, arith}
+use borrow.Author.Tests.{le-leb, lt-leb}
+use Rattle.site.specs.Answer.{answer_unless, afterwards, number, answer_of}
+use Rattle.bands.specs.Calls.{edit_answer}
 use Rattle.bands.proofs.edit.Goals as goal
-use Rattle.bands.proofs.edit.Goals.{then-at-count, else-at-count}
+
+pub returns-then-bands-place : goal.returns-then-bands-place
+unfolding answer_of number edit_answer answer_unless afterwards
+returns-then-bands-place c =
+    let past = le-leb (length c.args.bands.now) c.args.place (omega arith) in (simp past, simp past)
 
 pub returns : goal.returns
-returns c =
-    elim c.if-at-count.branch [
-      | then-at-count w ↦ rw (c.edit_answer.ensures, w.bands-is) (edit_stores _ _ _ w.if-at-count.true)
-      | else-at-count w ↦ rw (c.edit_answer.ensures, w.bands-is) (edit_refuses _ _ _ w.if-at-count.false)
-    ]
+unfolding answer_of edit_answer answer_unless afterwards
+returns c = let inside = lt-leb (length c.args.bands.now) c.args.place (omega arith) in (simp inside, simp inside)

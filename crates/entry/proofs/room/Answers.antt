@@ -1,12 +1,12 @@
 -- `entry::room` meets its contract.
-use Rattle.entry.proofs.Results.{no_room_distance, no_room_first, room_second}
+use native.Mathlib.Omega.{arith}
+use Rattle.entry.specs.Results.{room_for}
 use Rattle.entry.proofs.room.Goals as goal
 
-pub returns-then-distance-k : goal.returns-then-distance-k
-returns-then-distance-k c = no_room_distance _ _ c.if-distance-k.true
+pub returns-then-k-first : goal.returns-then-k-first
+unfolding room_for
+returns-then-k-first c = grind arith
 
-pub returns-then-first-k : goal.returns-then-first-k
-returns-then-first-k c = no_room_first _ _ c.if-distance-k.false c.if-first-k.true
-
-pub returns : goal.returns
-returns c = room_second _ _ c.if-distance-k.false c.if-first-k.false
+pub returns-else-k-first : goal.returns-else-k-first
+unfolding room_for
+returns-else-k-first c = grind arith

@@ -1,34 +1,33 @@
 -- `bands::judging::gather` meets its contract: `take` takes the band at each turn's place.
-use mathlib.Core.Path.{◌≡◌, sym, ap, ◌∙◌}
-use Prim.Native.Nat.{◌<◌}
-use native.Mathlib.Numerals.{add-one}
-use native.Mathlib.Omega.{arith}
-use lib.ListN.{length}
-use Rattle.bands.specs.Internal.{begun}
+use Rattle.std.proofs.Common.{◌≡◌, ◌<◌, ◌≤◌, List, length, take, sym, ap, ◌∙◌, add-one, arith}
+use lib.Seq.{length-take-le, get_or-take}
+use Rattle.bands.specs.declared.Band.{Band}
+use Rattle.bands.specs.Internal.{Tariff, begun}
 use Rattle.bands.proofs.Gathered.{gathered_to, gathered_none, gathered_next, gathered_all, begun_few}
 use Rattle.bands.proofs.judging.gather.Goals as goal
 
+-- As many bands as are to be taken are there.
+there : (bands : List Band) {t : Tariff} → t ≡ begun (length bands)
+    → (length (take t.bands bands) ≡ t.bands) × (t.bands ≤ length bands) × (t.bands ≤ 64)
+there bands e = let few = begun_few (length bands) in rw e (length-take-le _ bands few.0, few.0, few.1)
+
+pub slice_bounds-band-items-end : goal.slice_bounds-band-items-end
+slice_bounds-band-items-end c = sym (there _ c.begin-t.ensures).0
+
 pub loop-i-init : goal.loop-i-init
-loop-i-init c = (omega arith, ap (λ r. r.bands) c.begin-t.ensures, c.begin-t.ensures ∙ sym (gathered_none _))
-
-pub offset_bounds-bands-i : goal.offset_bounds-bands-i
-offset_bounds-bands-i c = omega (arith, begun_few (length c.args.bands.now))
-
-pub bounds-bands-i : goal.bounds-bands-i
-bounds-bands-i c = omega (arith, begun_few (length c.args.bands.now))
+loop-i-init c = c.begin-t.ensures ∙ sym (gathered_none _)
 
 pub take-t-requires : goal.take-t-requires
-take-t-requires c = omega (arith, begun_few (length c.args.bands.now))
+take-t-requires c = omega (arith, there _ c.begin-t.ensures)
 
 pub loop-i-preserved : goal.loop-i-preserved
 loop-i-preserved c =
-    let inside : c.loop-i.i < length c.args.bands.now = omega (arith, begun_few (length c.args.bands.now)) in (
-      omega arith,
-      c.loop-i.invariant.1,
-      rw (c.take-t.ensures, c.loop-i.invariant.2, add-one) (sym (gathered_next _ _ _ inside)),
-    )
+    let i = c.loop-i.i in
+    let h : i < c.begin-t.result.bands = omega (arith, there _ c.begin-t.ensures) in
+    let inside : i < length c.args.bands.now = omega (arith, there _ c.begin-t.ensures) in
+    rw (c.take-t.ensures, c.loop-i.invariant, get_or-take _ _ i _ h, add-one) (sym (gathered_next _ _ _ inside))
 
 pub returns : goal.returns
 returns c =
-    let h : c.loop-i.i ≡ (begun (length c.args.bands.now)).bands = omega arith in
-    c.loop-i.invariant.2 ∙ ap (gathered_to c.args.bands.now) h ∙ gathered_all c.args.bands.now
+    let h : c.loop-i.i ≡ c.begin-t.result.bands = omega (arith, there _ c.begin-t.ensures) in
+    c.loop-i.invariant ∙ ap (gathered_to c.args.bands.now) (h ∙ ap (λ (t : Tariff). t.bands) c.begin-t.ensures) ∙ gathered_all c.args.bands.now

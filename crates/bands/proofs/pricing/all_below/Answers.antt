@@ -1,18 +1,22 @@
--- `bands::all_below` meets its contract. The invariant: the distances passed are below the square.
-use mathlib.Core.Path.{sym}
-use native.Mathlib.Omega.{arith}
-use borrow.Author.Count.{below_more}
-use borrow.Author.Tests.{lt-ltb}
-use Rattle.order.proofs.Lists.{at_all, holds_all}
+-- `bands::all_below` meets its contract.
+use Rattle.std.proofs.Common.{◌≡◌, ℕ, Bool, List, [], ◌∷◌, refl, ◌∙◌, rules, tests}
+use Rattle.std.specs.List.{list_all}
+use Rattle.std.proofs.lemmas.Iterator.{YieldsList-from_slice}
+use Rattle.std.proofs.lemmas.Iterator.Search.{all_from_yields_List}
+use Rattle.order.specs.Lists.{all}
 use Rattle.site.specs.Site.{square}
+use Rattle.bands.proofs.Entries.{below}
 use Rattle.bands.proofs.pricing.all_below.Goals as goal
 
-pub loop-i-init : goal.loop-i-init
-loop-i-init c = (omega arith, λ k h. absurd (omega arith))
-
-pub loop-i-preserved : goal.loop-i-preserved
-unfolding square
-loop-i-preserved c = (omega arith, below_more _ _ c.loop-i.invariant.1 (lt-ltb _ _ (omega arith)))
+-- The library's word for it.
+all_is : (test : ℕ → Bool) (l : List ℕ) → list_all test l ≡ all test l
+unfolding all
+all_is test [] = refl
+all_is test (d ∷ l) = rw (all_is test l)
 
 pub returns : goal.returns
-returns c = sym (holds_all _ _ (at_all _ _ 0 (λ k h. c.loop-i.invariant.1 k (omega (arith, c.loop-i-test.false)))))
+unfolding square
+returns c =
+    let l = c.args.column.now in
+    all_from_yields_List below _ _ _ c.all.ensures.ran (YieldsList-from_slice l cc) (λ x b q k. search (rules, tests))
+    ∙ all_is below l

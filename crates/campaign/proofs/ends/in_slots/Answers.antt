@@ -1,14 +1,11 @@
--- `campaign::ends::in_slots` meets its contract. The loop's invariant: the ends passed stand in their slots, and 0 in the others.
-use borrow.Author.Rules.{rules}
-use mathlib.Core.Path.{refl}
-use Rattle.campaign.proofs.EndsInvariant.{slots_more, slots_all}
+-- `campaign::ends::in_slots` meets its contract.
+use mathlib.Core.Path.{ap₂}
+use mathlib.Core.List.{◌++◌}
+use lib.ListN.{length}
+use Rattle.std.proofs.lemmas.List.{drop-replicate}
+use Rattle.campaign.specs.Calls.{slots}
 use Rattle.campaign.proofs.ends.in_slots.Goals as goal
 
-pub loop-i-init : goal.loop-i-init
-loop-i-init c = (search rules, refl)
-
-pub loop-i-preserved : goal.loop-i-preserved
-loop-i-preserved c = (search rules, slots_more _ _ _ c.loop-i-test.true c.requires c.loop-i.invariant.1)
-
 pub returns : goal.returns
-returns c = slots_all _ _ c.loop-i.i (search rules) c.loop-i.invariant.1
+unfolding slots
+returns c = ap₂ ◌++◌ c.copy_from_slice.ensures.after (drop-replicate (length c.args.ends.now) 32 0)

@@ -1,12 +1,7 @@
 -- `campaign::marks::lawful` meets its contract. The loop's invariant: the marks still to pass tell what all tell.
-use mathlib.Core.Path.{◌≡◌}
-use Prim.Native.Nat.{◌-◌, ◌≤◌}
-use lib.ListN.{length, drop}
+use Rattle.std.proofs.Common.{◌≡◌, drop}
 use Rattle.campaign.specs.Grid.{lawful_marks}
 use Rattle.campaign.proofs.marks.lawful.Given as goal
 
 abbrev pub invariant-loop-i : goal.invariant-loop-i
-invariant-loop-i l = (l.i ≤ length l.marks) × (lawful_marks l.rows l.cols l.i (drop l.i l.marks) ≡ lawful_marks l.rows l.cols 0 l.marks)
-
-abbrev pub decreases-loop-i : goal.decreases-loop-i
-decreases-loop-i l = length l.marks - l.i
+invariant-loop-i l = lawful_marks l.rows l.cols l.i (drop l.i l.marks) ≡ lawful_marks l.rows l.cols 0 l.marks

@@ -1,5 +1,4 @@
--- `campaign::marks::row` meets its contract. The loop's invariant: the jobs counted and those of the columns left are the row's.
-use borrow.Author.Rules.{rules}
+-- `campaign::marks::row` meets its contract.
 use mathlib.Core.Path.{refl, sym, ◌∙◌}
 use mathlib.Core.List.{[], ◌∷◌}
 use native.Mathlib.Omega.{arith}
@@ -9,26 +8,21 @@ use Rattle.campaign.proofs.marks.row.Goals as goal
 use Rattle.campaign.proofs.marks.row.Goals.{then-is_settled, else-is_settled}
 
 pub loop-b-init : goal.loop-b-init
-loop-b-init c = (search rules, counted_none _)
-
-pub is_settled-requires : goal.is_settled-requires
-is_settled-requires c = (c.requires.0, omega (arith, c.loop-b-test.true, c.requires.1))
+loop-b-init c = counted_none _
 
 pub overflow_add-count : goal.overflow_add-count
-overflow_add-count c = omega (arith, counted_few c.loop-b.invariant.1, row_few c.args.marks.now c.args.a c.args.cols, c.requires.1)
+overflow_add-count c = omega (arith, counted_few c.loop-b.invariant, row_few c.args.marks.now c.args.a c.args.cols, c.requires.1)
 
 pub loop-b-preserved : goal.loop-b-preserved
 loop-b-preserved c =
     let l = c.loop-b in
-    let inside = c.loop-b-test.true in
     let mark = sym c.is_settled.ensures in
     elim c.if-is_settled.branch [
-      | then-is_settled w ↦ (
-        search rules,
-        rw w.count-is (counted_many l.invariant.1 (job_of _ l.b ∷ []) _ (row_settled _ _ _ _ inside (mark ∙ w.if-is_settled.true)) refl),
-      )
-      | else-is_settled w ↦ (search rules, rw (w.count-is, ← row_open _ _ _ _ inside (mark ∙ w.if-is_settled.false)) l.invariant.1)
+      | then-is_settled w ↦
+          rw w.count-is
+          (counted_many l.invariant (job_of _ l.b ∷ []) _ (row_settled _ _ _ _ c.loop-b-test.true (mark ∙ w.if-is_settled.true)) refl)
+      | else-is_settled w ↦ rw (w.count-is, ← row_open _ _ _ _ c.loop-b-test.true (mark ∙ w.if-is_settled.false)) l.invariant
     ]
 
 pub returns : goal.returns
-returns c = row_done _ _ _ _ c.loop-b-test.false c.loop-b.invariant.1
+returns c = row_done _ _ _ _ c.loop-b-test.false c.loop-b.invariant

@@ -20,15 +20,15 @@ returns c =
     let k = to_z-of_z {w = w32} (sfits_of c.squared_distance-arg-6-1.given) in
     record {
       numbered = λ an bn la lb.
-          apart_at (raised c.args.ax.now c.args.ay.now an c.args.ah.now)
-          (raised c.args.bx.now c.args.by.now bn c.args.bh.now) la lb _ _ c.requires.i_in_bounds.0 c.requires.i_in_bounds.1
+          apart_at (raised c.args.a.x.now c.args.a.y.now an c.args.a.height.now)
+          (raised c.args.b.x.now c.args.b.y.now bn c.args.b.height.now) la lb _ _ c.requires.i_in_bounds.0 c.requires.i_in_bounds.1
           (c.squared_distance.ensures ∙ (λ i. squared_distance (raised_site (x i) (y i) 0 (h i)) (raised_site (u i) (v i) 0 (k i))));
     }
 
 pub squared_distance-requires : goal.squared_distance-requires
 squared_distance-requires c =
-    let first = c.requires.both_coordinates.0 in
-    let second = c.requires.both_coordinates.1 in
+    let first = c.requires.both_lists.0 in
+    let second = c.requires.both_lists.1 in
     let i = c.requires.i_in_bounds.0 in
     let j = c.requires.i_in_bounds.1 in
     record {

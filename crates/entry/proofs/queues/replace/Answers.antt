@@ -10,4 +10,4 @@ sift-requires c =
 pub returns : goal.returns
 returns c =
     let asked = c.requires in
-    replaced asked.0 asked.1 c.sift.ensures c.get_u64.ensures
+    replaced asked.0 asked.1 c.sift.ensures c.get.ensures

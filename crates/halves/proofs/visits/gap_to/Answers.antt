@@ -6,6 +6,6 @@ pub returns-then-swapped : goal.returns-then-swapped
 unfolding gap_of
 returns-then-swapped c = rw c.if-swapped.true c.squared_gap.ensures
 
-pub returns : goal.returns
+pub returns-else-swapped : goal.returns-else-swapped
 unfolding gap_of
-returns c = rw c.if-swapped.false c.squared_gap-2.ensures
+returns-else-swapped c = rw c.if-swapped.false c.squared_gap-else-swapped.ensures

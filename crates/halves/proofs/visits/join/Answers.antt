@@ -1,6 +1,6 @@
 -- The visit of two whole strips, or none.
 use mathlib.Core.Path.{refl}
-use mathlib.Core.Logic.{inl, inr}
+use mathlib.Core.Logic.{inl, inr, ⊎_elim}
 use native.Mathlib.Omega.{arith}
 use Rattle.halves.proofs.SquaredStripGap.{range_within}
 use Rattle.halves.proofs.Visiting.{visit_drops, visit_keeps, visit_expands}
@@ -8,16 +8,8 @@ use Rattle.halves.proofs.Joining.{some_strip, join_none, join_asks, join_done}
 use Rattle.halves.proofs.visits.join.Goals as goal
 
 pub returns-then-a_from-a_to : goal.returns-then-a_from-a_to
-returns-then-a_from-a_to c = join_none c.requires c.start-queue.ensures (inl c.if-a_from-a_to.true)
-
-pub returns-then-b_from-b_to : goal.returns-then-b_from-b_to
-returns-then-b_from-b_to c = join_none c.requires c.start-queue.ensures (inr c.if-b_from-b_to.true)
-
-pub box_of-own-requires : goal.box_of-own-requires
-box_of-own-requires c = some_strip c.requires.a c.if-a_from-a_to.false
-
-pub box_of-other-requires : goal.box_of-other-requires
-box_of-other-requires c = some_strip c.requires.b c.if-b_from-b_to.false
+returns-then-a_from-a_to c =
+    join_none c.requires c.start-queue.ensures (⊎_elim inl (λ w. inr w.1) c.then-a_from-a_to.either)
 
 pub squared_gap-between-requires : goal.squared_gap-between-requires
 squared_gap-between-requires c = (

@@ -1,5 +1,4 @@
 -- The lines of the entries: those from place `i` on are left.
-use Prim.Native.Nat.{◌-◌}
 use Rattle.entry.specs.Results.{results}
 use Rattle.listing.specs.Internal.{number_at}
 use Rattle.listing.proofs.EntryLines.{LinesLeft}
@@ -7,6 +6,3 @@ use Rattle.listing.proofs.body.put_entries.Given as goal
 
 abbrev pub invariant-loop-i : goal.invariant-loop-i
 invariant-loop-i l = LinesLeft (number_at l.an) (number_at l.bn) l.count (results l.distance l.first l.second) l.at l.initial.out l.out l.next l.i
-
-abbrev pub decreases-loop-i : goal.decreases-loop-i
-decreases-loop-i l = l.count - l.i

@@ -3,15 +3,9 @@ use native.Mathlib.Omega.{arith}
 use Rattle.listing.proofs.EntryLines.{heading_next, text_put}
 use Rattle.listing.proofs.body.put_text.Goals as goal
 
-pub put_heading-next-requires : goal.put_heading-next-requires
-put_heading-next-requires c = omega (arith, c.requires.count_in_bounds)
-
-pub put_entries-requires : goal.put_entries-requires
-put_entries-requires c =
-    record {
-      second_value = c.requires.second_value;
-      count_in_bounds = omega (arith, c.requires.count_in_bounds, heading_next _ _ c.put_heading-next.ensures, c.put_heading-next.auto);
-    }
+pub put_entries-requires-clause-count_in_bounds : goal.put_entries-requires-clause-count_in_bounds
+put_entries-requires-clause-count_in_bounds c =
+    omega (arith, c.requires.count_in_bounds, heading_next _ _ c.put_heading-next.ensures, c.put_heading-next.auto)
 
 pub returns : goal.returns
 returns c =

@@ -40,13 +40,14 @@ slice_bounds-bn-end c = file_few c.requires Second c.count_in-m.ensures
 pub slice_bounds-list_sites-end-6 : goal.slice_bounds-list_sites-end-6
 slice_bounds-list_sites-end-6 c = zeros_part 0 _ (file_few c.requires Second c.count_in-m.ensures)
 
-pub list_sites-requires : goal.list_sites-requires
-list_sites-requires c =
-    let first = file_few c.requires First c.count_in-n.ensures in
-    let second = file_few c.requires Second c.count_in-m.ensures in
-    record {
-      file_lists = c.requires.0;
-      file_bound = (rw (← c.count_in-n.ensures) first, rw (← c.count_in-m.ensures) second);
-      sized = zeros_sized _ c.count_in-n.ensures first;
-      sized_2 = zeros_sized _ c.count_in-m.ensures second;
-    }
+pub list_sites-requires-clause-file_bound : goal.list_sites-requires-clause-file_bound
+list_sites-requires-clause-file_bound c = (
+  rw (← c.count_in-n.ensures) (file_few c.requires First c.count_in-n.ensures),
+  rw (← c.count_in-m.ensures) (file_few c.requires Second c.count_in-m.ensures),
+)
+
+pub list_sites-requires-clause-sized : goal.list_sites-requires-clause-sized
+list_sites-requires-clause-sized c = zeros_sized _ c.count_in-n.ensures (file_few c.requires First c.count_in-n.ensures)
+
+pub list_sites-requires-clause-sized_2 : goal.list_sites-requires-clause-sized_2
+list_sites-requires-clause-sized_2 c = zeros_sized _ c.count_in-m.ensures (file_few c.requires Second c.count_in-m.ensures)

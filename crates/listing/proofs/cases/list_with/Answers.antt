@@ -13,17 +13,17 @@ count_pairs-total-requires c =
 pub put_text-requires : goal.put_text-requires
 put_text-requires c =
     let p = c.requires in
-    let t = text_ready (Sweep ReverseRun) _ _ _ _ p.lawful p.second_value _ (c.k_list.ensures.0 ∙ on_plane (Sweep ReverseRun) _ _ _ _ refl refl p.grounded.0 p.grounded.1) c.in-Entries.is in
+    let t = text_ready (Sweep ReverseRun) _ _ _ _ p.lawful p.second_value _ (c.k_list.ensures.0 ∙ on_plane (Sweep ReverseRun) _ _ _ _ refl refl p.grounded.0 p.grounded.1) c.in-Ok.is in
     record { second_value = t.0; count_in_bounds = t.1 }
 
-pub returns-in-Entries : goal.returns-in-Entries
-returns-in-Entries c =
+pub returns-in-Ok : goal.returns-in-Ok
+returns-in-Ok c =
     let p = c.requires in
-    text_written (Sweep ReverseRun) _ _ _ _ p.lawful p.second_value _ (c.k_list.ensures.0 ∙ on_plane (Sweep ReverseRun) _ _ _ _ refl refl p.grounded.0 p.grounded.1) c.in-Entries.is
+    text_written (Sweep ReverseRun) _ _ _ _ p.lawful p.second_value _ (c.k_list.ensures.0 ∙ on_plane (Sweep ReverseRun) _ _ _ _ refl refl p.grounded.0 p.grounded.1) c.in-Ok.is
     refl refl p.grounded.0 p.grounded.1 c.count_pairs-total.ensures c.put_text.ensures
 
-pub returns-in-Refused : goal.returns-in-Refused
-returns-in-Refused c =
+pub returns-in-Err : goal.returns-in-Err
+returns-in-Err c =
     let p = c.requires in
     absurd
-    (never_refused (Sweep ReverseRun) _ _ _ _ p.lawful p.second_value _ (c.k_list.ensures.0 ∙ on_plane (Sweep ReverseRun) _ _ _ _ refl refl p.grounded.0 p.grounded.1) c.in-Refused.is)
+    (never_refused (Sweep ReverseRun) _ _ _ _ p.lawful p.second_value _ (c.k_list.ensures.0 ∙ on_plane (Sweep ReverseRun) _ _ _ _ refl refl p.grounded.0 p.grounded.1) c.in-Err.is)

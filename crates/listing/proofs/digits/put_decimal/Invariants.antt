@@ -4,6 +4,3 @@ use Rattle.listing.proofs.digits.put_decimal.Given as goal
 
 abbrev pub invariant-loop-left : goal.invariant-loop-left
 invariant-loop-left l = DigitsLeft l.n l.at l.initial.out l.left l.out l.next
-
-abbrev pub decreases-loop-left : goal.decreases-loop-left
-decreases-loop-left l = l.left

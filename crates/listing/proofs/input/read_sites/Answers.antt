@@ -1,15 +1,10 @@
 -- The sites of a list: the first `i` are read.
 use Rattle.site_file.proofs.File.{list_length}
-use Rattle.listing.proofs.FileLists.{sites_starts, sites_here, sites_more, sites_ends}
+use Rattle.listing.proofs.FileLists.{sites_starts, sites_more, sites_ends}
 use Rattle.listing.proofs.input.read_sites.Goals as goal
 
 pub loop-i-init : goal.loop-i-init
 loop-i-init c = sites_starts _ (list_length _ _) c.requires.sized
-
-pub read_site-requires : goal.read_site-requires
-read_site-requires c =
-    let here = sites_here _ _ _ c.loop-i-test.true c.loop-i.invariant in
-    record { file_value = (c.requires.file_value, here.0); sized = here.1 }
 
 pub loop-i-preserved : goal.loop-i-preserved
 loop-i-preserved c =

@@ -1,16 +1,18 @@
 -- `pairs::k_list` meets its contract.
-use Rattle.std.proofs.Common.{sym, ◌∙◌}
-use Rattle.pairs.specs.KList.{listed_answer}
+use Rattle.std.proofs.Common.{sym}
+use Rattle.site.specs.Answer.{refusal_of}
+use Rattle.site.proofs.Answer.{passed_on}
 use Rattle.pairs.proofs.KList.{k_refused, join_asks, joined_is}
 use Rattle.pairs.proofs.closest.k_list.Goals as goal
 
-pub returns-then-refusal-ne0 : goal.returns-then-refusal-ne0
-unfolding listed_answer
-returns-then-refusal-ne0 c = k_refused _ _ _ _ _ c.k_list_refusal-refusal.ensures c.if-refusal-ne0.true
+pub returns-in_err-k_list_refusal : goal.returns-in_err-k_list_refusal
+unfolding refusal_of
+returns-in_err-k_list_refusal c = rw (passed_on c.from_residual.ensures) (k_refused _ _ _ _ _ _ c.in_err-k_list_refusal.ensures)
 
 pub run-joined-requires : goal.run-joined-requires
-run-joined-requires c = join_asks _ _ _ _ _ _ _ _ _ _ (sym c.k_list_refusal-refusal.ensures ∙ c.if-refusal-ne0.false)
+unfolding refusal_of
+run-joined-requires c = join_asks _ _ _ _ _ _ _ _ _ _ (sym c.in_ok-k_list_refusal.ensures)
 
 pub returns : goal.returns
-unfolding listed_answer
-returns c = joined_is _ _ _ _ _ _ _ _ _ _ (sym c.k_list_refusal-refusal.ensures ∙ c.if-refusal-ne0.false) _ c.run-joined.ensures
+unfolding refusal_of
+returns c = joined_is _ _ _ _ _ _ _ _ _ _ (sym c.in_ok-k_list_refusal.ensures) _ c.run-joined.ensures

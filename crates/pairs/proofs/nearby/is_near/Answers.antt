@@ -16,20 +16,20 @@ returns-then-reach-above c =
     let a = c.args in
     let p = c.requires.0 in
     sym
-    (far_y a.x a.y a.h (spot a.bx.now a.by.now a.bh.now a.j).site a.e
-    p.inside_y (coordinate_y p.others a.j c.requires.1) c.ranges.e.fits c.wrapping_sub_u64-above.type_inv
+    (far_y a.x a.y a.h (spot a.b.x.now a.b.y.now a.b.height.now a.j).site a.e
+    p.inside_y (coordinate_y p.others a.j c.requires.1) c.ranges.e.fits
     (at₁ offset (to_z-of_z {w = w32} (search rules)) c.offset.ensures.0) c.offset.ensures.1
     (at₁ offset (to_z-of_z c.ranges.y) c.offset-2.ensures.0) c.offset-2.ensures.1
-    c.wrapping_sub_u64-above.ensures.value c.if-reach-above.true)
+    c.if-reach-above.true)
 
 pub squared_distance-squared-requires-clause-bx_value : goal.squared_distance-squared-requires-clause-bx_value
 squared_distance-squared-requires-clause-bx_value c =
     let a = c.args in
     let p = c.requires.0 in
     let k = c.requires.1 in (
-      rw (to_z-of_z {w = w32} {z = get_or a.bx.now a.j (pos 0)} (search rules)) (coordinate_x p.others a.j k),
-      rw (to_z-of_z {w = w32} {z = get_or a.by.now a.j (pos 0)} (search rules)) (coordinate_y p.others a.j k),
-      rw (to_z-of_z {w = w32} {z = get_or a.bh.now a.j (pos 0)} (search rules)) (height_at p.heights a.j k),
+      rw (to_z-of_z {w = w32} {z = get_or a.b.x.now a.j (pos 0)} (search rules)) (coordinate_x p.others a.j k),
+      rw (to_z-of_z {w = w32} {z = get_or a.b.y.now a.j (pos 0)} (search rules)) (coordinate_y p.others a.j k),
+      rw (to_z-of_z {w = w32} {z = get_or a.b.height.now a.j (pos 0)} (search rules)) (height_at p.heights a.j k),
     )
 
 -- A squared distance of equal positions.

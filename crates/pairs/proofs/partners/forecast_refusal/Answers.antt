@@ -1,12 +1,18 @@
 -- `pairs::forecast_refusal` meets its contract.
+use Rattle.std.proofs.Common.{sym}
+use Rattle.site.specs.Answer.{number, refusal_of}
+use Rattle.site.proofs.Answer.{passed_on}
 use Rattle.pairs.proofs.ForecastAnswer.{lists_refused, too_short, room}
 use Rattle.pairs.proofs.partners.forecast_refusal.Goals as goal
 
-pub returns-then-refusal-ne0 : goal.returns-then-refusal-ne0
-returns-then-refusal-ne0 c = lists_refused _ _ _ c.lists_refusal-refusal.ensures c.if-refusal-ne0.true
+pub returns-in_err-lists_refusal : goal.returns-in_err-lists_refusal
+unfolding refusal_of
+returns-in_err-lists_refusal c = rw (passed_on c.from_residual.ensures) (lists_refused _ _ _ _ c.in_err-lists_refusal.ensures)
 
-pub returns-then-partners-ax : goal.returns-then-partners-ax
-returns-then-partners-ax c = too_short _ _ _ c.lists_refusal-refusal.ensures c.if-refusal-ne0.false c.if-partners-ax.true
+pub returns-then-partners-a : goal.returns-then-partners-a
+unfolding refusal_of number
+returns-then-partners-a c = too_short _ _ _ (sym c.in_ok-lists_refusal.ensures) c.if-partners-a.true
 
 pub returns : goal.returns
-returns c = room _ _ _ c.lists_refusal-refusal.ensures c.if-refusal-ne0.false c.if-partners-ax.false
+unfolding refusal_of
+returns c = room _ _ _ (sym c.in_ok-lists_refusal.ensures) c.if-partners-a.false

@@ -1,5 +1,5 @@
 -- The numbers of the places passed are written and summed.
-use Rattle.std.proofs.Common.{◌-◌, map, length}
+use Rattle.std.proofs.Common.{map}
 use Rattle.column.proofs.Filled.{Filled}
 use Rattle.site.specs.Site.{gap}
 use Rattle.pairs.specs.Forecast.{count_within}
@@ -10,6 +10,3 @@ abbrev pub invariant-loop-i : goal.invariant-loop-i
 invariant-loop-i l =
     (Ready l.ax l.bx l.e l.i l.run)
     × (Filled (λ x. count_within l.e (map (gap x) l.bx)) 65_535 l.ax l.initial.partners l.i l.partners l.total)
-
-abbrev pub decreases-loop-i : goal.decreases-loop-i
-decreases-loop-i l = length l.ax - l.i

@@ -1,5 +1,5 @@
 -- The offsets at the places passed are below the limit.
-use Rattle.std.proofs.Common.{ℕ, ◌-◌, ◌<◌, ◌≤◌, length}
+use Rattle.std.proofs.Common.{ℕ, ◌<◌, ◌≤◌, length}
 use Rattle.pairs.specs.Internal.{offset_at}
 use Rattle.pairs.proofs.window.skip_below.Given as goal
 
@@ -9,6 +9,3 @@ invariant-loop-i l = record {
   inside : l.i ≤ length l.xs;
   below : (k : ℕ) → l.from ≤ k → k < l.i → offset_at l.xs k < l.limit;
 }
-
-abbrev pub decreases-loop-i : goal.decreases-loop-i
-decreases-loop-i l = length l.xs - l.i

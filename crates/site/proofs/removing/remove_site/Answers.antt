@@ -5,4 +5,4 @@ use Rattle.site.proofs.removing.remove_site.Goals as goal
 
 pub returns : goal.returns
 unfolding remove_site
-returns c = λ i. raised (c.remove_i32.ensures i) (c.remove_i32-2.ensures i) (c.remove_u32.ensures i) (c.remove_i32-3.ensures i)
+returns c = λ i. raised (c.remove.ensures i) (c.remove-2.ensures i) (c.remove-3.ensures i) (c.remove-4.ensures i)

@@ -5,4 +5,4 @@ use Rattle.site_file.proofs.consulting.open.Goals as goal
 
 pub returns : goal.returns
 unfolding start_in
-returns c = (refl, c.word_at-first.ensures, c.word_at-second.ensures)
+returns c = (refl, c.word_at.ensures, c.word_at-2.ensures)

@@ -5,4 +5,4 @@ use Rattle.site_file.proofs.numbers.whole_word.Goals as goal
 
 pub returns : goal.returns
 unfolding word
-returns c = omega arith
+returns c = omega (arith, c.from_le_bytes.ensures)

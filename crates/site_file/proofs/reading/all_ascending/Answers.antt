@@ -1,23 +1,15 @@
--- `all_ascending` meets its contract: what is left to test answers for the whole.
-use mathlib.Core.Path.{refl, sym, ◌∙◌}
+-- `all_ascending` meets its contract: each place but the last is tested beside the next.
+use mathlib.Core.Path.{refl, ◌∙◌}
+use Prim.Native.Nat.{◌-◌}
 use borrow.Author.Rules.{rules}
-use Rattle.site_file.proofs.File.{ascending_step, ascending_stop, ascending_end}
+use Rattle.std.proofs.lemmas.Iterator.{YieldsList-from_range}
+use Rattle.std.proofs.lemmas.Iterator.Search.{all_from_yields_List}
+use Rattle.site_file.proofs.File.{ordered_place, ascending_run}
 use Rattle.site_file.proofs.reading.all_ascending.Goals as goal
 
-pub loop-left-init : goal.loop-left-init
-loop-left-init c = (search rules, refl)
-
-pub returns-then-not-ordered_at : goal.returns-then-not-ordered_at
-returns-then-not-ordered_at c =
-    ascending_stop _ _ _ c.loop-left-test.true (sym c.ordered_at.ensures ∙ c.if-not-ordered_at.true)
-    ∙ c.loop-left.invariant.1
-
-pub loop-left-preserved : goal.loop-left-preserved
-loop-left-preserved c = (
-  search rules,
-  ascending_step _ _ _ c.loop-left-test.true (sym c.ordered_at.ensures ∙ c.if-not-ordered_at.false)
-      ∙ c.loop-left.invariant.1,
-)
-
 pub returns : goal.returns
-returns c = ascending_end _ _ _ c.loop-left-test.false ∙ c.loop-left.invariant.1
+returns c =
+    let a = c.args in
+    all_from_yields_List (ordered_place a.file.now a.start) _ _ _ c.all.ensures.ran
+    (YieldsList-from_range 1 a.count (a.count - 1) refl refl) (λ x b q k. search rules)
+    ∙ ascending_run a.file.now a.start a.count

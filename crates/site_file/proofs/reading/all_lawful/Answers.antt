@@ -1,23 +1,15 @@
--- `all_lawful` meets its contract: what is left to test answers for the whole.
-use mathlib.Core.Path.{refl, sym, ◌∙◌}
+-- `all_lawful` meets its contract: each place is tested.
+use mathlib.Core.Path.{refl, ◌∙◌}
+use native.Mathlib.Omega.{arith}
 use borrow.Author.Rules.{rules}
-use Rattle.site_file.proofs.File.{lawful_step, lawful_stop, lawful_end}
+use Rattle.std.proofs.lemmas.Iterator.{YieldsList-from_range}
+use Rattle.std.proofs.lemmas.Iterator.Search.{all_from_yields_List}
+use Rattle.site_file.proofs.File.{lawful_place, lawful_run}
 use Rattle.site_file.proofs.reading.all_lawful.Goals as goal
 
-pub loop-left-init : goal.loop-left-init
-loop-left-init c = (search rules, refl)
-
-pub returns-then-not-lawful_at : goal.returns-then-not-lawful_at
-returns-then-not-lawful_at c =
-    lawful_stop _ _ _ c.loop-left-test.true (sym c.lawful_at.ensures ∙ c.if-not-lawful_at.true)
-    ∙ c.loop-left.invariant.1
-
-pub loop-left-preserved : goal.loop-left-preserved
-loop-left-preserved c = (
-  search rules,
-  lawful_step _ _ _ c.loop-left-test.true (sym c.lawful_at.ensures ∙ c.if-not-lawful_at.false)
-      ∙ c.loop-left.invariant.1,
-)
-
 pub returns : goal.returns
-returns c = lawful_end _ _ _ c.loop-left-test.false ∙ c.loop-left.invariant.1
+returns c =
+    let a = c.args in
+    all_from_yields_List (lawful_place a.file.now a.start) _ _ _ c.all.ensures.ran
+    (YieldsList-from_range 0 a.count a.count refl (omega arith)) (λ x b q k. search rules)
+    ∙ lawful_run a.file.now a.start a.count

@@ -1,5 +1,4 @@
 -- A look: each return is one of its outcomes.
-use native.Mathlib.Omega.{arith}
 use mathlib.Core.Path.{refl}
 use Rattle.sweep.proofs.LookLaws.{look_stops, look_flat, look_passes, look_leaves, look_offers}
 use Rattle.sweep.proofs.look.look.Goals as goal
@@ -31,17 +30,3 @@ returns c =
     rw c.gone_on-2.ensures
     (look_offers c.requires c.squared_gap_at.ensures c.squared_distance_at-squared.ensures c.if-tally-squared_gap_at.false
     c.if-squared-eq0.false (rw c.if-reference.false c.pair-e-2.ensures) c.offer-next-2.ensures)
-
-pub overflow_cast-other : goal.overflow_cast-other
-overflow_cast-other c = let asked = c.requires in omega (arith, asked.inside, asked.lawful.others.few)
-
-pub offer-next-requires : goal.offer-next-requires
-offer-next-requires c = c.requires.queue
-
-pub offer-next-requires-2 : goal.offer-next-requires-2
-offer-next-requires-2 c = c.requires.queue
-
-pub plane_distance_at-requires : goal.plane_distance_at-requires
-plane_distance_at-requires c =
-    let asked = c.requires in
-    record { x_value = (asked.lawful.x, asked.lawful.y); coordinates = (asked.lawful.others, asked.inside) }

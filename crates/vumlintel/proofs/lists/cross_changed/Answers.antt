@@ -1,13 +1,12 @@
 -- `cross_changed` meets its contract: each arm returns and writes what its case of the answer tells.
 use mathlib.Core.Path.{refl}
-use Rattle.site.specs.Answer.{number_of, afterwards}
-use Rattle.site.specs.InUse.{changed_answer}
+use Rattle.site.specs.Answer.{number_of, afterwards, answer_of}
 use Rattle.vumlintel.proofs.lists.cross_changed.Goals as goal
 
-pub returns-in-At : goal.returns-in-At
-unfolding changed_answer number_of afterwards
-returns-in-At c d = rw c.in-At.is (record { number = refl; values = refl })
+pub returns-in-Ok : goal.returns-in-Ok
+unfolding answer_of number_of afterwards
+returns-in-Ok c d = rw c.in-Ok.is (record { number = refl; values = refl })
 
-pub returns-in-Refused : goal.returns-in-Refused
-unfolding changed_answer number_of afterwards
-returns-in-Refused c d = rw c.in-Refused.is (record { number = refl; values = refl })
+pub returns-in-Err : goal.returns-in-Err
+unfolding answer_of number_of afterwards
+returns-in-Err c d = rw c.in-Err.is (record { number = c.number.ensures; values = refl })

@@ -1,11 +1,10 @@
 -- `vumlintel_forecast` meets its contract: what the call told, crossed.
-use mathlib.Core.Path.{ap, ◌∙◌}
+use mathlib.Core.Path.{ap}
 use Rattle.pairs.specs.Forecast.{forecast_values}
-use Rattle.vumlintel.proofs.Crosses.{crossed_number, within_over, refusal_leaves}
+use Rattle.vumlintel.proofs.Crosses.{crossed_value, refusal_leaves}
 use Rattle.vumlintel.proofs.pair_lists.vumlintel_forecast.Goals as goal
 
 pub returns : goal.returns
 returns c =
-    let call = c.forecast-answer.ensures in
-    crossed_number _ (within_over _ _ ∙ call.0) (λ n told. ap forecast_values (refusal_leaves _ told call.1))
-    c.cross_within.ensures
+    let call = rw (c.list-a.ensures, c.list-b.ensures) at c.forecast.ensures in
+    crossed_value _ call.0 (λ n told. ap forecast_values (refusal_leaves _ told call.1)) c.cross.ensures
