@@ -52,7 +52,9 @@ pub fn jobs(
     rows::refusal(
         customer, g, a, b, distance, first, second, job_first, job_second, job_way,
     )?;
+    let p = a.spots();
+    let q = b.spots();
     Ok(rows::work(
-        customer, g, a, b, distance, first, second, job_first, job_second, job_way,
+        customer, g, p, q, distance, first, second, job_first, job_second, job_way,
     ))
 }

@@ -12,7 +12,7 @@ ghost use Rattle.batch.specs.Internal.{EqualColumns, RowsAsked};
 
 use super::{BatchDone, adding, ways};
 use customers::Grid;
-use site::{Refusal, SiteColumns};
+use site::{Refusal, SiteColumns, Spots};
 
 // Whether the first job at fault is refused: for 8, then 9. A job further up counts as settled.
 #[tactic(auto, unfolding(site::specs::Answer::refusal_of, site::specs::Answer::number, site::specs::Answer::or_else, crate::specs::Batch::rows_refusal))]
@@ -78,8 +78,8 @@ pub(super) fn refusal(
 pub(super) fn work(
     customer: u32,
     g: Grid,
-    a: SiteColumns<'_>,
-    b: SiteColumns<'_>,
+    a: Spots<'_>,
+    b: Spots<'_>,
     distance: &mut [u64],
     first: &mut [u32],
     second: &mut [u32],

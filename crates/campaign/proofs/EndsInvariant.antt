@@ -1,19 +1,18 @@
 -- Cut ends taken one at a time: the test of them, the strip that holds a place, and the slots.
-use mathlib.Core.Path.{◌≡◌, refl, sym, ap, ◌∙◌}
+use mathlib.Core.Path.{◌≡◌, refl, ap, ◌∙◌}
 use mathlib.Core.Bool.{Bool, true, false, ◌&&◌}
 use mathlib.Core.List.{List, [], ◌∷◌}
 use Prim.Native.Nat.{ℕ, suc, ◌+◌, ◌≤◌, ◌<◌}
 use native.Mathlib.Numerals.{add-one}
+use native.Mathlib.Omega.{arith}
 use lib.Dec.{leb, ltb, eqb}
 use lib.Pointwise.{pointwise}
 use lib.ListN.{length, get_or, take, drop, drop_of_length-le}
 use lib.Seq.{drop-cons}
 use borrow.Author.Tests.{lt-ltb, le-ltb, le-leb, lt-leb, eq-eqb}
-use Rattle.std.specs.List.{count_by, filter}
-use Rattle.std.proofs.lemmas.List.Sums.{length-filter}
 use Rattle.order.specs.Order.{ascending}
 use Rattle.order.specs.Lists.{keep, last as ending}
-use Rattle.order.proofs.Order.{by_test}
+use Rattle.order.proofs.Lists.{keep_nil, keep_yes, keep_no}
 use Rattle.campaign.specs.Grid.{lawful_ends, same_numbers, same_ends, strip_holding}
 use Rattle.campaign.specs.Calls.{slots}
 
@@ -85,11 +84,33 @@ slots_same used slots ends count is = is ∙ rw (count, eq-eqb (length ends) (le
 
 -- ---- the strip that holds a place
 
-kept_count : (test : ℕ → Bool) (l : List ℕ) → length (filter test l) ≡ length (keep test l)
-unfolding keep
-kept_count test [] = refl
-kept_count test (a ∷ l) = by_test (test a) (λ t. rw t (ap suc (kept_count test l))) (λ f. rw f (kept_count test l))
+abbrev at_most : ℕ → ℕ → Bool
+at_most place e = leb e place
 
-pub held : (ends : List ℕ) (place : ℕ) → count_by (λ e. leb e place) ends ≡ strip_holding ends place
+pub held_none : (ends : List ℕ) (place : ℕ) → 0 + length (keep (λ e. leb e place) (drop 0 ends)) ≡ strip_holding ends place
 unfolding strip_holding
-held ends place = sym (length-filter (λ e. leb e place) ends) ∙ kept_count (λ e. leb e place) ends
+held_none ends place = omega arith
+
+module _ (ends : List ℕ) (place before i : ℕ) (inside : i < length ends) where
+  rest_of : drop i ends ≡ get_or ends i 0 ∷ drop (suc i) ends
+  rest_of = drop-cons ends i 0 inside
+
+  module _ (h : before + length (keep (λ e. leb e place) (drop i ends)) ≡ strip_holding ends place) where
+    pub held_one : get_or ends i 0 ≤ place → before + 1 + length (keep (λ e. leb e place) (drop (i + 1) ends)) ≡ strip_holding ends place
+    held_one t =
+        let k : length (keep (at_most place) (drop i ends)) ≡ suc (length (keep (at_most place) (drop (suc i) ends))) =
+        rw (rest_of, keep_yes (at_most place) (get_or ends i 0) (drop (suc i) ends) (le-leb (get_or ends i 0) place t)) refl in
+        rw (add-one i) (omega arith)
+
+    pub held_other : place < get_or ends i 0 → before + length (keep (λ e. leb e place) (drop (i + 1) ends)) ≡ strip_holding ends place
+    held_other t =
+        let k : length (keep (at_most place) (drop i ends)) ≡ length (keep (at_most place) (drop (suc i) ends)) =
+        rw (rest_of, keep_no (at_most place) (get_or ends i 0) (drop (suc i) ends) (lt-leb (get_or ends i 0) place t)) refl in
+        rw (add-one i) (omega arith)
+
+pub held_all : (ends : List ℕ) (place before i : ℕ) → length ends ≤ i
+    → before + length (keep (λ e. leb e place) (drop i ends)) ≡ strip_holding ends place → before ≡ strip_holding ends place
+held_all ends place before i h e =
+    let none : drop i ends ≡ [] = drop_of_length-le ends h in
+    let k : length (keep (at_most place) (drop i ends)) ≡ 0 = rw (none, keep_nil (at_most place)) refl in
+    omega arith

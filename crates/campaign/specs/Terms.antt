@@ -1,6 +1,6 @@
 -- Terms of contracts that other crates cite: what the work on a job asks.
 use Rattle.std.specs.Prelude.{◌≡◌, true, Bool, ◌&&◌, List, ℕ, ◌<◌, leb, length, take, ℤ}
-use Rattle.site.specs.declared.SiteColumns.{SiteColumns}
+use Rattle.site.specs.declared.Spots.{Spots}
 use Rattle.site.specs.Terms.{Coordinates, Heights}
 use Rattle.entry.specs.Entry.{lawful_k}
 use Rattle.entry.specs.Results.{Results}
@@ -13,7 +13,7 @@ pub record LawfulColumns (xs ys hs : List ℤ) : Type 0 where
   pub plane : Coordinates xs ys
   pub heights : Heights (length xs) hs
 
-abbrev pub BothLists : SiteColumns → SiteColumns → Type 0
+abbrev pub BothLists : Spots → Spots → Type 0
 BothLists a b =
     LawfulColumns a.x.now a.y.now a.height.now × LawfulColumns b.x.now b.y.now b.height.now
 

@@ -126,5 +126,7 @@ pub fn job(
         (answer_of (job_done_values l.exit) result ≡ answer) × (l.exit ≡ afterwards (λ v. v.results) answer l.entry) }
 {
     jobs::refusal(customer, g, a, b, distance, first, second, s, t)?;
-    Ok(jobs::work(customer, g, a, b, distance, first, second, s, t, way))
+    let p = a.spots();
+    let q = b.spots();
+    Ok(jobs::work(customer, g, p, q, distance, first, second, s, t, way))
 }

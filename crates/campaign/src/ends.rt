@@ -48,11 +48,17 @@ pub(super) fn lawful_slots(n: usize, slots: [u32; 32], used: u32) -> bool
     used <= 32 && lawful(n, &slots[..used as usize])
 }
 
-// The strip that holds a place: how many ends are at most the place.
+// The strip that holds a place: how many ends are at most the place. A filter's count would look at one end at a time.
 pub(super) fn holding(ends: &[u32], place: u32) -> usize
     ensures { result ≡ strip_holding ends.now place }
 {
-    ends.iter().filter(|end| **end <= place).count()
+    let mut before = 0;
+    for &end in ends {
+        if end <= place {
+            before += 1;
+        }
+    }
+    before
 }
 
 // The ends in the 32 slots of a campaign.

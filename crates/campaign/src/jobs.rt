@@ -17,7 +17,7 @@ ghost use Rattle.campaign.specs.Calls.{job_fault, job_refusal, skips, after_job,
 use super::{JobDone, Outcome, ends, marks, soundness};
 use customers::{Campaign, Grid};
 use join::{Join, Joined};
-use site::{Refusal, SiteColumns};
+use site::{Refusal, SiteColumns, Spots};
 
 // Whether a job's strip numbers or its mark are refused: for 8, then 9.
 #[tactic(auto, unfolding(site::specs::Answer::refusal_of, site::specs::Answer::number, site::specs::Answer::or_else, crate::specs::Calls::job_fault))]
@@ -68,8 +68,8 @@ pub(super) fn refusal(
 // Whether a job is skipped: the list has K entries and the gap squared is greater than the last squared distance.
 pub(super) fn skips(
     c: Campaign,
-    a: SiteColumns<'_>,
-    b: SiteColumns<'_>,
+    a: Spots<'_>,
+    b: Spots<'_>,
     distance: &[u64],
     s: u32,
     t: u32,
@@ -94,8 +94,8 @@ pub(super) fn skips(
 // Joins the strips of a job that is not skipped, by the way named.
 pub(super) fn swept(
     c: Campaign,
-    a: SiteColumns<'_>,
-    b: SiteColumns<'_>,
+    a: Spots<'_>,
+    b: Spots<'_>,
     distance: &mut [u64],
     first: &mut [u32],
     second: &mut [u32],
@@ -168,8 +168,8 @@ pub(super) fn done(customer: u32, g: Grid, s: u32, t: u32, joined: Joined) -> Jo
 pub fn work(
     customer: u32,
     g: Grid,
-    a: SiteColumns<'_>,
-    b: SiteColumns<'_>,
+    a: Spots<'_>,
+    b: Spots<'_>,
     distance: &mut [u64],
     first: &mut [u32],
     second: &mut [u32],

@@ -29,5 +29,7 @@ pub(super) fn refusal(
     if !entry::k_up_to(c.k, k) {
         return Err(Refusal::K);
     }
-    soundness::keeper_refusal(customer, g, a, b, distance, first, second)
+    let p = a.spots();
+    let q = b.spots();
+    soundness::keeper_refusal(customer, g, p, q, distance, first, second)
 }

@@ -16,10 +16,10 @@ ghost use Rattle.campaign.specs.Soundness.{sound_entry, sound, lawful_grid, call
 use super::{ends, marks, totals};
 use customers::{Campaign, Grid};
 use entry::Entry;
-use site::{Refusal, SiteColumns};
+use site::{Refusal, SiteColumns, Spots};
 
 // The squared distance of the sites at two places.
-fn distance_at(a: SiteColumns<'_>, b: SiteColumns<'_>, i: usize, j: usize) -> u64
+fn distance_at(a: Spots<'_>, b: Spots<'_>, i: usize, j: usize) -> u64
     requires both_lists { BothLists a b }
     requires i_in_bounds { (i < length a.x.now) × (j < length b.x.now) }
     ensures { NumberedLists a.entry b.entry (λ p q. result ≡ squared_distance (site_at p i) (site_at q j)) }
@@ -47,8 +47,8 @@ fn in_order(distance: &[u64], first: &[u32], second: &[u32], count: usize) -> bo
 // Whether an entry has no fault.
 fn sound_entry(
     e: Entry,
-    a: SiteColumns<'_>,
-    b: SiteColumns<'_>,
+    a: Spots<'_>,
+    b: Spots<'_>,
     first_ends: &[u32],
     second_ends: &[u32],
     marks: &[u8],
@@ -77,8 +77,8 @@ fn all_sound(
     first: &[u32],
     second: &[u32],
     count: usize,
-    a: SiteColumns<'_>,
-    b: SiteColumns<'_>,
+    a: Spots<'_>,
+    b: Spots<'_>,
     first_ends: &[u32],
     second_ends: &[u32],
     marks: &[u8],
@@ -112,8 +112,8 @@ fn sound_plan(c: Campaign, n: usize, m: usize) -> bool
 // Whether the entries stand in order and have no fault.
 fn sound_entries(
     c: Campaign,
-    a: SiteColumns<'_>,
-    b: SiteColumns<'_>,
+    a: Spots<'_>,
+    b: Spots<'_>,
     distance: &[u64],
     first: &[u32],
     second: &[u32],
@@ -146,8 +146,8 @@ fn sound_entries(
 // pairs of settled jobs: where they are held, no pair is counted.
 fn sound(
     c: Campaign,
-    a: SiteColumns<'_>,
-    b: SiteColumns<'_>,
+    a: Spots<'_>,
+    b: Spots<'_>,
     distance: &[u64],
     first: &[u32],
     second: &[u32],
@@ -187,8 +187,8 @@ pub fn caller_refusal(customer: u32, a: SiteColumns<'_>, b: SiteColumns<'_>) -> 
 pub fn keeper_refusal(
     customer: u32,
     g: Grid,
-    a: SiteColumns<'_>,
-    b: SiteColumns<'_>,
+    a: Spots<'_>,
+    b: Spots<'_>,
     distance: &[u64],
     first: &[u32],
     second: &[u32],
@@ -228,5 +228,7 @@ pub fn refusal(
         refusal_of result ≡ campaign_refusal customer g (list_of a.entry) (list_of b.entry) l }
 {
     caller_refusal(customer, a, b)?;
-    keeper_refusal(customer, g, a, b, distance, first, second)
+    let p = a.spots();
+    let q = b.spots();
+    keeper_refusal(customer, g, p, q, distance, first, second)
 }

@@ -8,10 +8,10 @@ ghost use Rattle.campaign.specs.Terms.{BothLists, sound_plan, JobAsked};
 
 use super::{ends, marks};
 use customers::Campaign;
-use site::SiteColumns;
+use site::Spots;
 
 // How many pairs a job has.
-fn job(c: Campaign, a: SiteColumns<'_>, b: SiteColumns<'_>, s: u32, t: u32) -> u64
+fn job(c: Campaign, a: Spots<'_>, b: Spots<'_>, s: u32, t: u32) -> u64
     requires both_lists { BothLists a b }
     requires job_asked { JobAsked c (length a.x.now) (length b.x.now) (job_of s t) }
     ensures { NumberedLists a.entry b.entry (λ p q.
@@ -23,7 +23,7 @@ fn job(c: Campaign, a: SiteColumns<'_>, b: SiteColumns<'_>, s: u32, t: u32) -> u
 }
 
 // How many pairs the settled jobs of a strip of the first list have.
-fn row(c: Campaign, a: SiteColumns<'_>, b: SiteColumns<'_>, s: u32) -> u64
+fn row(c: Campaign, a: Spots<'_>, b: Spots<'_>, s: u32) -> u64
     requires both_lists { BothLists a b }
     requires plan { (sound_plan c (length a.x.now) (length b.x.now) ≡ true) × (s < c.first_strips) }
     ensures { let row = keep (settled c.marks) (map (job_of s) (count_from 0 c.second_strips)) in
@@ -39,7 +39,7 @@ fn row(c: Campaign, a: SiteColumns<'_>, b: SiteColumns<'_>, s: u32) -> u64
 }
 
 // How many pairs the settled jobs have.
-pub(super) fn settled_pairs(c: Campaign, a: SiteColumns<'_>, b: SiteColumns<'_>) -> u64
+pub(super) fn settled_pairs(c: Campaign, a: Spots<'_>, b: Spots<'_>) -> u64
     requires both_lists { BothLists a b }
     requires plan { sound_plan c (length a.x.now) (length b.x.now) ≡ true }
     ensures { NumberedLists a.entry b.entry (λ p q.

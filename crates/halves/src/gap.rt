@@ -9,7 +9,7 @@ ghost use Rattle.halves.specs.Gap.{squared_strip_gap};
 ghost use Rattle.halves.specs.Terms.{SomeStrip};
 ghost use Rattle.halves.specs.Internal.{range_sites, box_across};
 
-use site::SiteColumns;
+use site::Spots;
 
 // The box of a range of places.
 pub(super) fn box_of(x: &[i32], y: &[i32], height: &[i32], from: usize, to: usize) -> [i32; 6]
@@ -30,8 +30,8 @@ fn box_across(x: &[i32], from: usize, to: usize) -> [i32; 6]
 
 // The square of the gap of two ranges of places, such as two strips.
 fn squared_gap(
-    a: SiteColumns<'_>,
-    b: SiteColumns<'_>,
+    a: Spots<'_>,
+    b: Spots<'_>,
     a_from: usize,
     a_to: usize,
     b_from: usize,
@@ -50,8 +50,8 @@ fn squared_gap(
 
 // Whether the gap squared of two ranges of places is greater than a limit. Along x it is known at once, and often enough.
 pub fn gap_beyond(
-    a: SiteColumns<'_>,
-    b: SiteColumns<'_>,
+    a: Spots<'_>,
+    b: Spots<'_>,
     a_from: usize,
     a_to: usize,
     b_from: usize,

@@ -13,7 +13,7 @@ ghost use Rattle.halves.specs.Internal.{visited_of};
 
 use entry::Queue;
 pub use gap::gap_beyond;
-use site::SiteColumns;
+use site::Spots;
 
 // How many range pairs a join by halves visited.
 #[derive(Clone, Copy)]
@@ -71,8 +71,8 @@ fn answer(tally: Tally, distance: &mut [u64], first: &mut [u32], second: &mut [u
 
 // The join by halves of two strips. (02 k.)
 pub fn run(
-    a: SiteColumns<'_>,
-    b: SiteColumns<'_>,
+    a: Spots<'_>,
+    b: Spots<'_>,
     a_from: usize,
     a_to: usize,
     b_from: usize,

@@ -26,7 +26,7 @@ ghost use Rattle.halves.specs.Internal.{
 
 use super::{Half, Halves, Range, Tally, gap};
 use entry::{Entry, Queue};
-use site::SiteColumns;
+use site::Spots;
 
 // The gap squared of two boxes, the first list's first: `own` is the second list's where they are swapped.
 fn gap_to(own: [i32; 6], other: [i32; 6], swapped: bool) -> u64
@@ -225,8 +225,8 @@ fn expand(
 
 // The visit of two whole strips; there is none where one is empty.
 pub(super) fn join(
-    a: SiteColumns<'_>,
-    b: SiteColumns<'_>,
+    a: Spots<'_>,
+    b: Spots<'_>,
     a_from: usize,
     a_to: usize,
     b_from: usize,

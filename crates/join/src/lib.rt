@@ -6,7 +6,7 @@ ghost use Rattle.sweep.specs.Terms.{NumberedLists, SweepAsked};
 ghost use Rattle.join.specs.Terms.{JoinedStrips};
 
 use halves::RangePairs;
-use site::SiteColumns;
+use site::Spots;
 use sweep::{Distances, Looks, Way};
 
 // The three ways to join two strips: a sweep, or by halves. (01: sweep; 02 k: join by halves.)
@@ -34,8 +34,8 @@ pub struct Joined {
 // The join named.
 pub fn run(
     way: Join,
-    a: SiteColumns<'_>,
-    b: SiteColumns<'_>,
+    a: Spots<'_>,
+    b: Spots<'_>,
     a_from: usize,
     a_to: usize,
     b_from: usize,

@@ -36,7 +36,9 @@ fn list_with(
         Ok(listed) => {
             let n = a.x.len();
             let m = b.x.len();
-            let total = sweep::count_pairs(a, b, 0, n, 0, m);
+            let p = a.spots();
+            let q = b.spots();
+            let total = sweep::count_pairs(p, q, 0, n, 0, m);
             let count = listed.count as usize;
             body::put_text(
                 a.number, b.number, distance, first, second, count, total, out,

@@ -7,7 +7,7 @@ use Rattle.column.specs.Lent.{LentMut}
 use Rattle.site.specs.Site.{Site, within, height_within, gap, square, squared_distance}
 use Rattle.site.specs.SiteList.{raised_site}
 use Rattle.site.specs.Terms.{Coordinates, Heights}
-use Rattle.site.specs.declared.SiteColumns.{SiteColumns}
+use Rattle.site.specs.declared.Spots.{Spots}
 use Rattle.entry.specs.declared.Entry.{Entry}
 use Rattle.sweep.specs.Strip.{Placed, pair, pairs}
 use Rattle.sweep.specs.Terms.{spot_of, rightward}
@@ -84,7 +84,7 @@ near_pairs e ax ay ah bx by bh from =
     (pairs (rightward ax ay ah from (length ax - from)) (rightward bx by bh 0 (length bx - 0)))
 
 -- The same of two lists that were lent.
-abbrev pub lent_pairs : ℕ → SiteColumns → SiteColumns → ℕ → List Entry
+abbrev pub lent_pairs : ℕ → Spots → Spots → ℕ → List Entry
 lent_pairs e a b = near_pairs e a.x.now a.y.now a.height.now b.x.now b.y.now b.height.now
 
 -- A position inside the limits, and the coordinate columns of a lawful list.

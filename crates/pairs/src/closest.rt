@@ -48,8 +48,10 @@ pub fn k_list(
     k_list_refusal(a, b, k, distance, first, second)?;
     let n = a.x.len();
     let m = b.x.len();
+    let p = a.spots();
+    let q = b.spots();
     let joined = join::run(
-        way, a, b, 0, n, 0, m, k as usize, 0, distance, first, second,
+        way, p, q, 0, n, 0, m, k as usize, 0, distance, first, second,
     );
     Ok(Listed {
         count: joined.entries,

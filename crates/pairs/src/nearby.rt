@@ -16,10 +16,10 @@ ghost use Rattle.pairs.specs.Internal.{
 };
 
 use super::{Run, window};
-use site::{Refusal, SiteColumns};
+use site::{Refusal, SiteColumns, Spots};
 
 // Whether a site is no more than `e` from a position, and not at it. A difference of y beyond `e` decides alone.
-fn is_near(x: i32, y: i32, h: i32, b: SiteColumns<'_>, j: usize, e: u32) -> bool
+fn is_near(x: i32, y: i32, h: i32, b: Spots<'_>, j: usize, e: u32) -> bool
     requires { (Reference x y h b.x.now b.y.now b.height.now) × (j < length b.x.now) }
     ensures { let b = b.entry in
         result ≡ near (e * e) x y h (spot b.x.now b.y.now b.height.now j).site }
@@ -34,7 +34,7 @@ fn is_near(x: i32, y: i32, h: i32, b: SiteColumns<'_>, j: usize, e: u32) -> bool
 }
 
 // How many sites of a run are near a position.
-fn count_row(x: i32, y: i32, h: i32, b: SiteColumns<'_>, run: Run, e: u32) -> u64
+fn count_row(x: i32, y: i32, h: i32, b: Spots<'_>, run: Run, e: u32) -> u64
     requires { (Reference x y h b.x.now b.y.now b.height.now) × (run.right ≤ length b.x.now) }
     ensures { let b = b.entry in
         result ≡ length (near_sites (e * e) x y h b.x.now b.y.now b.height.now run.left run.right) }
@@ -49,7 +49,7 @@ fn count_row(x: i32, y: i32, h: i32, b: SiteColumns<'_>, run: Run, e: u32) -> u6
 }
 
 // How many pairs of two lawful lists are within `e`.
-fn count_all(a: SiteColumns<'_>, b: SiteColumns<'_>, e: u32) -> u64
+fn count_all(a: Spots<'_>, b: Spots<'_>, e: u32) -> u64
     requires coordinates { (Coordinates a.x.now a.y.now) × (Heights (length a.x.now) a.height.now) }
     requires coordinates_2 { (Coordinates b.x.now b.y.now) × (Heights (length b.x.now) b.height.now) }
     ensures { result ≡ length (lent_pairs e a.entry b.entry 0) }
@@ -69,7 +69,7 @@ fn write_row(
     y: i32,
     h: i32,
     place: u32,
-    b: SiteColumns<'_>,
+    b: Spots<'_>,
     run: Run,
     e: u32,
     n: usize,
@@ -96,13 +96,7 @@ fn write_row(
 }
 
 // Writes the places of all pairs within `e` of two lawful lists into the columns, which have room for them: how many.
-fn write_all(
-    a: SiteColumns<'_>,
-    b: SiteColumns<'_>,
-    e: u32,
-    first: &mut [u32],
-    second: &mut [u32],
-) -> usize
+fn write_all(a: Spots<'_>, b: Spots<'_>, e: u32, first: &mut [u32], second: &mut [u32]) -> usize
     requires coordinates { (Coordinates a.x.now a.y.now) × (Heights (length a.x.now) a.height.now) }
     requires coordinates_2 { (Coordinates b.x.now b.y.now) × (Heights (length b.x.now) b.height.now) }
     requires room { Room (lent_pairs e a b 0) 0 first.old second.old }
@@ -139,7 +133,9 @@ fn distance_refusal(
     ensures { refusal_of result ≡ distance_refusal (list_of a.entry) (list_of b.entry) e first.now second.now }
 {
     site::lists_refusal(a, b)?;
-    let count = count_all(a, b, e);
+    let p = a.spots();
+    let q = b.spots();
+    let count = count_all(p, q, e);
     if (first.len().min(second.len()) as u64) < count {
         return Err(Refusal::Room);
     }
@@ -160,6 +156,8 @@ pub fn distance_list(
         × (second.new ≡ afterwards (λ v. v.second) answer second.old)) }
 {
     distance_refusal(a, b, e, first, second)?;
-    let count = write_all(a, b, e, first, second);
+    let p = a.spots();
+    let q = b.spots();
+    let count = write_all(p, q, e, first, second);
     Ok(count as u64)
 }

@@ -5,10 +5,11 @@ ghost use Rattle.pairs.specs.Internal.{offset, Rising, Skipped, Behind, RunOf};
 use super::Run;
 
 // How far a coordinate is right of the least `i32`.
+#[tactic(auto, unfolding(crate::specs::Internal::offset, site::specs::Site::gap))]
 pub(super) fn offset(x: i32) -> u64
     ensures { (result ≡ offset x) × (result < 2 ^ 32) }
 {
-    u64::from(x.abs_diff(i32::MIN))
+    (x as i64 - i32::MIN as i64) as u64
 }
 
 // The first place from `from` on whose offset is `limit` or more.

@@ -1,11 +1,8 @@
 -- The order of sites: its steps, and that it tells apart what differs in x, y or number.
 use mathlib.Core.Path.{◌≡◌, refl}
-use mathlib.Core.Bool.{Bool, true, false, cond}
+use mathlib.Core.Bool.{true, false, cond}
 use lib.Dec.{ltb}
 use lib.Signed.{lt_z}
-use Rattle.std.specs.Prelude.{Some, int_lt, nat_lt, ◌==◌}
-use Rattle.std.proofs.Common.{Less, Equal, Greater}
-use Rattle.std.specs.Ordering.{is_lt, is_some_and, partial_ordering_then, int_cmp, nat_cmp}
 use Rattle.order.specs.Order.{lex}
 use Rattle.order.proofs.Order.{OrderUpTo, lex_order, by_integer, by_number_lem}
 use Rattle.site.specs.Site.{Site, site_before}
@@ -34,30 +31,6 @@ module _ (s t : Site) where
   pub number_decides : lt_z s.x t.x ≡ false → lt_z t.x s.x ≡ false → lt_z s.y t.y ≡ false
       → lt_z t.y s.y ≡ false → ltb s.number t.number ≡ site_before s t
   number_decides p q r u = simp (before_is, p, q, r, u)
-
--- The first of three comparisons that decides, each as two tests.
-first_decides : (p q r u v w : Bool)
-    → is_some_and is_lt
-    (partial_ordering_then
-    (partial_ordering_then (Some (cond p Less (cond q Greater Equal))) (Some (cond r Less (cond u Greater Equal))))
-    (Some (cond v Less (cond w Equal Greater))))
-    ≡ cond p true (cond q false (cond r true (cond u false v)))
-first_decides true q r u v w = refl
-first_decides false true r u v w = refl
-first_decides false false true u v w = refl
-first_decides false false false true v w = refl
-first_decides false false false false true w = refl
-first_decides false false false false false true = refl
-first_decides false false false false false false = refl
-
--- Triples of x, y and number compare as sites do.
-pub triples_before : (s t : Site)
-    → is_some_and is_lt
-    (partial_ordering_then (partial_ordering_then (Some (int_cmp s.x t.x)) (Some (int_cmp s.y t.y))) (Some (nat_cmp s.number t.number)))
-    ≡ site_before s t
-unfolding site_before lex
-triples_before s t =
-    first_decides (int_lt s.x t.x) (int_lt t.x s.x) (int_lt s.y t.y) (int_lt t.y s.y) (nat_lt s.number t.number) (s.number == t.number)
 
 -- The same x, y and number, whatever the other coordinates.
 abbrev pub SameSite : Site → Site → Type 0

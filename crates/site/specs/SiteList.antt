@@ -3,6 +3,7 @@ use Rattle.std.specs.Prelude.{◌≡◌, ℕ, ℤ, pos, take, get_or}
 use mathlib.Core.List.{List, [], ◌∷◌, map, zip_with}
 use Rattle.column.specs.Lent.{Lent, LentMut, Held, the, ◌of◌, ◌of_mut◌}
 use Rattle.site.specs.declared.SiteColumns as told
+use Rattle.site.specs.declared.Spots.{Spots}
 use Rattle.site.specs.Site.{Site}
 
 -- The columns of a list, as they are lent; `further` has one for each coordinate beside x and y. (01: list.)
@@ -33,6 +34,10 @@ list_of l = raised l.x.now l.y.now l.number.now l.height.now
 abbrev pub lent_list_mut :
     LentMut (List ℤ) → LentMut (List ℤ) → LentMut (List ℕ) → LentMut (List ℤ) → Held Columns
 lent_list_mut x y number height = the raised of_mut x of_mut y of_mut number of_mut height
+
+-- Where the sites of a list stand, as the struct of the code lends it.
+abbrev pub spots_of : told.SiteColumns → Spots
+spots_of l = record { x = l.x; y = l.y; height = l.height }
 
 -- A list of the plane, and the same with every height 0.
 abbrev pub Plane : Columns → Type 0

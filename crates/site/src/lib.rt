@@ -11,6 +11,7 @@ mod removing;
 
 ghost use Rattle.std.specs.Prelude.{◌≡◌};
 ghost use Rattle.site.specs.Site.{between, within, height_within};
+ghost use Rattle.site.specs.SiteList.{spots_of};
 
 pub use adding::{add, lawful};
 pub use in_use::{is_present, place_of};
@@ -35,6 +36,27 @@ pub struct SiteColumns<'a> {
     pub y: &'a [i32],
     pub number: &'a [u32],
     pub height: &'a [i32],
+}
+
+// Where the sites of a list stand, as it is lent, for what reads no number: a column each for their x, y and heights.
+#[derive(Clone, Copy)]
+pub struct Spots<'a> {
+    pub x: &'a [i32],
+    pub y: &'a [i32],
+    pub height: &'a [i32],
+}
+
+impl<'a> SiteColumns<'a> {
+    // Where the sites stand.
+    pub fn spots(self) -> Spots<'a>
+        ensures { result ≡ spots_of self.entry }
+    {
+        Spots {
+            x: self.x,
+            y: self.y,
+            height: self.height,
+        }
+    }
 }
 
 // What adding or removing a site answers: its place and the new count in use.

@@ -12,11 +12,13 @@ ghost use Rattle.site.specs.Refusal.{size_fault, list_refusal, lists_refusal, ch
 
 use super::{Refusal, Site, SiteColumns};
 
-// Whether one site comes before another: by x, then y, then number.
+// Whether one site comes before another: by x, then y, then number. A tuple's comparison jumps, so that loops would compare one
+// site at a time.
+#[tactic(auto, unfolding(crate::specs::Site::site_before, order::specs::Order::lex))]
 pub fn before(ax: i32, ay: i32, an: u32, bx: i32, by: i32, bn: u32) -> bool
     ensures { result ≡ site_before (site ax ay an) (site bx by bn) }
 {
-    (ax, ay, an) < (bx, by, bn)
+    ax < bx || (ax <= bx && (ay < by || (ay <= by && an < bn)))
 }
 
 // 1 for a coordinate outside two limits, else 0.

@@ -16,7 +16,7 @@ pub fn at_most(a: i32, b: i32) -> bool
 pub fn gap(a: i32, b: i32) -> u64
     ensures { result ≡ gap a b }
 {
-    a.abs_diff(b) as u64
+    (a as i64 - b as i64).unsigned_abs()
 }
 
 // How far `b` is above `a`, 0 where it is not.

@@ -3,7 +3,7 @@ use Rattle.std.specs.Prelude.{List, [], ◌∷◌, ◌≡◌, ℕ, zero, suc, �
 use Rattle.site.specs.Site.{Site}
 use Rattle.site.specs.SiteList.{raised_site}
 use Rattle.site.specs.Terms.{Coordinates, Heights, Numbered}
-use Rattle.site.specs.declared.SiteColumns.{SiteColumns}
+use Rattle.site.specs.declared.Spots.{Spots}
 use Rattle.entry.specs.Results.{Results, entries_of, holding}
 use Rattle.entry.specs.Terms.{Ready}
 use Rattle.sweep.specs.declared.Swept.{Swept}
@@ -53,5 +53,5 @@ SweptStrips way aFrom aTo bFrom bTo k count before after answer a b =
     SweptTo (sweep way k (strip aFrom aTo a) (strip bFrom bTo b) (entries_of count before)) before after answer
 
 -- What holds of two lists that were lent, whatever the numbers of their sites.
-abbrev pub NumberedLists : SiteColumns → SiteColumns → (List Site → List Site → Type 0) → Type 0
+abbrev pub NumberedLists : Spots → Spots → (List Site → List Site → Type 0) → Type 0
 NumberedLists a b holds = Numbered a.x.now a.y.now a.height.now b.x.now b.y.now b.height.now holds

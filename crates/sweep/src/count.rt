@@ -7,7 +7,7 @@ ghost use Rattle.sweep.specs.Strip.{strip, pairs};
 ghost use Rattle.sweep.specs.Terms.{rightward, NumberedLists, StripIn};
 ghost use Rattle.sweep.specs.Internal.{PlaneStrip, RunAt, co_sited};
 
-use site::SiteColumns;
+use site::Spots;
 
 // Whether the position at one place comes before that at another.
 fn before_at(ax: &[i32], ay: &[i32], i: usize, bx: &[i32], by: &[i32], j: usize) -> bool
@@ -43,8 +43,8 @@ fn run_end(xs: &[i32], ys: &[i32], from: usize, to: usize) -> usize
 
 // How many pairs of one site each of two strips are co-sited: at one position, and at one height.
 fn co_sited(
-    a: SiteColumns<'_>,
-    b: SiteColumns<'_>,
+    a: Spots<'_>,
+    b: Spots<'_>,
     a_from: usize,
     a_to: usize,
     b_from: usize,
@@ -77,8 +77,8 @@ fn co_sited(
 
 // How many pairs two strips have.
 pub fn count_pairs(
-    a: SiteColumns<'_>,
-    b: SiteColumns<'_>,
+    a: Spots<'_>,
+    b: Spots<'_>,
     a_from: usize,
     a_to: usize,
     b_from: usize,

@@ -14,7 +14,7 @@ ghost use Rattle.sweep.specs.Internal.{state_of};
 
 pub use count::count_pairs;
 use entry::Queue;
-use site::SiteColumns;
+use site::Spots;
 
 // How many looks a sweep made.
 #[derive(Clone, Copy)]
@@ -83,8 +83,8 @@ fn answer(tally: Tally, distance: &mut [u64], first: &mut [u32], second: &mut [u
 // The sweep named.
 pub fn run(
     way: Way,
-    a: SiteColumns<'_>,
-    b: SiteColumns<'_>,
+    a: Spots<'_>,
+    b: Spots<'_>,
     a_from: usize,
     a_to: usize,
     b_from: usize,

@@ -40,7 +40,8 @@ pub(super) fn scan_right(
 }
 
 // A reference against the other list's sites already taken, latest first, down to the left limit. The place where the
-// scan ends is the new left limit: it stops at the site in front of that place, which is never looked at again.
+// scan ends, which the loop yields by `break`, is the new left limit: it stops at the site in front of that place, which is
+// never looked at again.
 pub(super) fn scan_left(
     reference: Reference,
     xs: &[i32],
@@ -60,15 +61,30 @@ pub(super) fn scan_left(
         let scanned = scan apart k (map (look_from reference) run) (state_of old l.entry) in
         Tallied k l.entry old.queue.count scanned.state l.exit result × (result.at + scanned.passed ≡ taken) }
 {
+    let mut at = taken;
     let mut tally = old;
-    for at in (limit..taken).rev() {
-        let l = look::look(reference, xs, ys, hs, at, k, tally, distance, first, second);
+    let stop = loop {
+        if at == limit {
+            break at;
+        }
+        let l = look::look(
+            reference,
+            xs,
+            ys,
+            hs,
+            at - 1,
+            k,
+            tally,
+            distance,
+            first,
+            second,
+        );
         tally = l.tally;
         if l.stopped {
-            tally.at = at + 1;
-            return tally;
+            break at;
         }
-    }
-    tally.at = limit;
+        at -= 1;
+    };
+    tally.at = stop;
     tally
 }

@@ -8,7 +8,7 @@ ghost use Rattle.sweep.specs.Terms.{rightward, SweepAsked};
 ghost use Rattle.sweep.specs.Internal.{reference_at, first_next, Tallied};
 
 use super::{Reference, Tally, scan};
-use site::SiteColumns;
+use site::Spots;
 
 // The site at a place of its columns as a reference.
 fn reference_at(xs: &[i32], ys: &[i32], hs: &[i32], i: usize, swapped: bool) -> Reference
@@ -82,8 +82,8 @@ pub(super) fn classic(
 
 // References in ascending x, each against the other list's sites already taken, latest first, down to its left limit.
 pub(super) fn reverse_run(
-    a: SiteColumns<'_>,
-    b: SiteColumns<'_>,
+    a: Spots<'_>,
+    b: Spots<'_>,
     a_from: usize,
     a_to: usize,
     b_from: usize,

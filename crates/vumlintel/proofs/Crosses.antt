@@ -1,5 +1,5 @@
 -- An answer crosses: in its values, or in its number and what was there before.
-use mathlib.Core.Path.{◌≡◌, refl, ap}
+use mathlib.Core.Path.{◌≡◌, refl, ap, ◌∙◌}
 use Prim.Native.Nat.{ℕ}
 use lib.IntN.{ℤ}
 use mir.Syntax.{w32}
@@ -50,14 +50,34 @@ crossed_change {answer = answered values} told {d = d} call crossed =
     let there = rw call.0 at (crossed d) in
     record { number = there.number; values = there.values }
 
+-- An answer with its values made into others.
+unfoldable pub over : {A B : Type 0} → (A → B) → Answer A → Answer B
+over f (refused n) = refused n
+over f (answered values) = answered (f values)
+
 -- A value crosses beside what is lent with it: what the call left, or, where it is refused, what was lent.
+pub crossed_over : {A B : Type 0} {answer : Answer A} {n : ℕ} {k k' : B} (told : Answer B) {before after : B → A}
+    → over after told ≡ answer
+    → ((m : ℕ) → refused m ≡ answer → after ≡ before)
+    → Crosses told n (record { entry = k; exit = k' })
+    → Crosses answer n (record { entry = before k; exit = after k' })
+unfolding over number_of afterwards
+crossed_over (answered value) {after = after} call leaves crossed =
+    rw crossed.number (crossed_values call (ap after crossed.values))
+crossed_over (refused m) call leaves crossed =
+    rw crossed.number (crossed_refusal call (λ i. leaves m call i (crossed.values i)))
+
+result_over : {A B : Type 0} (after : B → A) (told : Result B Refusal)
+    → over after (answer_of (λ value. value) told) ≡ answer_of after told
+unfolding over answer_of
+result_over after (Ok value) = refl
+result_over after (Err refusal) = refl
+
+-- So the value of a result.
 pub crossed_value : {A B : Type 0} {answer : Answer A} {n : ℕ} {k k' : B} (told : Result B Refusal) {before after : B → A}
     → answer_of after told ≡ answer
     → ((m : ℕ) → refused m ≡ answer → after ≡ before)
     → Crosses (answer_of (λ value. value) told) n (record { entry = k; exit = k' })
     → Crosses answer n (record { entry = before k; exit = after k' })
-unfolding answer_of number_of afterwards
-crossed_value (Ok value) {after = after} call leaves crossed =
-    rw crossed.number (crossed_values call (ap after crossed.values))
-crossed_value (Err refusal) call leaves crossed =
-    rw crossed.number (crossed_refusal call (λ i. leaves (number refusal) call i (crossed.values i)))
+crossed_value told {after = after} call leaves crossed =
+    crossed_over (answer_of (λ value. value) told) (result_over after told ∙ call) leaves crossed

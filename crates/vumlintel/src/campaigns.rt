@@ -400,6 +400,7 @@ fn job(
     );
     match answer {
         Ok(done) => {
+            put_outcome(done.outcome, swept, looks, distances, range_pairs);
             put(
                 done.grid,
                 first_strips,
@@ -412,7 +413,6 @@ fn job(
                 k2,
                 entries2,
             );
-            put_outcome(done.outcome, swept, looks, distances, range_pairs);
             0
         }
         Err(refused) => refused.number(),
@@ -691,6 +691,8 @@ pub extern "C" fn vumlintel_jobs(
     );
     match answer {
         Ok(ended) => {
+            *skipped = ended.sums.skipped;
+            put_counters(ended.sums.counters, looks, distances, range_pairs);
             put(
                 ended.grid,
                 first_strips,
@@ -703,8 +705,6 @@ pub extern "C" fn vumlintel_jobs(
                 k2,
                 entries2,
             );
-            *skipped = ended.sums.skipped;
-            put_counters(ended.sums.counters, looks, distances, range_pairs);
             0
         }
         Err(told) => told.number(),

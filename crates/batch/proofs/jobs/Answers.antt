@@ -20,9 +20,9 @@ work-requires c =
     let ok : batch_refusal s.customer s.g a b r l ≡ 0 = sym c.in_ok-refusal.ensures in
     let lists = (batch_sound s.customer s.g a b r l ok).lists in
     record {
-      both_lists = (accepted_columns _ _ _ _ lists.0, accepted_columns _ _ _ _ lists.1);
+      both_lists = rw (c.spots-p.ensures, c.spots-q.ensures) (accepted_columns _ _ _ _ lists.0, accepted_columns _ _ _ _ lists.1);
       equal_columns = batch_equal s.customer s.g a b r l ok;
-      rows_asked = batch_asked s.customer s.g a b r l ok;
+      rows_asked = rw (c.spots-p.ensures, c.spots-q.ensures) (batch_asked s.customer s.g a b r l ok);
     }
 
 pub returns : goal.returns
@@ -35,4 +35,4 @@ returns c =
     let l = batch_of s.job_first.now s.job_second.now s.job_way.now in
     let ok : batch_refusal s.customer s.g a b r l ≡ 0 = sym c.in_ok-refusal.ensures in
     let level = batch_levels s.customer s.g a b r l ok in
-    batch_worked s.customer s.g a b r l ok _ _ (c.work.ensures.numbered _ _ level.0 level.1)
+    batch_worked s.customer s.g a b r l ok _ _ ((rw (c.spots-p.ensures, c.spots-q.ensures) at c.work.ensures).numbered _ _ level.0 level.1)

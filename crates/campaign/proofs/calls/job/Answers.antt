@@ -14,7 +14,7 @@ unfolding refusal_of
 work-requires c =
     let s = c.args in
     let w = work_asked _ _ _ _ _ _ _ _ _ _ (results s.distance.now s.first.now s.second.now) _ _ (sym c.in_ok-refusal.ensures) in
-    record { both_lists = w.0; job_asked = w.1.0; ready_for = w.1.1 }
+    record { both_lists = rw (c.spots-p.ensures, c.spots-q.ensures) w.0; job_asked = rw (c.spots-p.ensures, c.spots-q.ensures) w.1.0; ready_for = w.1.1 }
 
 pub returns : goal.returns
 unfolding refusal_of
@@ -25,4 +25,4 @@ returns c =
     let r = results s.distance.now s.first.now s.second.now in
     let ok : job_refusal s.customer s.g a b r (job_of s.s s.t) ≡ 0 = sym c.in_ok-refusal.ensures in
     let level = job_levels s.customer s.g a b r s.s s.t ok in
-    job_worked s.way s.customer s.g a b r (job_of s.s s.t) ok _ _ (c.work.ensures.numbered _ _ level.0 level.1)
+    job_worked s.way s.customer s.g a b r (job_of s.s s.t) ok _ _ ((rw (c.spots-p.ensures, c.spots-q.ensures) at c.work.ensures).numbered _ _ level.0 level.1)

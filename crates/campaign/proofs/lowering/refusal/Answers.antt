@@ -8,12 +8,12 @@ use Rattle.campaign.proofs.lowering.refusal.Goals as goal
 
 pub keeper_refusal-requires : goal.keeper_refusal-requires
 unfolding refusal_of
-keeper_refusal-requires c = caller_columns _ _ _ _ _ _ _ _ _ (sym c.in_ok-caller_refusal.ensures)
+keeper_refusal-requires c = rw (c.spots-p.ensures, c.spots-q.ensures) (caller_columns _ _ _ _ _ _ _ _ _ (sym c.in_ok-caller_refusal.ensures))
 
 pub returns : goal.returns
 unfolding lower_refusal or_else refusal_of
 returns c =
     let is = c.in_ok-caller_refusal.ensures in
     next_decides is refl
-    (caller_numbered _ _ _ _ _ _ _ _ _ (sym is) c.keeper_refusal.ensures
+    (caller_numbered _ _ _ _ _ _ _ _ _ (sym is) (rw (c.spots-p.ensures, c.spots-q.ensures) at c.keeper_refusal.ensures)
     ∙ simp (← c.campaign_as-c.ensures, sym c.k_up_to.ensures ∙ c.if-not-k_up_to.false))

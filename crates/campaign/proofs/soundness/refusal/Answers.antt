@@ -8,10 +8,10 @@ use Rattle.campaign.proofs.soundness.refusal.Goals as goal
 
 pub keeper_refusal-requires : goal.keeper_refusal-requires
 unfolding refusal_of
-keeper_refusal-requires c = caller_columns _ _ _ _ _ _ _ _ _ (sym c.in_ok-caller_refusal.ensures)
+keeper_refusal-requires c = rw (c.spots-p.ensures, c.spots-q.ensures) (caller_columns _ _ _ _ _ _ _ _ _ (sym c.in_ok-caller_refusal.ensures))
 
 pub returns : goal.returns
 unfolding campaign_refusal refusal_of
 returns c =
     let is = c.in_ok-caller_refusal.ensures in
-    next_decides is refl (caller_numbered _ _ _ _ _ _ _ _ _ (sym is) c.keeper_refusal.ensures)
+    next_decides is refl (caller_numbered _ _ _ _ _ _ _ _ _ (sym is) (rw (c.spots-p.ensures, c.spots-q.ensures) at c.keeper_refusal.ensures))

@@ -11,8 +11,8 @@ returns-in_err-k_list_refusal c = rw (passed_on c.from_residual.ensures) (k_refu
 
 pub run-joined-requires : goal.run-joined-requires
 unfolding refusal_of
-run-joined-requires c = join_asks _ _ _ _ _ _ _ _ _ _ (sym c.in_ok-k_list_refusal.ensures)
+run-joined-requires c = rw (c.spots-p.ensures, c.spots-q.ensures) (join_asks _ _ _ _ _ _ _ _ _ _ (sym c.in_ok-k_list_refusal.ensures))
 
 pub returns : goal.returns
 unfolding refusal_of
-returns c = joined_is _ _ _ _ _ _ _ _ _ _ (sym c.in_ok-k_list_refusal.ensures) _ c.run-joined.ensures
+returns c = joined_is _ _ _ _ _ _ _ _ _ _ (sym c.in_ok-k_list_refusal.ensures) _ (rw (c.spots-p.ensures, c.spots-q.ensures) at c.run-joined.ensures)

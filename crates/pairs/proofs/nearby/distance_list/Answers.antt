@@ -14,8 +14,8 @@ pub write_all-count-requires : goal.write_all-count-requires
 unfolding refusal_of
 write_all-count-requires c =
     let l = accepted _ _ _ _ _ _ _ _ _ _ _ (sym c.in_ok-distance_refusal.ensures) in
-    record { coordinates = l.0; coordinates_2 = l.1.0; room = l.1.1 }
+    record { coordinates = rw c.spots-p.ensures l.0; coordinates_2 = rw c.spots-q.ensures l.1.0; room = rw (c.spots-p.ensures, c.spots-q.ensures) l.1.1 }
 
 pub returns : goal.returns
 unfolding refusal_of
-returns c = answered_is _ _ _ _ _ _ _ _ _ _ _ (sym c.in_ok-distance_refusal.ensures) c.write_all-count.ensures
+returns c = answered_is _ _ _ _ _ _ _ _ _ _ _ (sym c.in_ok-distance_refusal.ensures) (rw (c.spots-p.ensures, c.spots-q.ensures) at c.write_all-count.ensures)

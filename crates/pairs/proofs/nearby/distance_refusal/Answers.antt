@@ -14,16 +14,16 @@ pub count_all-count-requires : goal.count_all-count-requires
 unfolding refusal_of
 count_all-count-requires c =
     let l = both_lawful _ _ _ _ _ _ _ _ (sym c.in_ok-lists_refusal.ensures) in
-    record { coordinates = l.0; coordinates_2 = l.1 }
+    record { coordinates = rw c.spots-p.ensures l.0; coordinates_2 = rw c.spots-q.ensures l.1 }
 
 pub returns-then-min-count : goal.returns-then-min-count
 unfolding refusal_of number
 returns-then-min-count c =
-    too_short _ _ _ _ _ _ _ _ _ _ _ (sym c.in_ok-lists_refusal.ensures) c.count_all-count.ensures
+    too_short _ _ _ _ _ _ _ _ _ _ _ (sym c.in_ok-lists_refusal.ensures) (rw (c.spots-p.ensures, c.spots-q.ensures) at c.count_all-count.ensures)
     (omega arith)
 
 pub returns : goal.returns
 unfolding refusal_of
 returns c =
-    room _ _ _ _ _ _ _ _ _ _ _ (sym c.in_ok-lists_refusal.ensures) c.count_all-count.ensures
+    room _ _ _ _ _ _ _ _ _ _ _ (sym c.in_ok-lists_refusal.ensures) (rw (c.spots-p.ensures, c.spots-q.ensures) at c.count_all-count.ensures)
     (omega arith)
