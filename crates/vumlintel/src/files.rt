@@ -24,7 +24,8 @@ pub extern "C" fn vumlintel_write_file(
         let b = (lent_plane bx by bn).entry in
         Crosses (write_answer a b buffer.old) result (the write_values of_mut buffer of_mut length) }
 {
-    cross(site_file::write(ax, ay, an, bx, by, bn, buffer), length)
+    let answer = site_file::write(ax, ay, an, bx, by, bn, buffer);
+    cross(answer, length)
 }
 
 // Reading a site file: both site counts.

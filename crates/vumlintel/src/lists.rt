@@ -40,7 +40,8 @@ pub extern "C" fn vumlintel_check(
 ) -> u32
     ensures { Crosses (check_answer (lent_list x y number height).entry) result (the (λ n. n) of_mut count) }
 {
-    cross(site::check(list(x, y, number, height)), count)
+    let answer = site::check(list(x, y, number, height));
+    cross(answer, count)
 }
 
 // What adding or removing a site answers beside the columns, across the boundary.

@@ -221,7 +221,8 @@ pub extern "C" fn vumlintel_distance_list(
 {
     let a = list(ax, ay, an, ah);
     let b = list(bx, by, bn, bh);
-    cross(pairs::distance_list(a, b, e, first, second), count)
+    let answer = pairs::distance_list(a, b, e, first, second);
+    cross(answer, count)
 }
 
 // The forecast of a distance list's size: the number of pairs no further apart than `e` in x, and each place's own.
@@ -245,5 +246,6 @@ pub extern "C" fn vumlintel_forecast(
 {
     let a = list(ax, ay, an, ah);
     let b = list(bx, by, bn, bh);
-    cross(pairs::forecast(a, b, e, partners), total)
+    let answer = pairs::forecast(a, b, e, partners);
+    cross(answer, total)
 }

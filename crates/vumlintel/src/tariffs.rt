@@ -20,7 +20,8 @@ pub extern "C" fn vumlintel_edit_band(
     ensures { let answer = edit_answer bands.old place (band from to price) in
         Crosses answer result (the edit_values of_mut bands of_mut edited) }
 {
-    cross(bands::edit(bands, place, Band { from, to, price }), edited)
+    let answer = bands::edit(bands, place, Band { from, to, price });
+    cross(answer, edited)
 }
 
 // Pricing a case list by a table of bands: each entry's price, and the total.
@@ -35,5 +36,6 @@ pub extern "C" fn vumlintel_price(
     ensures { let answer = price_answer bands.now distance.now entries prices.old in
         Crosses answer result (the price_values of_mut prices of_mut total) }
 {
-    cross(bands::price(bands, distance, entries, prices), total)
+    let answer = bands::price(bands, distance, entries, prices);
+    cross(answer, total)
 }

@@ -6,5 +6,5 @@ use Rattle.vumlintel.proofs.files.vumlintel_write_file.Goals as goal
 
 pub returns : goal.returns
 returns c =
-    let call = c.write.ensures in
+    let call = c.write-answer.ensures in
     crossed_value _ call.0 (λ n told. ap write_values (refusal_leaves _ told call.1)) c.cross.ensures

@@ -2,4 +2,4 @@
 use Rattle.vumlintel.proofs.lists.vumlintel_check.Goals as goal
 
 pub returns : goal.returns
-returns c = rw (c.list.ensures) at (rw c.check.ensures at c.cross.ensures)
+returns c = rw (c.list.ensures) at (rw c.check-answer.ensures at c.cross.ensures)

@@ -6,6 +6,6 @@ use Rattle.vumlintel.proofs.pair_lists.vumlintel_distance_list.Goals as goal
 
 pub returns : goal.returns
 returns c =
-    let call = rw (c.list-a.ensures, c.list-b.ensures) at c.distance_list.ensures in
+    let call = rw (c.list-a.ensures, c.list-b.ensures) at c.distance_list-answer.ensures in
     crossed_value _ call.0 (λ n told. ap₂ distance_values (refusal_leaves _ told call.1.0) (refusal_leaves _ told call.1.1))
     c.cross.ensures

@@ -6,5 +6,5 @@ use Rattle.vumlintel.proofs.pair_lists.vumlintel_forecast.Goals as goal
 
 pub returns : goal.returns
 returns c =
-    let call = rw (c.list-a.ensures, c.list-b.ensures) at c.forecast.ensures in
+    let call = rw (c.list-a.ensures, c.list-b.ensures) at c.forecast-answer.ensures in
     crossed_value _ call.0 (λ n told. ap forecast_values (refusal_leaves _ told call.1)) c.cross.ensures

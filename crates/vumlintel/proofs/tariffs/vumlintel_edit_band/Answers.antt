@@ -6,5 +6,5 @@ use Rattle.vumlintel.proofs.tariffs.vumlintel_edit_band.Goals as goal
 
 pub returns : goal.returns
 returns c =
-    let call = c.edit.ensures in
+    let call = c.edit-answer.ensures in
     crossed_value _ call.0 (λ n told. ap edit_values (refusal_leaves _ told call.1)) c.cross.ensures

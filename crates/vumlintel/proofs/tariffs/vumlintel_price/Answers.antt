@@ -6,5 +6,5 @@ use Rattle.vumlintel.proofs.tariffs.vumlintel_price.Goals as goal
 
 pub returns : goal.returns
 returns c =
-    let call = c.price.ensures in
+    let call = c.price-answer.ensures in
     crossed_value _ call.0 (λ n told. ap price_values (refusal_leaves _ told call.1)) c.cross.ensures
