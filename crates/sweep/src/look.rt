@@ -1,10 +1,11 @@
 // One look of a reference at a site of the other list.
-ghost use Rattle.std.specs.Prelude.{◌≡◌, ◌<◌, pos, length, get_or, true};
+ghost use Rattle.std.specs.Prelude.{◌≡◌, ◌<◌, ◌^◌, cond, pos, length, get_or, true};
 ghost use Rattle.site.specs.Site.{within, gap, square, squared_distance};
 ghost use Rattle.site.specs.SiteList.{site, raised_site};
 ghost use Rattle.site.specs.Terms.{position_at, Coordinates};
 ghost use Rattle.entry.specs.Entry.{entry};
 ghost use Rattle.entry.specs.Results.{results, lent_results};
+ghost use Rattle.entry.specs.Terms.{Queueing, Offered};
 ghost use Rattle.sweep.specs.Terms.{spot};
 ghost use Rattle.sweep.specs.Internal.{look_from, gone_on, LawfulLook, LookAsked, LookDone};
 
@@ -57,6 +58,33 @@ fn pair(distance: u64, first: u32, second: u32) -> Entry
     }
 }
 
+// The list under way after a reference and the site at a place of the other list were offered to it as a pair. `offer` is
+// called for each side of the pair, so that it is compiled apart from the scan's loop. It is called here, not in `look`,
+// since the function that calls it clears the room for its answer where it begins: `look` did so at each site of a scan.
+fn offered(
+    reference: Reference,
+    squared: u64,
+    i: usize,
+    k: usize,
+    old: Queue,
+    distance: &mut [u64],
+    first: &mut [u32],
+    second: &mut [u32],
+) -> Queue
+    requires { Queueing k old (results distance.old first.old second.old) × (i < 2 ^ 32) }
+    ensures { let l = lent_results distance first second in
+        let e = cond reference.swapped (entry squared i reference.place) (entry squared reference.place i) in
+        Offered k e old l.entry l.exit result }
+{
+    let other = i as u32;
+    if reference.swapped {
+        let e = pair(squared, other, reference.place);
+        return entry::offer(distance, first, second, k, old, e);
+    }
+    let e = pair(squared, reference.place, other);
+    entry::offer(distance, first, second, k, old, e)
+}
+
 // A look that goes on, with the list under way as an offer left it, taken number by number: as one block it would stay
 // in memory through the scan's loop.
 fn gone_on(old: Tally, queue: Queue) -> Looked
@@ -77,8 +105,7 @@ fn gone_on(old: Tally, queue: Queue) -> Looked
 
 // A look from a reference at the site of a place of the other list. It stops the scan where the x-difference squared is
 // past the reach; otherwise the distance is worked out, and the pair takes its place by rank, where it can still enter and
-// is no pair of co-sited cells. Where the distance in the plane is past the reach, the height is not read. `offer` is called
-// for each side of the pair, so that it is compiled apart from the scan's loop.
+// is no pair of co-sited cells. Where the distance in the plane is past the reach, the height is not read.
 pub(super) fn look(
     reference: Reference,
     xs: &[i32],
@@ -118,13 +145,15 @@ pub(super) fn look(
             tally,
         };
     }
-    let other = i as u32;
-    if reference.swapped {
-        let e = pair(squared, other, reference.place);
-        let next = entry::offer(distance, first, second, k, tally.queue, e);
-        return gone_on(tally, next);
-    }
-    let e = pair(squared, reference.place, other);
-    let next = entry::offer(distance, first, second, k, tally.queue, e);
+    let next = offered(
+        reference,
+        squared,
+        i,
+        k,
+        tally.queue,
+        distance,
+        first,
+        second,
+    );
     gone_on(tally, next)
 }

@@ -19,14 +19,8 @@ returns-then-tally-squared c =
           look_leaves c.requires c.squared_gap_at.ensures c.squared_distance_at-squared.ensures c.if-tally-squared_gap_at.false w.if-squared-eq0.true
     ]
 
-pub returns-then-reference : goal.returns-then-reference
-returns-then-reference c =
-    rw c.gone_on.ensures
-    (look_offers c.requires c.squared_gap_at.ensures c.squared_distance_at-squared.ensures c.if-tally-squared_gap_at.false
-    c.if-squared-eq0.false (rw c.if-reference.true c.pair-e.ensures) c.offer-next.ensures)
-
 pub returns : goal.returns
 returns c =
-    rw c.gone_on-2.ensures
+    rw c.gone_on.ensures
     (look_offers c.requires c.squared_gap_at.ensures c.squared_distance_at-squared.ensures c.if-tally-squared_gap_at.false
-    c.if-squared-eq0.false (rw c.if-reference.false c.pair-e-2.ensures) c.offer-next-2.ensures)
+    c.if-squared-eq0.false refl c.offered-next.ensures)
